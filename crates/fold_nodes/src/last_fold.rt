@@ -1,10 +1,11 @@
 //! The children's values from which a fold was last computed.
-ghost use Rattle.std.specs.Prelude.{◌≡◌, ◌≤◌, ◌↔◌, false, length, Some, None, IsOk, OnOk, OnErr, IsTrue, option_copied};
-ghost use Rattle.map_nodes.specs.Kept.{IsStale, HasNoText, KeepsAsMany};
+ghost use Rattle.std.specs.Prelude.{◌≡◌, ◌↔◌, false, Some, None, IsTrue, option_copied};
+ghost use Rattle.map_nodes.specs.Kept.{IsStale};
 
 use inc_value::Value;
 use map_nodes::LastArgs;
-use std::alloc::{AllocError, Global};
+use smallvec::SmallVec;
+use std::alloc::Global;
 use std::marker::Model;
 
 /// The values of a fold's children when it was last computed, if it was.
@@ -39,15 +40,11 @@ impl LastFold {
         }
     }
 
-    /// Keeps the children's values in place of those before. Without memory what was kept stays.
-    pub fn keep(&mut self, kids: &[Value]) -> Result<(), AllocError>
-        ensures kept { OnOk result (self.new ≡ Some kids.now) }
-        ensures err { OnErr result (self.new ≡ self.old) }
-        ensures equal { self.old ≡ Some kids.now → IsOk result }
-        ensures short { length kids.now ≤ 2 → HasNoText kids.now → IsOk result }
-        ensures as_many { KeepsAsMany self.old kids.now → HasNoText kids.now → IsOk result }
+    /// Keeps the children's values in place of those before. This takes no memory.
+    pub fn keep(&mut self, kids: SmallVec<Value, 2>)
+        ensures { self.new ≡ Some kids.items }
     {
-        self.kids.keep(kids)
+        self.kids.keep(kids);
     }
 
     /// The values that are kept, if some are.

@@ -1,11 +1,11 @@
 //! The values on which a function was last called.
-ghost use Rattle.std.specs.Prelude.{◌≡◌, ◌≤◌, ◌↔◌, false, length, Some, None, IfOk, IsOk, OnOk, OnErr, IsTrue, option_copied};
-ghost use Rattle.map_nodes.specs.Kept.{IsStale, HasNoText, KeepsAsMany};
+ghost use Rattle.std.specs.Prelude.{◌≡◌, ◌↔◌, false, Some, None, IsTrue, option_copied};
+ghost use Rattle.map_nodes.specs.Kept.{IsStale};
 
-use crate::kept::{apply, are_kept, changes, copied, have_no_text, overwrite};
+use crate::kept::are_kept;
 use inc_value::Value;
 use smallvec::SmallVec;
-use std::alloc::{AllocError, Global};
+use std::alloc::Global;
 use std::marker::Model;
 
 /// The values on which a function was last called, if it was called. Two values that are no texts take no memory of
@@ -44,27 +44,12 @@ impl LastArgs {
         }
     }
 
-    /// Keeps the values in place of those before. Without memory what was kept stays.
-    pub fn keep(&mut self, args: &[Value]) -> Result<(), AllocError>
-        ensures kept { OnOk result (self.new ≡ Some args.now) }
-        ensures err { OnErr result (self.new ≡ self.old) }
-        ensures equal { self.old ≡ Some args.now → IsOk result }
-        ensures short { length args.now ≤ 2 → HasNoText args.now → IsOk result }
-        ensures as_many { KeepsAsMany self.old args.now → HasNoText args.now → IsOk result }
+    /// Keeps the values in place of those before. This takes no memory.
+    pub fn keep(&mut self, args: SmallVec<Value, 2>)
+        ensures { self.new ≡ Some args.items }
     {
-        if !self.any || self.args.len() != args.len() {
-            self.args = copied(*self.args.allocator(), args)?;
-            self.any = true;
-            return Ok(());
-        }
-        let alloc = *self.args.allocator();
-        if have_no_text(args) {
-            overwrite(alloc, self.args.as_mut_slice(), args);
-        } else {
-            let changes = changes(alloc, self.args.as_slice(), args)?;
-            apply(self.args.as_mut_slice(), changes);
-        }
-        Ok(())
+        self.args = args;
+        self.any = true;
     }
 
     /// The values that are kept, if some are.

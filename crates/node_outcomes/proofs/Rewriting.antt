@@ -1,10 +1,9 @@
 -- A row that is written through a reference is changed, and all others stay.
-use Rattle.std.proofs.Common.{◌≡◌, inl, inr, Option, Some, sym, ap, subst, ◌∙◌}
+use Rattle.std.proofs.Common.{◌≡◌, Option, Some, sym, ap, subst, ◌∙◌}
 use Rattle.std.specs.Prelude.{option_map}
 use Rattle.inc_value.specs.declared.node.Point.{Point}
 use Rattle.point_map.specs.Lends.{IsWritten}
-use Rattle.point_map.specs.Rows.{Rows, at, KeepsRows}
-use Rattle.stabilize_round.proofs.Points.{same_or_other}
+use Rattle.point_map.specs.Rows.{Rows, at}
 use Rattle.stabilize_round.specs.State.{Call}
 use Rattle.node_outcomes.specs.Row.{IsRewritten, with_call, with_last}
 use Rattle.node_outcomes.specs.declared.row.Progress.{Progress}
@@ -21,11 +20,3 @@ rewritten old new p change k was w = record {
 pub call_written : (old new : Rows Progress) (p : Point) (k : Progress) (c : Call) (last : Option Call) → at old p ≡ Some k
     → IsWritten old new p (with_last last k) → last ≡ Some c → IsRewritten old new p (with_call c)
 call_written old new p k c last was w is = rewritten old new p (with_call c) k was (subst (λ x. IsWritten old new p (with_last x k)) is w)
-
--- where the last call stays, all rows do
-pub call_stays : (old new : Rows Progress) (p : Point) (k : Progress) (last : Option Call) → at old p ≡ Some k
-    → IsWritten old new p (with_last last k) → last ≡ k.last → KeepsRows old new
-call_stays old new p k last was w is a = elim (same_or_other p a) [
-  | inl e ↦ subst (λ (x : Point). at new x ≡ at old x) e (w.changes.changed ∙ ap (λ x. Some (with_last x k)) is ∙ sym was)
-  | inr ne ↦ w.changes.others a (λ h. ne (sym h))
-]

@@ -1,9 +1,10 @@
 -- What a node gives by what its children show, and what its function was called on.
-use Rattle.std.specs.Prelude.{◌≡◌, ◌||◌, ◌⊎◌, ◌++◌, ℕ, zero, suc, Bool, true, false, List, [], ◌∷◌}
+use Rattle.std.specs.Prelude.{◌≡◌, ◌≢◌, ◌||◌, ◌⊎◌, ◌++◌, ℕ, zero, suc, Bool, true, false, List, [], ◌∷◌}
 use Rattle.std.specs.Prelude.{Option, None, Some, IsSome, option_and_then, is_some, Result, Ok, Err}
 use Rattle.std.specs.List.{AllZip}
 use Rattle.inc_value.specs.Choice.{Every}
 use Rattle.inc_value.specs.declared.ty.Ty.{Ty}
+use Rattle.inc_value.specs.declared.ty.Ty.TheVariants as ty
 use Rattle.inc_value.specs.declared.function.FnRef.{FnRef}
 use Rattle.inc_value.specs.declared.node.NodeId.{NodeId}
 use Rattle.inc_value.specs.declared.node.Part.{Part}
@@ -201,6 +202,10 @@ LastWas rows n c = last_in rows n ≡ Some c
 -- the nodes all show a value
 abbrev pub AllShow : Rows Progress → List NodeId → Type 0
 AllShow rows nodes = Every (λ (m : NodeId). IsSome (value_shown rows m)) nodes
+
+-- no Text is among the values
+abbrev pub HasNoText : List Value → Type 0
+HasNoText = Every (λ v. type_of v ≢ ty.Text)
 
 -- a node's function was called on these values, so often: what the calls gave is kept, and the node listed where that is once at least
 pub record IsCalled (answer : List Value → Value) (t : Ty) (old new : Noted) (n : NodeId) (values : List Value) (o : Outcome) (cost : ℕ) : Type 0 where

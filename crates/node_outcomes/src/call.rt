@@ -6,18 +6,17 @@ ghost use Rattle.inc_terms.specs.Depend.{main};
 ghost use Rattle.inc_terms.specs.Evaluate.{folded};
 ghost use Rattle.point_map.specs.Rows.{Holds};
 ghost use Rattle.stabilize_round.specs.Counts.{RoseBy, RoseAtMost};
-ghost use Rattle.node_outcomes.specs.Computing.{AllShow, Calls, FoldFits, noted, value_shown};
+ghost use Rattle.node_outcomes.specs.Computing.{Calls, FoldFits, noted, value_shown};
 ghost use Rattle.node_outcomes.specs.Meaning.{KeepsFunctions, WantsFollow};
 
 use crate::row::{Progress, keep_fold, keep_map, main_point};
-use crate::sight::{value_of, values_shown};
+use crate::sight::values_shown;
 use inc_value::{FnKind, FnRef, NodeId, Outcome, Value};
 use node_arena::Functions;
 use point_map::PointMap;
 use std::alloc::{AllocError, Global};
 
-/// Calls a map's function on the values that its children show, and keeps the call. One or two children have their
-/// values in an array.
+/// Calls a map's function on the values that its children show, and keeps the call.
 pub(crate) fn call_map<F: Functions>(
     alloc: Global,
     rows: &mut PointMap<Progress>,
@@ -31,165 +30,42 @@ pub(crate) fn call_map<F: Functions>(
     requires sound { F.is_sound functions.old }
     requires known { IsTrue (F.known functions.old f.now) }
     requires kind { f.now.id.kind ≡ FnKind.Map }
-    requires shown { AllShow rows.old kids.now }
     requires fit { HaveTypes (filter_map (value_shown rows.old) kids.now) f.now.sig.takes }
     ensures called { Calls (F.value functions.old f.now) f.now.sig.gives
         (noted rows.old ran.old.items (F.calls functions.old)) (noted rows.new ran.new.items (F.calls functions.new))
         node (filter_map (value_shown rows.old) kids.now) 1 result }
-    ensures functions { KeepsFunctions F.Functions functions.old functions.new }
-    ensures wants { WantsFollow result (F.wants functions.old) (F.wants functions.new) }
-{
-    match kids {
-        [kid] => call_on_one(alloc, rows, ran, functions, node, f, *kid),
-        [first, second] => call_on_two(alloc, rows, ran, functions, node, f, *first, *second),
-        _ => call_on_all(alloc, rows, ran, functions, node, f, kids),
-    }
-}
-
-/// Calls a map's function on the value that its one child shows, and keeps the call.
-fn call_on_one<F: Functions>(
-    alloc: Global,
-    rows: &mut PointMap<Progress>,
-    ran: &mut Vec<NodeId>,
-    functions: &mut F,
-    node: NodeId,
-    f: &FnRef,
-    kid: NodeId,
-) -> Result<Outcome, AllocError>
-    requires there { Holds rows.old (main node) }
-    requires sound { F.is_sound functions.old }
-    requires known { IsTrue (F.known functions.old f.now) }
-    requires kind { f.now.id.kind ≡ FnKind.Map }
-    requires shown { AllShow rows.old (kid ∷ []) }
-    requires fit { HaveTypes (filter_map (value_shown rows.old) (kid ∷ [])) f.now.sig.takes }
-    ensures called { Calls (F.value functions.old f.now) f.now.sig.gives
-        (noted rows.old ran.old.items (F.calls functions.old)) (noted rows.new ran.new.items (F.calls functions.new))
-        node (filter_map (value_shown rows.old) (kid ∷ [])) 1 result }
-    ensures functions { KeepsFunctions F.Functions functions.old functions.new }
-    ensures wants { WantsFollow result (F.wants functions.old) (F.wants functions.new) }
-{
-    let arguments = match value_of(alloc, rows, kid) {
-        Ok(value) => [value],
-        Err(AllocError) => return Err(AllocError),
-    };
-    let outcome = call_on(alloc, rows, ran, functions, node, f, &arguments);
-    drop(arguments);
-    outcome
-}
-
-/// Calls a map's function on the values that its two children show, and keeps the call.
-fn call_on_two<F: Functions>(
-    alloc: Global,
-    rows: &mut PointMap<Progress>,
-    ran: &mut Vec<NodeId>,
-    functions: &mut F,
-    node: NodeId,
-    f: &FnRef,
-    first: NodeId,
-    second: NodeId,
-) -> Result<Outcome, AllocError>
-    requires there { Holds rows.old (main node) }
-    requires sound { F.is_sound functions.old }
-    requires known { IsTrue (F.known functions.old f.now) }
-    requires kind { f.now.id.kind ≡ FnKind.Map }
-    requires shown { AllShow rows.old (first ∷ second ∷ []) }
-    requires fit { HaveTypes (filter_map (value_shown rows.old) (first ∷ second ∷ [])) f.now.sig.takes }
-    ensures called { Calls (F.value functions.old f.now) f.now.sig.gives
-        (noted rows.old ran.old.items (F.calls functions.old)) (noted rows.new ran.new.items (F.calls functions.new))
-        node (filter_map (value_shown rows.old) (first ∷ second ∷ [])) 1 result }
-    ensures functions { KeepsFunctions F.Functions functions.old functions.new }
-    ensures wants { WantsFollow result (F.wants functions.old) (F.wants functions.new) }
-{
-    let one = match value_of(alloc, rows, first) {
-        Ok(value) => value,
-        Err(AllocError) => return Err(AllocError),
-    };
-    let arguments = match value_of(alloc, rows, second) {
-        Ok(value) => [one, value],
-        Err(AllocError) => {
-            drop(one);
-            return Err(AllocError);
-        }
-    };
-    let outcome = call_on(alloc, rows, ran, functions, node, f, &arguments);
-    drop(arguments);
-    outcome
-}
-
-/// Calls a map's function on the values that its children show, and keeps the call.
-fn call_on_all<F: Functions>(
-    alloc: Global,
-    rows: &mut PointMap<Progress>,
-    ran: &mut Vec<NodeId>,
-    functions: &mut F,
-    node: NodeId,
-    f: &FnRef,
-    kids: &[NodeId],
-) -> Result<Outcome, AllocError>
-    requires there { Holds rows.old (main node) }
-    requires sound { F.is_sound functions.old }
-    requires known { IsTrue (F.known functions.old f.now) }
-    requires kind { f.now.id.kind ≡ FnKind.Map }
-    requires fit { HaveTypes (filter_map (value_shown rows.old) kids.now) f.now.sig.takes }
-    ensures called { Calls (F.value functions.old f.now) f.now.sig.gives
-        (noted rows.old ran.old.items (F.calls functions.old)) (noted rows.new ran.new.items (F.calls functions.new))
-        node (filter_map (value_shown rows.old) kids.now) 1 result }
-    ensures functions { KeepsFunctions F.Functions functions.old functions.new }
-    ensures wants { WantsFollow result (F.wants functions.old) (F.wants functions.new) }
-{
-    let arguments = match values_shown(alloc, rows, kids) {
-        Ok(arguments) => arguments,
-        Err(AllocError) => return Err(AllocError),
-    };
-    let outcome = call_on(alloc, rows, ran, functions, node, f, &arguments);
-    drop(arguments);
-    outcome
-}
-
-/// Calls a map's function on values, and keeps the call.
-fn call_on<F: Functions>(
-    alloc: Global,
-    rows: &mut PointMap<Progress>,
-    ran: &mut Vec<NodeId>,
-    functions: &mut F,
-    node: NodeId,
-    f: &FnRef,
-    arguments: &[Value],
-) -> Result<Outcome, AllocError>
-    requires there { Holds rows.old (main node) }
-    requires sound { F.is_sound functions.old }
-    requires known { IsTrue (F.known functions.old f.now) }
-    requires kind { f.now.id.kind ≡ FnKind.Map }
-    requires fit { HaveTypes arguments.now f.now.sig.takes }
-    ensures called { Calls (F.value functions.old f.now) f.now.sig.gives
-        (noted rows.old ran.old.items (F.calls functions.old)) (noted rows.new ran.new.items (F.calls functions.new))
-        node arguments.now 1 result }
     ensures functions { KeepsFunctions F.Functions functions.old functions.new }
     ensures wants { WantsFollow result (F.wants functions.old) (F.wants functions.new) }
 {
     if ran.reserve(1).is_err() {
         return Err(AllocError);
     }
-    let value = match functions.apply(alloc, *f, arguments) {
-        Ok(value) => value,
+    let arguments = match values_shown(alloc, rows, kids) {
+        Ok(arguments) => arguments,
         Err(AllocError) => return Err(AllocError),
+    };
+    let value = match functions.apply(alloc, *f, arguments.as_slice()) {
+        Ok(value) => value,
+        Err(AllocError) => {
+            drop(arguments);
+            return Err(AllocError);
+        }
     };
     let copy = match value.copy(alloc) {
         Ok(copy) => copy,
         Err(AllocError) => {
+            drop(arguments);
             drop(value);
             return Err(AllocError);
         }
     };
-    if keep_map(alloc, rows, main_point(node), arguments, value).is_err() {
-        drop(copy);
-        return Err(AllocError);
-    }
+    keep_map(rows, main_point(node), arguments, value);
     ran.push_reserved(node);
     Ok(Outcome::Val(copy))
 }
 
-/// Folds the values that a fold's children show, and keeps these and the result.
+/// Folds the values that a fold's children show, and keeps these and the result. A fold of no values takes no call, and
+/// isn't listed.
 pub(crate) fn call_fold<F: Functions>(
     alloc: Global,
     rows: &mut PointMap<Progress>,
@@ -212,58 +88,32 @@ pub(crate) fn call_fold<F: Functions>(
     ensures functions { KeepsFunctions F.Functions functions.old functions.new }
     ensures wants { WantsFollow result (F.wants functions.old) (F.wants functions.new) }
 {
+    if ran.reserve(1).is_err() {
+        return Err(AllocError);
+    }
     let arguments = match values_shown(alloc, rows, kids) {
         Ok(arguments) => arguments,
         Err(AllocError) => return Err(AllocError),
     };
-    let outcome = fold_on(alloc, rows, ran, functions, node, f, initial, &arguments);
-    drop(arguments);
-    outcome
-}
-
-/// Folds values, and keeps these and the result. A fold of no values takes no call, and isn't listed.
-fn fold_on<F: Functions>(
-    alloc: Global,
-    rows: &mut PointMap<Progress>,
-    ran: &mut Vec<NodeId>,
-    functions: &mut F,
-    node: NodeId,
-    f: &FnRef,
-    initial: &Value,
-    arguments: &[Value],
-) -> Result<Outcome, AllocError>
-    requires there { Holds rows.old (main node) }
-    requires sound { F.is_sound functions.old }
-    requires known { IsTrue (F.known functions.old f.now) }
-    requires kind { f.now.id.kind ≡ FnKind.Map }
-    requires fit { FoldFits f.now initial.now arguments.now }
-    ensures called { Calls (folded (F.value functions.old f.now) initial.now) f.now.sig.gives
-        (noted rows.old ran.old.items (F.calls functions.old)) (noted rows.new ran.new.items (F.calls functions.new))
-        node arguments.now (length arguments.now) result }
-    ensures functions { KeepsFunctions F.Functions functions.old functions.new }
-    ensures wants { WantsFollow result (F.wants functions.old) (F.wants functions.new) }
-{
-    if ran.reserve(1).is_err() {
-        return Err(AllocError);
-    }
-    let value = match fold(alloc, functions, f, initial, arguments) {
+    let value = match fold(alloc, functions, f, initial, arguments.as_slice()) {
         Ok(value) => value,
-        Err(AllocError) => return Err(AllocError),
+        Err(AllocError) => {
+            drop(arguments);
+            return Err(AllocError);
+        }
     };
     let copy = match value.copy(alloc) {
         Ok(copy) => copy,
         Err(AllocError) => {
+            drop(arguments);
             drop(value);
             return Err(AllocError);
         }
     };
-    if keep_fold(alloc, rows, main_point(node), arguments, value).is_err() {
-        drop(copy);
-        return Err(AllocError);
-    }
     if !arguments.is_empty() {
         ran.push_reserved(node);
     }
+    keep_fold(rows, main_point(node), arguments, value);
     Ok(Outcome::Val(copy))
 }
 

@@ -1,10 +1,10 @@
 //! What a node's function was last called on, and what it gave.
-ghost use Rattle.std.specs.Prelude.{◌≡◌, None, Some, OnOk, OnErr};
+ghost use Rattle.std.specs.Prelude.{◌≡◌, None, Some};
 
 use fold_nodes::LastFold;
 use inc_value::Value;
 use map_nodes::LastArgs;
-use std::alloc::{AllocError, Global};
+use smallvec::SmallVec;
 use std::marker::Model;
 use std::mem;
 
@@ -82,59 +82,31 @@ impl LastCall {
         }
     }
 
-    /// Keeps a call of a map's function. Without memory what was kept stays.
-    pub(crate) fn keep_map(
-        &mut self,
-        alloc: Global,
-        arguments: &[Value],
-        value: Value,
-    ) -> Result<(), AllocError>
-        ensures kept { OnOk result (self.new ≡ Some (record { arguments = arguments.now; result = value })) }
-        ensures err { OnErr result (self.new ≡ self.old) }
+    /// Keeps a call of a map's function.
+    pub(crate) fn keep_map(&mut self, arguments: SmallVec<Value, 2>, value: Value)
+        ensures { self.new ≡ Some (record { arguments = arguments.items; result = value }) }
     {
         if let Kept::Map(kept, given) = &mut self.kept {
-            if kept.keep(arguments).is_err() {
-                drop(value);
-                return Err(AllocError);
-            }
+            kept.keep(arguments);
             drop(mem::replace(given, value));
-            return Ok(());
+            return;
         }
-        let mut kept = LastArgs::new(alloc);
-        if kept.keep(arguments).is_err() {
-            drop(kept);
-            drop(value);
-            return Err(AllocError);
-        }
+        let mut kept = LastArgs::new(*arguments.allocator());
+        kept.keep(arguments);
         drop(mem::replace(&mut self.kept, Kept::Map(kept, value)));
-        Ok(())
     }
 
-    /// Keeps the calls of a fold's function. Without memory what was kept stays.
-    pub(crate) fn keep_fold(
-        &mut self,
-        alloc: Global,
-        kids: &[Value],
-        value: Value,
-    ) -> Result<(), AllocError>
-        ensures kept { OnOk result (self.new ≡ Some (record { arguments = kids.now; result = value })) }
-        ensures err { OnErr result (self.new ≡ self.old) }
+    /// Keeps the calls of a fold's function.
+    pub(crate) fn keep_fold(&mut self, kids: SmallVec<Value, 2>, value: Value)
+        ensures { self.new ≡ Some (record { arguments = kids.items; result = value }) }
     {
         if let Kept::Fold(kept, given) = &mut self.kept {
-            if kept.keep(kids).is_err() {
-                drop(value);
-                return Err(AllocError);
-            }
+            kept.keep(kids);
             drop(mem::replace(given, value));
-            return Ok(());
+            return;
         }
-        let mut kept = LastFold::new(alloc);
-        if kept.keep(kids).is_err() {
-            drop(kept);
-            drop(value);
-            return Err(AllocError);
-        }
+        let mut kept = LastFold::new(*kids.allocator());
+        kept.keep(kids);
         drop(mem::replace(&mut self.kept, Kept::Fold(kept, value)));
-        Ok(())
     }
 }

@@ -1,6 +1,6 @@
 //! How far a point has come.
-ghost use Rattle.std.specs.Prelude.{◌≡◌, ◌↔◌, None, Some, IsTrue, OnOk, OnErr};
-ghost use Rattle.point_map.specs.Rows.{at, Holds, KeepsRows};
+ghost use Rattle.std.specs.Prelude.{◌≡◌, ◌↔◌, None, Some, IsTrue};
+ghost use Rattle.point_map.specs.Rows.{at, Holds};
 ghost use Rattle.inc_value.specs.declared.node.Part.TheVariants.{Change, Main};
 ghost use Rattle.node_outcomes.specs.declared.row.Progress.{Progress as Row};
 ghost use Rattle.node_outcomes.specs.Row.{with_stage, with_outcome, without_outcome, with_call, with_cutoff, stage_in, settled_in, IsRewritten, IsStopped};
@@ -9,7 +9,7 @@ use crate::last_call::LastCall;
 use inc_value::{NodeId, Outcome, Part, Point, Value};
 use map_nodes::{Cutoff, stops};
 use point_map::PointMap;
-use std::alloc::{AllocError, Global};
+use smallvec::SmallVec;
 
 /// Which links a needed point has.
 #[derive(Clone, Copy, PartialEq, Eq)]
@@ -180,38 +180,32 @@ pub fn forget_outcome(rows: &mut PointMap<Progress>, p: Point)
     row.outcome = None;
 }
 
-/// Keeps the last call of a map's function. Without memory all rows stay.
+/// Keeps the last call of a map's function.
 pub(crate) fn keep_map(
-    alloc: Global,
     rows: &mut PointMap<Progress>,
     p: Point,
-    arguments: &[Value],
+    arguments: SmallVec<Value, 2>,
     value: Value,
-) -> Result<(), AllocError>
+)
     requires there { Holds rows.old p }
-    ensures kept { OnOk result (IsRewritten rows.old rows.new p
-        (with_call (record { arguments = arguments.now; result = value }))) }
-    ensures err { OnErr result (KeepsRows rows.old rows.new) }
+    ensures { IsRewritten rows.old rows.new p (with_call (record { arguments = arguments.items; result = value })) }
 {
     let row = rows.get_mut(p).unwrap();
-    row.last.keep_map(alloc, arguments, value)
+    row.last.keep_map(arguments, value);
 }
 
-/// Keeps the last calls of a fold's function. Without memory all rows stay.
+/// Keeps the last calls of a fold's function.
 pub(crate) fn keep_fold(
-    alloc: Global,
     rows: &mut PointMap<Progress>,
     p: Point,
-    kids: &[Value],
+    kids: SmallVec<Value, 2>,
     value: Value,
-) -> Result<(), AllocError>
+)
     requires there { Holds rows.old p }
-    ensures kept { OnOk result (IsRewritten rows.old rows.new p
-        (with_call (record { arguments = kids.now; result = value }))) }
-    ensures err { OnErr result (KeepsRows rows.old rows.new) }
+    ensures { IsRewritten rows.old rows.new p (with_call (record { arguments = kids.items; result = value })) }
 {
     let row = rows.get_mut(p).unwrap();
-    row.last.keep_fold(alloc, kids, value)
+    row.last.keep_fold(kids, value);
 }
 
 /// Sets a node's cutoff.

@@ -1,9 +1,9 @@
 //! What is seen of nodes by their rows.
-ghost use Rattle.std.specs.Prelude.{◌≡◌, ◌⊎◌, ◌↔◌, None, Some, IsTrue, IsSome, IfOk, option_copied, option_and_then};
+ghost use Rattle.std.specs.Prelude.{◌≡◌, ◌⊎◌, ◌↔◌, ◌≤◌, None, Some, IsTrue, IfOk, IsOk, length, option_copied, option_and_then};
 ghost use Rattle.std.specs.List.{AllZip, filter_map};
 ghost use Rattle.inc_terms.specs.Depend.{main};
 ghost use Rattle.point_map.specs.Rows.{at};
-ghost use Rattle.node_outcomes.specs.Computing.{AllShow, ShowsValue, seen, value_shown as shown_in, forced_by};
+ghost use Rattle.node_outcomes.specs.Computing.{AllShow, HasNoText, ShowsValue, seen, value_shown as shown_in, forced_by};
 ghost use Rattle.node_outcomes.specs.Row.{value_in, passes_in};
 
 use crate::last_call::Called;
@@ -11,6 +11,7 @@ use crate::row::{Progress, main_point};
 use inc_value::{NodeId, Outcome, Value};
 use map_nodes::Cutoff;
 use point_map::PointMap;
+use smallvec::SmallVec;
 use std::alloc::{AllocError, Global};
 
 /// The value that a node shows, if it shows one. A dead node shows none.
@@ -106,30 +107,19 @@ pub(crate) fn show(rows: &PointMap<Progress>, nodes: &[NodeId], values: &[Value]
     true
 }
 
-/// A copy of the value that a node shows.
-pub(crate) fn value_of(
-    alloc: Global,
-    rows: &PointMap<Progress>,
-    node: NodeId,
-) -> Result<Value, AllocError>
-    requires { IsSome (shown_in rows.now node) }
-    ensures { IfOk result (λ v. ShowsValue rows.now node v) }
-{
-    value_shown(rows, node).unwrap().copy(alloc)
-}
-
-/// Copies of the values that the nodes show.
+/// Copies of the values that the nodes show. Two that are no texts take no memory.
 pub(crate) fn values_shown(
     alloc: Global,
     rows: &PointMap<Progress>,
     nodes: &[NodeId],
-) -> Result<Vec<Value>, AllocError>
-    ensures { IfOk result (λ values. values.items ≡ filter_map (shown_in rows.now) nodes.now) }
+) -> Result<SmallVec<Value, 2>, AllocError>
+    ensures values { IfOk result (λ values. values.items ≡ filter_map (shown_in rows.now) nodes.now) }
+    ensures short { length nodes.now ≤ 2 → HasNoText (filter_map (shown_in rows.now) nodes.now) → IsOk result }
 {
-    let mut values = Vec::with_capacity(alloc, nodes.len())?;
+    let mut values = SmallVec::with_capacity(alloc, nodes.len())?;
     for node in nodes {
         if let Some(value) = value_shown(rows, *node) {
-            values.push(value.copy(alloc)?)?;
+            values.push_reserved(value.copy(alloc)?);
         }
     }
     Ok(values)

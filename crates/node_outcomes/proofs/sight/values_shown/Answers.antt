@@ -1,7 +1,7 @@
-use Rattle.std.proofs.Common.{◌≡◌, Some, None, get_or, sym}
+use Rattle.std.proofs.Common.{◌≡◌, ◌+◌, Some, None, ◌∷◌, [], get_or, length, length-append, sym, arith}
 use Rattle.node_outcomes.specs.Computing.{value_shown}
 use Rattle.node_outcomes.proofs.Computing.{filter_some, filter_none}
-use Rattle.node_outcomes.proofs.sight.values_shown.Goals.{in-Some+in_ok-copy+in_ok-push, in_default}
+use Rattle.node_outcomes.proofs.sight.values_shown.Goals.{in-Some+in_ok-copy, in_default}
 use Rattle.node_outcomes.proofs.sight.values_shown.Goals as goal
 
 pub loop-node-preserved : goal.loop-node-preserved
@@ -9,14 +9,19 @@ loop-node-preserved c =
     let rows = c.args.rows.now in let nodes = c.args.nodes.now in let i = c.loop-node.node-index in
     let within = c.loop-node-test.true in
     elim c.match-value_shown.branch [
-      | in-Some+in_ok-copy+in_ok-push w ↦
+      | in-Some+in_ok-copy w ↦
           let shown : value_shown rows (get_or nodes i (record { slot = 0; gen_ = 0 })) ≡ Some w.in-Some.value.now =
           sym (rw w.in-Some.is at c.value_shown.ensures) in
           let more = filter_some rows nodes i (record { slot = 0; gen_ = 0 }) w.in-Some.value.now within shown in
-          let pushed = w.in_ok-push.ensures.items in let copied = w.in_ok-copy.ensures.ok in
-          cc (more, pushed, copied, w.values-is, c.loop-node.invariant)
+          let pushed = w.push_reserved.ensures.items in let copied = w.in_ok-copy.ensures.ok in
+          let one : length w.push_reserved.new.self.items ≡ length c.loop-node.values.items + 1 =
+          rw pushed (length-append c.loop-node.values.items (w.in_ok-copy.field-0 ∷ [])) in (
+            cc (more, pushed, copied, w.values-is, c.loop-node.invariant.0),
+            rw w.values-is (omega (arith, c.loop-node.invariant.1, one)),
+            rw (w.values-is, w.push_reserved.ensures.capacity) c.loop-node.invariant.2,
+          )
       | in_default w ↦
           let shown : value_shown rows (get_or nodes i (record { slot = 0; gen_ = 0 })) ≡ None = sym (rw w.in_default.is at c.value_shown.ensures) in
           let same = filter_none rows nodes i (record { slot = 0; gen_ = 0 }) within shown in
-          cc (same, w.values-is, c.loop-node.invariant)
+          (cc (same, w.values-is, c.loop-node.invariant.0), rw w.values-is (omega (arith, c.loop-node.invariant.1)), rw w.values-is c.loop-node.invariant.2)
     ]
