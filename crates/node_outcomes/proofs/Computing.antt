@@ -1,8 +1,8 @@
 -- What a node gives by what its children show.
-use Rattle.std.proofs.Common.{◌≡◌, ◌⊎◌, inl, inr, ℕ, suc, ◌<◌, ◌+◌, ◌++◌, Bool, true, false, List, [], ◌∷◌, length, take, get_or, Option, None, Some}
+use Rattle.std.proofs.Common.{◌≡◌, ◌⊎◌, inl, inr, ℕ, zero, suc, ◌<◌, ◌+◌, ◌++◌, Bool, true, false, List, [], ◌∷◌, length, take, get_or, Option, None, Some}
 use Rattle.std.proofs.Common.{refl, sym, ap, subst, ◌∙◌, IsTrue, IsSome, arith, append-nil}
 use Rattle.std.specs.Prelude.{is_some, IfSome, IfOk, option_and_then, Result, Ok, Err}
-use Rattle.std.specs.List.{AllZip, filter_map}
+use Rattle.std.specs.List.{AllZip, cons_option, filter_map}
 use Rattle.std.proofs.lemmas.List.{take_more}
 use Rattle.std.proofs.lemmas.List.Elements.{filter_map-append}
 use Rattle.std.proofs.lemmas.Option.{none-some, same_Some}
@@ -68,6 +68,11 @@ pub seen_is_shown : (k : Option Progress) (v : Value) → seen_of k ≡ Some (Va
 seen_is_shown None v e = cc
 seen_is_shown (Some k) v e = outcome_shown k.outcome v e
 
+-- what is so of all values is so of those behind the first
+so_of_rest : (P : Value → Type 0) (first : Option Value) (rest : List Value) → Every P (cons_option first rest) → Every P rest
+so_of_rest P None rest all = all
+so_of_rest P (Some v) rest all = all.1
+
 -- values are put together of a first and the rest
 record Joins (o : Option Outcome) (g : Gathered) (values : List Value) : Type 0 where
   first : Value
@@ -131,6 +136,14 @@ module _ (rows : Rows Progress) where
   filter_is_shown nodes all =
       let w = values_of_all nodes all in
       subst (λ (vs : List Value). AllZip (ShowsValue rows) nodes vs) (sym (filter_is_values nodes w.0 w.1)) w.1
+
+  -- what is so of all values that nodes show is so of each
+  pub shown_by_each : (P : Value → Type 0) (nodes : List NodeId) (i : ℕ) (d : NodeId) (v : Value) → i < length nodes
+      → value_shown rows (get_or nodes i d) ≡ Some v → Every P (filter_map (value_shown rows) nodes) → P v
+  shown_by_each P [] i d v h e all = absurd (omega (arith, h))
+  shown_by_each P (n ∷ ns) zero d v h e all = (rw e at all).0
+  shown_by_each P (n ∷ ns) (suc i) d v h e all =
+      shown_by_each P ns i d v (omega (arith, h)) e (so_of_rest P (value_shown rows n) (filter_map (value_shown rows) ns) all)
 
   -- one node more, which shows a value
   pub filter_some : (nodes : List NodeId) (i : ℕ) (d : NodeId) (v : Value) → i < length nodes → value_shown rows (get_or nodes i d) ≡ Some v

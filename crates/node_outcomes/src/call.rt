@@ -10,10 +10,11 @@ ghost use Rattle.node_outcomes.specs.Computing.{Calls, FoldFits, noted, value_sh
 ghost use Rattle.node_outcomes.specs.Meaning.{KeepsFunctions, WantsFollow};
 
 use crate::row::{Progress, keep_fold, keep_map, main_point};
-use crate::sight::values_shown;
+use crate::sight::fill_shown;
 use inc_value::{FnKind, FnRef, NodeId, Outcome, Value};
 use node_arena::Functions;
 use point_map::PointMap;
+use smallvec::SmallVec;
 use std::alloc::{AllocError, Global};
 
 /// Calls a map's function on the values that its children show, and keeps the call.
@@ -40,10 +41,14 @@ pub(crate) fn call_map<F: Functions>(
     if ran.reserve(1).is_err() {
         return Err(AllocError);
     }
-    let arguments = match values_shown(alloc, rows, kids) {
+    let mut arguments = match SmallVec::with_capacity(alloc, kids.len()) {
         Ok(arguments) => arguments,
         Err(AllocError) => return Err(AllocError),
     };
+    if fill_shown(alloc, rows, kids, &mut arguments).is_err() {
+        drop(arguments);
+        return Err(AllocError);
+    }
     let value = match functions.apply(alloc, *f, arguments.as_slice()) {
         Ok(value) => value,
         Err(AllocError) => {
@@ -91,10 +96,14 @@ pub(crate) fn call_fold<F: Functions>(
     if ran.reserve(1).is_err() {
         return Err(AllocError);
     }
-    let arguments = match values_shown(alloc, rows, kids) {
+    let mut arguments = match SmallVec::with_capacity(alloc, kids.len()) {
         Ok(arguments) => arguments,
         Err(AllocError) => return Err(AllocError),
     };
+    if fill_shown(alloc, rows, kids, &mut arguments).is_err() {
+        drop(arguments);
+        return Err(AllocError);
+    }
     let value = match fold(alloc, functions, f, initial, arguments.as_slice()) {
         Ok(value) => value,
         Err(AllocError) => {

@@ -1,5 +1,5 @@
 //! What is seen of nodes by their rows.
-ghost use Rattle.std.specs.Prelude.{◌≡◌, ◌⊎◌, ◌↔◌, ◌≤◌, None, Some, IsTrue, IfOk, IsOk, length, option_copied, option_and_then};
+ghost use Rattle.std.specs.Prelude.{◌≡◌, ◌⊎◌, ◌↔◌, ◌≤◌, [], None, Some, IsTrue, IfOk, IsOk, OnOk, length, option_copied, option_and_then};
 ghost use Rattle.std.specs.List.{AllZip, filter_map};
 ghost use Rattle.inc_terms.specs.Depend.{main};
 ghost use Rattle.point_map.specs.Rows.{at};
@@ -107,20 +107,22 @@ pub(crate) fn show(rows: &PointMap<Progress>, nodes: &[NodeId], values: &[Value]
     true
 }
 
-/// Copies of the values that the nodes show. Two that are no texts take no memory.
-pub(crate) fn values_shown(
+/// Fills an empty list with copies of the values that the nodes show. Copies of values that are no texts take no memory.
+pub(crate) fn fill_shown(
     alloc: Global,
     rows: &PointMap<Progress>,
     nodes: &[NodeId],
-) -> Result<SmallVec<Value, 2>, AllocError>
-    ensures values { IfOk result (λ values. values.items ≡ filter_map (shown_in rows.now) nodes.now) }
-    ensures short { length nodes.now ≤ 2 → HasNoText (filter_map (shown_in rows.now) nodes.now) → IsOk result }
+    values: &mut SmallVec<Value, 2>,
+) -> Result<(), AllocError>
+    requires empty { values.old.items ≡ [] }
+    requires room { length nodes.now ≤ values.old.capacity }
+    ensures values { OnOk result (values.new.items ≡ filter_map (shown_in rows.now) nodes.now) }
+    ensures scalar { HasNoText (filter_map (shown_in rows.now) nodes.now) → IsOk result }
 {
-    let mut values = SmallVec::with_capacity(alloc, nodes.len())?;
     for node in nodes {
         if let Some(value) = value_shown(rows, *node) {
             values.push_reserved(value.copy(alloc)?);
         }
     }
-    Ok(values)
+    Ok(())
 }

@@ -1,8 +1,11 @@
-use Rattle.std.proofs.Common.{◌≡◌, ◌+◌, Some, None, ◌∷◌, [], get_or, length, length-append, sym, arith}
+use Rattle.std.proofs.Common.{◌≡◌, ◌≢◌, ◌+◌, Some, None, ◌∷◌, [], get_or, length, length-append, sym, arith}
 use Rattle.node_outcomes.specs.Computing.{value_shown}
-use Rattle.node_outcomes.proofs.Computing.{filter_some, filter_none}
-use Rattle.node_outcomes.proofs.sight.values_shown.Goals.{in-Some+in_ok-copy, in_default}
-use Rattle.node_outcomes.proofs.sight.values_shown.Goals as goal
+use Rattle.inc_value.specs.Value.{type_of}
+use Rattle.inc_value.specs.declared.ty.Ty.TheVariants.{Text}
+use Rattle.inc_value.specs.declared.value.Value.{Value}
+use Rattle.node_outcomes.proofs.Computing.{filter_some, filter_none, shown_by_each}
+use Rattle.node_outcomes.proofs.sight.fill_shown.Goals.{in-Some+in_ok-copy, in_default}
+use Rattle.node_outcomes.proofs.sight.fill_shown.Goals as goal
 
 pub loop-node-preserved : goal.loop-node-preserved
 loop-node-preserved c =
@@ -25,3 +28,13 @@ loop-node-preserved c =
           let same = filter_none rows nodes i (record { slot = 0; gen_ = 0 }) within shown in
           (cc (same, w.values-is, c.loop-node.invariant.0), rw w.values-is (omega (arith, c.loop-node.invariant.1)), rw w.values-is c.loop-node.invariant.2)
     ]
+
+pub returns-in_err-copy-clause-scalar : goal.returns-in_err-copy-clause-scalar
+returns-in_err-copy-clause-scalar c none =
+    let rows = c.args.rows.now in let nodes = c.args.nodes.now in let i = c.loop-node.node-index in
+    let shown : value_shown rows (get_or nodes i (record { slot = 0; gen_ = 0 })) ≡ Some c.in-Some.value.now =
+    sym (rw c.in-Some.is at c.value_shown.ensures) in
+    let scalar = shown_by_each rows (λ (v : Value). type_of v ≢ Text) nodes i (record { slot = 0; gen_ = 0 }) c.in-Some.value.now c.loop-node-test.true
+    shown none in
+    let made = rw c.in_err-copy.was at (c.copy.ensures.scalar scalar) in
+    absurd cc

@@ -1,7 +1,7 @@
 use Rattle.std.proofs.Common.{◌≡◌, ◌≤◌, length, take}
 use Rattle.std.specs.List.{filter_map}
 use Rattle.node_outcomes.specs.Computing.{value_shown}
-use Rattle.node_outcomes.proofs.sight.values_shown.Given as goal
+use Rattle.node_outcomes.proofs.sight.fill_shown.Given as goal
 
 -- the values of the nodes so far, with room for the others
 abbrev pub invariant-loop-node : goal.invariant-loop-node
