@@ -1,18 +1,15 @@
 //! What a line is answered with, and what it does.
 ghost use Rattle.std.specs.Prelude.{IsTrue, true, ◌≡◌, ◌<◌, ◌≤◌, ◌+◌, ◌-◌, ◌++◌, ◌^◌, ℕ, List, None, Some, length, IfOk, OnOk, OnErr};
-ghost use Rattle.formula_lang.specs.CommandView.{body_view, command_view, constant_view};
-ghost use Rattle.formula_lang.specs.Fits.{AssignmentFits, DeclarationFits, FitsNames, GrabFits, ObserverFits};
+ghost use Rattle.formula_lang.specs.CommandView.{body_view, constant_view};
+ghost use Rattle.formula_lang.specs.Fits.{AssignmentFits, DeclarationFits, GrabFits, ObserverFits};
 ghost use Rattle.line_parser.specs.TreeView.{line_view};
 ghost use Rattle.script_model.specs.Check.{Assign, Declare, Observe, Show, Stabilize, Take, Unobserve, is_among};
-ghost use Rattle.script_model.specs.Check.{binds_of_command};
 ghost use Rattle.script_model.specs.Formula.{binds_of_body, meanings_of};
 ghost use Rattle.script_model.specs.Grammar.{IsLine};
 ghost use Rattle.script_model.specs.Here.{is_here};
-ghost use Rattle.script_model.specs.Request.{IsRequest};
 ghost use Rattle.session.specs.Answered.{Extends};
 ghost use Rattle.session.specs.Carried.{HasRoom, Performs, Refuses, TakesBytes, Treats};
 ghost use Rattle.session.specs.Replies.{broken_line, cycle_line, refused_line, too_deep_line, name_in};
-ghost use Rattle.session.specs.RequestView.{request_view};
 ghost use Rattle.session.specs.declared.answer.Did.TheVariants.{Refused};
 ghost use Rattle.script_graph.specs.Stabilizing.{CyclePasses, IsCycleMet, closed};
 
@@ -48,34 +45,17 @@ pub(crate) fn answer<L: Library>(
     ensures { TakesBytes (λ l. meanings_of (L.named l) (L.value l)) L.known L.calls text.now script.old script.new
         out.old.items out.new.items result }
 {
-    let request = match read_request(alloc, text) {
-        Ok(request) => request,
-        Err(fault) => return Err(fault),
-    };
-    let answered = answer_request(alloc, script, text, &request, out);
-    drop(request);
-    answered
-}
-
-/// Answers what the bytes of a line ask for.
-fn answer_request<L: Library>(
-    alloc: Global,
-    script: &mut Script<L>,
-    text: &[u8],
-    request: &Request,
-    out: &mut Vec<u8>,
-) -> Result<Did, AllocError>
-    requires room { HasRoom script.old.kept }
-    requires asks { IsRequest text.now (request_view request.now) }
-    ensures { TakesBytes (λ l. meanings_of (L.named l) (L.value l)) L.known L.calls text.now script.old script.new
-        out.old.items out.new.items result }
-{
-    match request {
-        Request::TooLong => refuse(alloc, Refusal::LineTooLong.number(), out),
-        Request::Blank => Ok(Did::Blank),
-        Request::Malformed => refuse(alloc, Refusal::NoCommand.number(), out),
-        Request::TooDeep => refuse(alloc, Refusal::LineTooDeep.number(), out),
-        Request::Asks(line) => carry_out(alloc, script, line, out),
+    match read_request(alloc, text) {
+        Ok(Request::TooLong) => refuse(alloc, Refusal::LineTooLong.number(), out),
+        Ok(Request::Blank) => Ok(Did::Blank),
+        Ok(Request::Malformed) => refuse(alloc, Refusal::NoCommand.number(), out),
+        Ok(Request::TooDeep) => refuse(alloc, Refusal::LineTooDeep.number(), out),
+        Ok(Request::Asks(line)) => {
+            let answered = carry_out(alloc, script, &line, out);
+            drop(line);
+            answered
+        }
+        Err(AllocError) => Err(AllocError),
     }
 }
 
@@ -95,32 +75,12 @@ fn carry_out<L: Library>(
     if let Some(number) = script.broken() {
         return refuse_broken(alloc, number, out);
     }
-    match check(alloc, line, script.names(), script.library()) {
-        Ok(command) => {
-            let performed = perform(alloc, script, &command, out);
-            drop(command);
-            performed
-        }
-        Err(CheckFault::Refusal(number)) => refuse(alloc, number, out),
-        Err(CheckFault::Memory) => Err(AllocError),
-    }
-}
-
-/// Does what a command asks for, or refuses it.
-fn perform<L: Library>(
-    alloc: Global,
-    script: &mut Script<L>,
-    command: &Command,
-    out: &mut Vec<u8>,
-) -> Result<Did, AllocError>
-    requires room { HasRoom script.old.kept }
-    requires unbroken { script.old.kept.broken ≡ None }
-    requires fits { FitsNames (L.known script.old.library) script.old.kept.names (command_view command.now) }
-    requires binds { binds_of_command (command_view command.now) ≤ 64 }
-    ensures { Performs (λ l. meanings_of (L.named l) (L.value l)) L.known L.calls (command_view command.now) script.old script.new
-        out.old.items out.new.items result }
-{
-    match command {
+    let command = match check(alloc, line, script.names(), script.library()) {
+        Ok(command) => command,
+        Err(CheckFault::Refusal(number)) => return refuse(alloc, number, out),
+        Err(CheckFault::Memory) => return Err(AllocError),
+    };
+    let done = match &command {
         Command::Declare { name, ty, body } => {
             declare(alloc, script, name.bytes(), *ty, body, out)
         }
@@ -130,7 +90,9 @@ fn perform<L: Library>(
         Command::Unobserve { observer } => unobserve(script, observer.bytes(), out),
         Command::Stabilize => stabilize(alloc, script, out),
         Command::Show { observer } => show(alloc, script, observer.bytes(), out),
-    }
+    };
+    drop(command);
+    done
 }
 
 /// Declares a name, where there is room for its places.
