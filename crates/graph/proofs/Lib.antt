@@ -14,7 +14,6 @@ pub mod Dead
 mod Certain
 pub mod Owning
 pub mod Fitting
-pub mod Leaving
 pub mod Knowing
 pub mod Flat
 pub mod Grouping

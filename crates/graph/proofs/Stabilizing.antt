@@ -1,6 +1,6 @@
 -- What a round gave, over other lists of the same nodes.
 use Rattle.std.proofs.Common.{◌≡◌, inl, inr, ℕ, ◌≤◌, Bool, List, ◌++◌, length, map, take, drop, Option, None, Some, Ok, Err, refl, sym, ap, subst, ◌∙◌, arith}
-use Rattle.std.specs.Prelude.{Result, OnOk, OnErr, IfErr, IsSome}
+use Rattle.std.specs.Prelude.{Result, OnOk, IsSome}
 use Rattle.std.proofs.Math.Seq.{take-length}
 use Rattle.inc_value.specs.declared.outcome.Outcome.{Outcome}
 use Rattle.inc_value.specs.declared.node.NodeId.{NodeId}
@@ -122,22 +122,6 @@ module _ (F : Functions) (G : Graph) (died : NodeId → Option NodeId) (old : Wo
 pub on_ok : {T E : Type 0} {A B : Type 0} (r : Result T E) → (A → B) → OnOk r A → OnOk r B
 on_ok (Ok v) f a = f a
 on_ok (Err e) f a = a
-
-pub on_both : {T E : Type 0} {A B C : Type 0} (r : Result T E) → (A → B → C) → OnOk r A → OnOk r B → OnOk r C
-on_both (Ok v) f a b = f a b
-on_both (Err e) f a b = a
-
-pub if_err : {T E : Type 0} {P Q : E → Type 0} (r : Result T E) → ((e : E) → P e → Q e) → IfErr r P → IfErr r Q
-if_err (Ok v) f p = p
-if_err (Err e) f p = f e p
-
-pub err_as : {T E : Type 0} {A B : Type 0} (r : Result T E) → (A → B) → OnErr r A → OnErr r B
-err_as (Ok v) f a = a
-err_as (Err e) f a = f a
-
-pub on_err : {T E : Type 0} {A : Type 0} (r : Result T E) → A → OnErr r A
-on_err (Ok v) a = tt
-on_err (Err e) a = a
 
 -- ---- a round over observers
 

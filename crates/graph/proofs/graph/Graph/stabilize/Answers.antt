@@ -1,131 +1,149 @@
-use Rattle.std.proofs.Common.{◌≡◌, inl, inr, ℕ, None, Some, length, refl, sym, ap, subst, ◌∙◌, arith}
+use Rattle.std.proofs.Common.{◌≡◌, List, None, Some, length, refl, sym, ap, subst, ◌∙◌, ℕ, arith, drop}
+use Rattle.inc_value.specs.Choice.{Among}
+use Rattle.inc_value.specs.declared.node.NodeId.{NodeId}
+use Rattle.inc_terms.specs.Within.{Given}
 use Rattle.node_outcomes.specs.Meaning.{Meaning, functions_of, meaning_of}
 use Rattle.stabilize_round.specs.Invariant.{Rooted}
 use Rattle.graph.specs.Inside.{CanStabilize}
+use Rattle.graph.specs.Standing.{in_use}
 use Rattle.stabilizer.specs.Kept.{graph_in, counts_by}
 use Rattle.stabilizer.specs.Round.{left_by, died_by}
 use Rattle.stabilizer.proofs.Giving.{live_few, gives_few}
 use Rattle.stabilizer.proofs.MeaningKept.{means_still}
+use Rattle.graph.proofs.Observing.{all_of}
 use Rattle.graph.proofs.Sound.{ready_built}
-use Rattle.graph.proofs.Grouping.{ids_few, filled_by, full_by}
+use Rattle.graph.proofs.Grouping.{ids_few, filled_by}
 use Rattle.graph.proofs.Rounding.{accepted, refused_in, few_in, leaves_nodes}
+use Rattle.graph.proofs.Stabilizing.{rest_given, all_right, all_lawful, all_few, all_built, all_built_but, can_again}
 use Rattle.graph.proofs.graph.Graph.stabilize.Goals as goal
 
-pub returns-in-Ok-clause-brought : goal.returns-in-Ok-clause-brought
-returns-in-Ok-clause-brought g c =
-    let right = rw c.deref.ensures.value at c.in-Ok.ensures.right in
+pub run-ended-requires-clause-given : goal.run-ended-requires-clause-given
+run-ended-requires-clause-given g c =
+    let M = meaning_of g.F.Functions c.self.inside.functions in
+    let old = c.self.inside.parts in let os = c.self.inside.observers.items in let rooted = c.self.inside.rooted in
     let still = rw (← c.self.view_is) at c.in_default.ensures.none in
-    rw (← c.self.view_is) (accepted (functions_of g.F.Functions c.self.inside.functions) c.self.inside.functions c.run.new.functions
-    c.self.inside.parts c.run.new.parts c.self.inside.observers.items c.self.inside.rooted c.len-self-inside.result c.self.inside.refused still
-    (c.len-self-inside.ensures ∙ (sym c.deref.ensures.len ∙ ap length c.deref.ensures.value))
-    (c.self.invariant.1.unbroken still).ready.numbered c.in-Ok.ensures.round c.run.ensures.left.rest
-    (rw c.deref.ensures.value at c.in-Ok.ensures.built) right)
+    let can = c.self.invariant.1.unbroken still in let within = c.self.invariant.1.earlier in
+    let roots : c.deref-2.result.now ≡ in_use (drop rooted os) = c.deref-2.ensures.value ∙ rw c.deref.ensures.value at c.in-Ok.ensures in
+    all_of (Given old.arena.given) c.deref-2.result.now
+    (λ n among. rest_given M old old os rooted can within n (subst (λ (ns : List NodeId). Among n ns) roots among))
 
-pub returns-in-Err-clause-refused : goal.returns-in-Err-clause-refused
-returns-in-Err-clause-refused g c cause is = rw (← c.self.view_is)
-    (refused_in (functions_of g.F.Functions c.self.inside.functions) c.self.inside.functions c.run.new.functions c.self.inside.parts
-    c.run.new.parts c.self.inside.observers.items c.self.inside.rooted c.self.inside.refused (rw (← c.self.view_is) at c.in_default.ensures.none)
-    c.in-Err.refused cause (let e = c.cause_of-cause.ensures in cc) c.run.ensures.left.rest c.in-Err.ensures.ran c.in-Err.ensures.cutoffs
-    c.in-Err.ensures.shows (rw c.deref.ensures.value at c.in-Err.ensures.lawful) c.in-Err.ensures.tried
-    (rw c.deref.ensures.value at c.in-Err.ensures.unbuilt))
+pub returns-in-Ok-ended-clause-brought : goal.returns-in-Ok-ended-clause-brought
+returns-in-Ok-ended-clause-brought g c =
+    let M = meaning_of g.F.Functions c.self.inside.functions in
+    let old = c.self.inside.parts in let new = c.run-ended.new.parts in let os = c.self.inside.observers.items in let rooted = c.self.inside.rooted in
+    let still = rw (← c.self.view_is) at c.in_default.ensures.none in
+    let can = c.self.invariant.1.unbroken still in let within = c.self.invariant.1.earlier in
+    let roots : c.deref-2.result.now ≡ in_use (drop rooted os) = c.deref-2.ensures.value ∙ rw c.deref.ensures.value at c.in-Ok.ensures in
+    let right = all_right M old new os rooted can within (rw roots at c.in-Ok-ended.ensures.right) in
+    let same : c.len-self-inside.result ≡ length os = c.len-self-inside.ensures ∙ (sym c.deref.ensures.len ∙ ap length c.deref.ensures.value) in
+    rw (← c.self.view_is) (accepted M.functions c.self.inside.functions c.run-ended.new.functions old new os rooted c.len-self-inside.result
+    c.self.inside.refused still same can.ready.numbered c.in-Ok-ended.ensures.round c.run-ended.ensures.left.rest
+    (all_built M old new os rooted can within (rw roots at c.in-Ok-ended.ensures.built)) right)
 
-pub returns-in-Err-clause-few : goal.returns-in-Err-clause-few
-returns-in-Err-clause-few g c cause is = rw (← c.self.view_is)
-    (few_in (functions_of g.F.Functions c.self.inside.functions) (left_by c.self.inside.parts c.run.new.parts) (died_by c.self.inside.parts c.run.new.parts)
-    c.self.inside.functions c.self.inside.parts c.self.inside.observers.items
-    c.self.inside.rooted c.self.inside.refused c.run.new.functions c.run.new.parts c.self.inside.rooted c.in-Err.refused
-    (g.F.Functions.calls c.self.inside.functions) (g.F.Functions.calls c.run.new.functions)
-    (rw c.deref.ensures.value at c.in-Err.ensures.few))
+pub returns-in-Ok-ended-clause-left : goal.returns-in-Ok-ended-clause-left
+returns-in-Ok-ended-clause-left g c unbroken = rw (← c.self.view_is)
+    (leaves_nodes (functions_of g.F.Functions c.self.inside.functions) c.self.inside.functions c.run-ended.new.functions c.self.inside.parts
+    c.run-ended.new.parts c.self.inside.observers.items c.self.inside.rooted c.len-self-inside.result c.self.inside.refused c.self.inside.refused
+    (counts_by g.F.Functions c.self.inside.functions) (counts_by g.F.Functions c.run-ended.new.functions) c.run-ended.ensures.left
+    (None, (λ e. refl), c.in-Ok-ended.ensures.builds))
 
-pub returns-in-Ok-clause-left : goal.returns-in-Ok-clause-left
-returns-in-Ok-clause-left g c unbroken = rw (← c.self.view_is)
-    (leaves_nodes (functions_of g.F.Functions c.self.inside.functions) c.self.inside.functions c.run.new.functions c.self.inside.parts c.run.new.parts
-    c.self.inside.observers.items c.self.inside.rooted c.len-self-inside.result c.self.inside.refused c.self.inside.refused
-    (counts_by g.F.Functions c.self.inside.functions) (counts_by g.F.Functions c.run.new.functions) c.run.ensures.left
-    (None, (λ e. refl), c.in-Ok.ensures.builds))
+pub returns-in-Ok-ended-clause-ids : goal.returns-in-Ok-ended-clause-ids
+returns-in-Ok-ended-clause-ids g c =
+    let right = g.F.Functions.right c.run-ended.new.functions in
+    let nodes = c.run-ended.new.parts.arena in
+    rw (← c.self.view_is) (ids_few right nodes c.run-ended.ensures.fit.scopes c.in-Ok-ended.ensures.ready.kept.work.scopes
+    c.self.inside.parts.arena.given (live_few right c.self.inside.parts.arena.given nodes c.in-Ok-ended.ensures.gives))
 
-pub returns-in-Ok-clause-flat : goal.returns-in-Ok-clause-flat
-returns-in-Ok-clause-flat g c no_binds = rw (← c.self.view_is) (c.run.ensures.flat (rw (← c.self.view_is) at no_binds))
-
-pub returns-in-Err-clause-left : goal.returns-in-Err-clause-left
-returns-in-Err-clause-left g c unbroken = rw (← c.self.view_is)
-    (leaves_nodes (functions_of g.F.Functions c.self.inside.functions) c.self.inside.functions c.run.new.functions c.self.inside.parts c.run.new.parts
-    c.self.inside.observers.items c.self.inside.rooted c.self.inside.rooted c.self.inside.refused (Some c.in-Err.refused)
-    (counts_by g.F.Functions c.self.inside.functions) (counts_by g.F.Functions c.run.new.functions) c.run.ensures.left
-    (let b = c.run.ensures.left.builds in (b.0, (λ e. absurd (cc)), b.1)))
-
-pub returns-in-Err-clause-flat : goal.returns-in-Err-clause-flat
-returns-in-Err-clause-flat g c no_binds = rw (← c.self.view_is) (c.run.ensures.flat (rw (← c.self.view_is) at no_binds))
-
-pub returns-in-Ok-clause-ids : goal.returns-in-Ok-clause-ids
-returns-in-Ok-clause-ids g c =
-    let right = g.F.Functions.right c.run.new.functions in
-    let nodes = c.run.new.parts.arena in
-    let can : CanStabilize (meaning_of g.F.Functions c.run.new.functions) c.run.new.parts c.self.inside.observers.items
-    (length c.self.inside.observers.items) = rw c.deref.ensures.value at c.in-Ok.ensures.can in
-    rw (← c.self.view_is) (ids_few right nodes c.run.ensures.fit.scopes can.ready.kept.work.scopes c.self.inside.parts.arena.given
-    (live_few right c.self.inside.parts.arena.given nodes c.in-Ok.ensures.gives))
-
-pub returns-in-Err-clause-ids : goal.returns-in-Err-clause-ids
-returns-in-Err-clause-ids g c =
-    rw (← c.self.view_is) (ids_few (g.F.Functions.right c.run.new.functions) c.run.new.parts.arena c.run.ensures.fit.scopes
-    c.in-Err.ensures.kept.work.scopes c.self.inside.parts.arena.given c.in-Err.ensures.spends)
-
-pub returns-in-Err-clause-full : goal.returns-in-Err-clause-full
-returns-in-Err-clause-full g c is =
-    filled_by (g.F.Functions.right c.run.new.functions) c.run.new.parts.arena c.run.ensures.fit.scopes
-    c.in-Err.ensures.kept.work.scopes (counts_by g.F.Functions c.self.inside.functions) (counts_by g.F.Functions c.run.new.functions)
-    c.in-Err.refused c.in-Err.ensures.full (let e = c.cause_of-cause.ensures in cc)
-
-pub returns-in-Err-clause-rose : goal.returns-in-Err-clause-rose
-returns-in-Err-clause-rose g c is =
-    let rose = (full_by (g.F.Functions.right c.run.new.functions) c.run.new.parts.arena (counts_by g.F.Functions c.self.inside.functions)
-    (counts_by g.F.Functions c.run.new.functions) c.in-Err.refused c.in-Err.ensures.full (let e = c.cause_of-cause.ensures in cc)).0 in
-    rw (← c.self.view_is) rose
-
-pub returns-in-Err-clause-wanted : goal.returns-in-Err-clause-wanted
-returns-in-Err-clause-wanted g c = rw (← c.self.view_is) (elim c.in-Err.ensures.wants [
-  | inl same ↦ inl same
-  | inr rose ↦ inr ((let e = rw rose.0 at c.cause_of-cause.ensures in cc), rose.1)
-])
-
-pub returns-in-Ok-clause-lives : goal.returns-in-Ok-clause-lives
-returns-in-Ok-clause-lives g c =
-    let few = gives_few c.self.inside.parts.arena.given 0 c.run.new.parts.arena c.in-Ok.ensures.gives in
+pub returns-in-Ok-ended-clause-lives : goal.returns-in-Ok-ended-clause-lives
+returns-in-Ok-ended-clause-lives g c =
+    let few = gives_few c.self.inside.parts.arena.given 0 c.run-ended.new.parts.arena c.in-Ok-ended.ensures.gives in
     rw (← c.self.view_is) (omega (arith, few))
 
-pub invariant_of-self : goal.invariant_of-self
-invariant_of-self g c =
-    let same : c.len-self-inside.result ≡ length c.self.inside.observers.items =
-    c.len-self-inside.ensures ∙ (sym c.deref.ensures.len ∙ ap length c.deref.ensures.value) in
-    let can : CanStabilize (meaning_of g.F.Functions c.run.new.functions) c.run.new.parts c.self.inside.observers.items
-    (length c.self.inside.observers.items) = rw c.deref.ensures.value at c.in-Ok.ensures.can in (
+pub returns-in-Ok-ended-clause-flat : goal.returns-in-Ok-ended-clause-flat
+returns-in-Ok-ended-clause-flat g c no_binds = rw (← c.self.view_is) (c.run-ended.ensures.flat (rw (← c.self.view_is) at no_binds))
+
+pub returns-in-Err-ended-clause-refused : goal.returns-in-Err-ended-clause-refused
+returns-in-Err-ended-clause-refused g c cause is =
+    let M = meaning_of g.F.Functions c.self.inside.functions in
+    let old = c.self.inside.parts in let new = c.run-ended.new.parts in let os = c.self.inside.observers.items in let rooted = c.self.inside.rooted in
+    let still = rw (← c.self.view_is) at c.in_default.ensures.none in
+    let can = c.self.invariant.1.unbroken still in let within = c.self.invariant.1.earlier in
+    let roots : c.deref-2.result.now ≡ in_use (drop rooted os) = c.deref-2.ensures.value ∙ rw c.deref.ensures.value at c.in-Ok.ensures in
+    let refused = c.in-Err-ended.refused in
+    rw (← c.self.view_is) (refused_in M.functions c.self.inside.functions c.run-ended.new.functions old new os rooted c.self.inside.refused still
+    refused cause (let e = c.cause_of-cause.ensures in cc) c.run-ended.ensures.left.rest c.in-Err-ended.ensures.ran c.in-Err-ended.ensures.cutoffs
+    c.in-Err-ended.ensures.shows (all_lawful M old new os rooted can within refused (rw roots at c.in-Err-ended.ensures.lawful))
+    c.in-Err-ended.ensures.tried (all_built_but M old new os rooted can within refused (rw roots at c.in-Err-ended.ensures.unbuilt)))
+
+pub returns-in-Err-ended-clause-few : goal.returns-in-Err-ended-clause-few
+returns-in-Err-ended-clause-few g c cause is =
+    let M = meaning_of g.F.Functions c.self.inside.functions in
+    let old = c.self.inside.parts in let new = c.run-ended.new.parts in let os = c.self.inside.observers.items in let rooted = c.self.inside.rooted in
+    let still = rw (← c.self.view_is) at c.in_default.ensures.none in
+    let can = c.self.invariant.1.unbroken still in let within = c.self.invariant.1.earlier in
+    let roots : c.deref-2.result.now ≡ in_use (drop rooted os) = c.deref-2.ensures.value ∙ rw c.deref.ensures.value at c.in-Ok.ensures in
+    let before = g.F.Functions.calls c.self.inside.functions in let after = g.F.Functions.calls c.run-ended.new.functions in
+    rw (← c.self.view_is) (few_in M.functions (left_by old new) (died_by old new) c.self.inside.functions old os rooted c.self.inside.refused
+    c.run-ended.new.functions new rooted c.in-Err-ended.refused before after
+    (all_few M old new os rooted can within before after (rw roots at c.in-Err-ended.ensures.few)))
+
+pub returns-in-Err-ended-clause-left : goal.returns-in-Err-ended-clause-left
+returns-in-Err-ended-clause-left g c unbroken = rw (← c.self.view_is)
+    (leaves_nodes (functions_of g.F.Functions c.self.inside.functions) c.self.inside.functions c.run-ended.new.functions c.self.inside.parts
+    c.run-ended.new.parts c.self.inside.observers.items c.self.inside.rooted c.self.inside.rooted c.self.inside.refused (Some c.in-Err-ended.refused)
+    (counts_by g.F.Functions c.self.inside.functions) (counts_by g.F.Functions c.run-ended.new.functions) c.run-ended.ensures.left
+    (let b = c.run-ended.ensures.left.builds in (b.0, (λ e. absurd (cc)), b.1)))
+
+pub returns-in-Err-ended-clause-ids : goal.returns-in-Err-ended-clause-ids
+returns-in-Err-ended-clause-ids g c =
+    rw (← c.self.view_is) (ids_few (g.F.Functions.right c.run-ended.new.functions) c.run-ended.new.parts.arena c.run-ended.ensures.fit.scopes
+    c.in-Err-ended.ensures.kept.work.scopes c.self.inside.parts.arena.given c.in-Err-ended.ensures.spends)
+
+pub returns-in-Err-ended-clause-full : goal.returns-in-Err-ended-clause-full
+returns-in-Err-ended-clause-full g c is =
+    filled_by (g.F.Functions.right c.run-ended.new.functions) c.run-ended.new.parts.arena c.run-ended.ensures.fit.scopes
+    c.in-Err-ended.ensures.kept.work.scopes (counts_by g.F.Functions c.self.inside.functions) (counts_by g.F.Functions c.run-ended.new.functions)
+    c.in-Err-ended.refused c.in-Err-ended.ensures.full (let e = c.cause_of-cause.ensures in cc)
+
+pub returns-in-Err-ended-clause-flat : goal.returns-in-Err-ended-clause-flat
+returns-in-Err-ended-clause-flat g c no_binds = rw (← c.self.view_is) (c.run-ended.ensures.flat (rw (← c.self.view_is) at no_binds))
+
+pub invariant_of-self-in-Ok-ended : goal.invariant_of-self-in-Ok-ended
+invariant_of-self-in-Ok-ended g c =
+    let M = meaning_of g.F.Functions c.self.inside.functions in
+    let old = c.self.inside.parts in let new = c.run-ended.new.parts in let os = c.self.inside.observers.items in let rooted = c.self.inside.rooted in
+    let still = rw (← c.self.view_is) at c.in_default.ensures.none in
+    let can = c.self.invariant.1.unbroken still in let within = c.self.invariant.1.earlier in
+    let roots : c.deref-2.result.now ≡ in_use (drop rooted os) = c.deref-2.ensures.value ∙ rw c.deref.ensures.value at c.in-Ok.ensures in
+    let right = all_right M old new os rooted can within (rw roots at c.in-Ok-ended.ensures.right) in
+    let M' = meaning_of g.F.Functions c.run-ended.new.functions in
+    let again = can_again M old new os rooted can within M' c.run-ended.ensures.left.rest.given c.in-Ok-ended.ensures.ready right in
+    let same : c.len-self-inside.result ≡ length os = c.len-self-inside.ensures ∙ (sym c.deref.ensures.len ∙ ap length c.deref.ensures.value) in (
       c.self.invariant.0,
       record {
         few = c.self.invariant.1.few;
         earlier = omega (arith, same);
-        kept = can.ready.kept;
-        built = ready_built (meaning_of g.F.Functions c.run.new.functions) c.run.new.parts can.ready;
-        inside = can.ready.inside;
-        unbroken = λ u. subst (λ (k : ℕ). CanStabilize (meaning_of g.F.Functions c.run.new.functions) c.run.new.parts
-            c.self.inside.observers.items k) (sym same) can;
+        kept = again.ready.kept;
+        built = ready_built M' new again.ready;
+        inside = again.ready.inside;
+        unbroken = λ u. subst (λ (k : ℕ). CanStabilize M' new os k) (sym same) again;
       },
-      c.run.ensures.functions.sound,
-      c.run.ensures.fit,
+      c.run-ended.ensures.functions.sound,
+      c.run-ended.ensures.fit,
     )
 
-pub invariant_of-self-in-Err : goal.invariant_of-self-in-Err
-invariant_of-self-in-Err g c = (
+pub invariant_of-self-in-Err-ended : goal.invariant_of-self-in-Err-ended
+invariant_of-self-in-Err-ended g c = (
   c.self.invariant.0,
   record {
     few = c.self.invariant.1.few;
     earlier = c.self.invariant.1.earlier;
-    kept = c.in-Err.ensures.kept;
-    built = subst (λ (M : Meaning). Rooted M.functions (graph_in c.run.new.parts))
-        (sym (means_still g.F.Functions c.self.inside.functions c.run.new.functions c.run.ensures.functions)) c.run.ensures.left.rooted;
-    inside = c.run.ensures.left.inside c.self.invariant.1.inside;
+    kept = c.in-Err-ended.ensures.kept;
+    built = subst (λ (M : Meaning). Rooted M.functions (graph_in c.run-ended.new.parts))
+        (sym (means_still g.F.Functions c.self.inside.functions c.run-ended.new.functions c.run-ended.ensures.functions)) c.run-ended.ensures.left.rooted;
+    inside = c.run-ended.ensures.left.inside c.self.invariant.1.inside;
     unbroken = λ e. absurd (cc);
   },
-  c.run.ensures.functions.sound,
-  c.run.ensures.fit,
+  c.run-ended.ensures.functions.sound,
+  c.run-ended.ensures.fit,
 )
