@@ -16,7 +16,8 @@ use Rattle.inc_value.specs.declared.node.Part.TheVariants.{Main}
 use Rattle.node_outcomes.specs.Computing.{seen_of, seen, has_part}
 use Rattle.wiring.specs.Kept.{IsKept}
 use Rattle.node_outcomes.specs.Meaning.{Meaning}
-use Rattle.stabilizer.specs.Round.{IsReady, last_of}
+use Rattle.stabilizer.specs.Look.{last_of}
+use Rattle.stabilizer.specs.Round.{IsReady}
 use Rattle.node_outcomes.specs.Row.{IsRewritten, with_cutoff, outcome_in, cutoff_in}
 use Rattle.stabilizer.specs.declared.parts.Parts.{Parts}
 use Rattle.wiring.specs.declared.refused.Refused.{Refused}

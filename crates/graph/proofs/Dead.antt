@@ -10,7 +10,7 @@ use Rattle.node_outcomes.specs.Computing.{has_part}
 use Rattle.node_outcomes.specs.Row.{cutoff_in}
 use Rattle.node_outcomes.specs.declared.row.Progress.{Progress}
 use Rattle.point_map.specs.Rows.{at}
-use Rattle.stabilizer.specs.Round.{cutoff_at}
+use Rattle.stabilizer.specs.Look.{cutoff_at}
 use Rattle.wiring.specs.Kept.{IsKept}
 use Rattle.wiring.specs.declared.work.Work.{Work}
 

@@ -1,9 +1,8 @@
 -- A stabilize of nodes none of which is a bind: it leaves the nodes as they were, none died, and the graph that it left is the one that it found, which is
 -- that of the nodes alone.
-use Rattle.std.proofs.Common.{◌≡◌, ℕ, List, Option, None, Some, refl, sym, ap, subst, ◌∙◌}
+use Rattle.std.proofs.Common.{◌≡◌, ℕ, Option, None, Some, refl, sym, ap, subst, ◌∙◌}
 use Rattle.std.proofs.Math.Path.{fun_ext}
 use Rattle.inc_value.specs.declared.node.NodeId.{NodeId}
-use Rattle.inc_value.specs.declared.node.Point.{Point}
 use Rattle.inc_value.specs.declared.outcome.Outcome.{Outcome}
 use Rattle.inc_terms.specs.Depend.{change, none_died, died_in, scope_lost}
 use Rattle.inc_terms.specs.Graph.{Graph, Row, Def, Built, Bind}
@@ -16,12 +15,12 @@ use Rattle.node_outcomes.specs.Choosing.{built_by, built_in}
 use Rattle.node_outcomes.specs.Row.{outcome_in}
 use Rattle.wiring.specs.Graph.{held_at, graph_at}
 use Rattle.wiring.specs.Kept.{IsBind}
-use Rattle.wiring.specs.declared.refused.Refused.{Refused}
 use Rattle.wiring.specs.declared.work.Work.{Work}
 use Rattle.stabilizer.specs.Kept.{HasNoBinds}
-use Rattle.graph.specs.Standing.{Standing, graph}
+use Rattle.stabilizer.specs.Left.{HasCalledMetIn}
+use Rattle.graph.specs.Standing.{Standing, graph, look, in_use}
 use Rattle.graph.specs.Stabilizes as effect
-use Rattle.graph.specs.Stabilizes.{IsObservedIn, IsMetIn, WasCalledIn, StabilizesIn, IsListedIn, IsLawfulIn, HasCalledMetIn, IsRefusedIn}
+use Rattle.graph.specs.Stabilizes.{StabilizesIn, IsRefusedIn}
 use Rattle.graph.specs.declared.fault.Kept.{Kept}
 
 -- ---- nothing is built
@@ -69,26 +68,11 @@ graph_stays old new no_binds same = ap (λ (a : Arena). graph_at a new.work) sam
 module _ {F : Type 0} (M : Functions) where
   -- ---- words for it
 
-  abbrev pub IsObserved : Standing F → Point → Type 0
-  IsObserved s p = IsObservedIn M (nodes_alone s) none_died s p
-
-  abbrev pub IsMet : Standing F → Point → Type 0
-  IsMet s p = IsMetIn M (nodes_alone s) none_died s p
-
-  abbrev pub WasCalled : Standing F → Standing F → NodeId → Type 0
-  WasCalled old new n = WasCalledIn M (nodes_alone old) none_died old new n
-
   abbrev pub Stabilizes : Standing F → Standing F → Type 0
   Stabilizes old new = StabilizesIn M (nodes_alone old) none_died (nodes_alone old) old new
 
-  abbrev pub IsListed : Standing F → List Point → Type 0
-  IsListed s points = IsListedIn M (nodes_alone s) none_died s points
-
-  abbrev pub IsLawful : Standing F → Refused → Type 0
-  IsLawful s e = IsLawfulIn M (nodes_alone s) none_died s e
-
   abbrev pub HasCalledMet : Standing F → Standing F → ℕ → ℕ → Type 0
-  HasCalledMet old new before after = HasCalledMetIn M (nodes_alone old) none_died old new before after
+  HasCalledMet old new before after = HasCalledMetIn M (nodes_alone old) none_died (look old) (look new) (in_use old.observers) before after
 
   abbrev pub IsRefusedFor : Standing F → Standing F → Kept → Type 0
   IsRefusedFor old new cause = IsRefusedIn M (nodes_alone old) none_died old new cause
@@ -97,8 +81,8 @@ module _ {F : Type 0} (M : Functions) where
 
   module _ (old new : Standing F) (no_binds : HasNoBinds old.nodes) (nodes : new.nodes ≡ old.nodes) where
     pub still_called : (before after : ℕ) → effect.HasCalledMet M old new before after → HasCalledMet old new before after
-    still_called before after h = subst (λ (G : Graph). HasCalledMetIn M G none_died old new before after) (is_alone old no_binds)
-        (from_graphs (λ G died later. HasCalledMetIn M G died old new before after) (graph old) (graph new) (graph_stays old new no_binds nodes) h)
+    still_called before after h = subst (λ (G : Graph). HasCalledMetIn M G none_died (look old) (look new) (in_use old.observers) before after) (is_alone old no_binds)
+        (from_graphs (λ G died later. HasCalledMetIn M G died (look old) (look new) (in_use old.observers) before after) (graph old) (graph new) (graph_stays old new no_binds nodes) h)
 
     pub still_stabilizes : effect.Stabilizes M old new → Stabilizes old new
     still_stabilizes done = subst (λ (G : Graph). StabilizesIn M G none_died G old new) (is_alone old no_binds)

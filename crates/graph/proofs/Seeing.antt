@@ -1,6 +1,5 @@
 -- How rows of points are seen.
-use Rattle.std.proofs.Common.{◌≡◌, ◌⊎◌, inl, inr, ℕ, ◌+◌, ◌<◌, Bool, true, false, List, Option, None, Some, refl, ap, ◌∙◌, arith, sym, subst}
-use Rattle.std.proofs.lemmas.Bool.{eqb-true, eq-eqb, lt-ltb}
+use Rattle.std.proofs.Common.{◌≡◌, ◌⊎◌, inl, inr, ℕ, Bool, true, false, List, Option, None, Some, refl, ap, ◌∙◌, sym, subst}
 use Rattle.inc_value.specs.declared.node.NodeId.{NodeId}
 use Rattle.inc_value.specs.declared.node.Point.{Point}
 use Rattle.inc_terms.specs.Depend.{main, change}
@@ -13,7 +12,7 @@ use Rattle.link_table.specs.Links.{Links, times}
 use Rattle.necessary_graph.specs.Part as part
 use Rattle.necessity.specs.Need.{Roots, root_times}
 use Rattle.node_outcomes.specs.Computing.{seen_of}
-use Rattle.node_outcomes.specs.Row.{is_never, never_in, settled_in, outcome_in, cutoff_in}
+use Rattle.node_outcomes.specs.Row.{is_never, never_in, outcome_in, cutoff_in}
 use Rattle.node_outcomes.specs.declared.row.Progress.{Progress}
 use Rattle.point_map.specs.Rows.{Rows, at}
 use Rattle.node_arena.specs.Arena.{Arena, row_at, IsSet, IsVariable, with_value}
@@ -21,12 +20,12 @@ use Rattle.node_outcomes.specs.Choosing.{built_by, built_in}
 use Rattle.node_outcomes.proofs.Held.{built_live}
 use Rattle.stabilize_round.proofs.Points.{node_or_other}
 use Rattle.stabilizer.specs.Kept.{graph_in}
-use Rattle.stabilizer.specs.Round.{last_of, cutoff_at}
+use Rattle.stabilizer.specs.Look.{last_of, cutoff_at}
 use Rattle.stabilizer.specs.declared.parts.Parts.{Parts}
 use Rattle.stabilizer.proofs.Between.{same_some}
 use Rattle.wiring.specs.declared.refused.Refused.{Refused}
 use Rattle.graph.specs.Effects.{KeepsBeside}
-use Rattle.graph.specs.Standing.{Standing, IsNeeded, settled_before}
+use Rattle.graph.specs.Standing.{Standing, IsNeeded}
 use Rattle.graph.specs.declared.observer.Observer.{Observer}
 
 -- ---- cutoffs
@@ -55,15 +54,6 @@ cutoff_never x e = cutoff_is x ∙ ap cutoff_by e
 pub equal_still : (now was : Cutoff) → (now ≡ was) ⊎ (now ≡ Equal) → was ≡ Equal → now ≡ Equal
 equal_still now was (inl same) e = same ∙ e
 equal_still now was (inr equal) e = equal
-
--- ---- the last round
-
--- what was settled in a round was so before the next
-pub settled_once : (round : ℕ) (x : Option Progress) → 0 < round → settled_in round x ≡ true → settled_before (round + 1) x ≡ true
-settled_once round None numbered e = absurd (cc)
-settled_once round (Some k) numbered e =
-    let is = eqb-true k.settled round e in
-    rw (lt-ltb 0 k.settled (omega (arith, is, numbered)), eq-eqb (k.settled + 1) (round + 1) (omega (arith, is))) refl
 
 -- ---- a graph over its parts
 

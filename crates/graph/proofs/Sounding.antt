@@ -27,7 +27,8 @@ use Rattle.node_outcomes.specs.declared.row.Progress.{Progress}
 use Rattle.wiring.specs.Places.{ChangesNode, for_parts}
 use Rattle.wiring.specs.Kept.{IsKept}
 use Rattle.wiring.specs.declared.work.Work.{Work}
-use Rattle.stabilizer.specs.Round.{IsReady, last_of}
+use Rattle.stabilizer.specs.Look.{last_of}
+use Rattle.stabilizer.specs.Round.{IsReady}
 use Rattle.stabilizer.specs.Weights.{SidesFit}
 use Rattle.stabilizer.specs.declared.parts.Parts.{Parts}
 use Rattle.wiring.specs.declared.refused.Refused.{Refused}

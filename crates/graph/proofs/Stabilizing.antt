@@ -1,5 +1,5 @@
 -- What a round gave, over other lists of the same nodes.
-use Rattle.std.proofs.Common.{◌≡◌, inl, inr, ℕ, ◌≤◌, Bool, List, ◌++◌, length, map, take, drop, Option, None, Some, Ok, Err, refl, sym, ap, subst, ◌∙◌, arith}
+use Rattle.std.proofs.Common.{◌≡◌, inl, inr, ℕ, ◌≤◌, List, ◌++◌, length, map, take, drop, Option, None, Some, Ok, Err, refl, sym, ap, subst, ◌∙◌, arith}
 use Rattle.std.specs.Prelude.{Result, OnOk, IsSome}
 use Rattle.std.proofs.Math.Seq.{take-length}
 use Rattle.inc_value.specs.declared.outcome.Outcome.{Outcome}
@@ -11,17 +11,16 @@ use Rattle.inc_terms.specs.Graph.{Graph}
 use Rattle.inc_terms.specs.Need.{IsRoot, Needed, Met, from_root, from_held}
 use Rattle.inc_terms.specs.Term.{Functions}
 use Rattle.inc_terms.specs.Within.{Given}
-use Rattle.necessary_graph.specs.Part as part
 use Rattle.stabilize_round.specs.State.{count}
 use Rattle.node_outcomes.specs.Computing.{seen}
 use Rattle.node_outcomes.specs.Meaning.{Meaning}
-use Rattle.stabilizer.specs.Round.{AreRooted, IsReady, IsUpToDate, IsUpToDateIn, settled_by, WasDueIn, WasCalledIn, IsLawful, IsLawfulIn, IsListedIn, HasCalledMet, HasCalledMetIn}
 use Rattle.stabilizer.specs.Kept.{graph_in}
-use Rattle.stabilizer.specs.Round.{left_by, died_by, IsBuiltMetIn, BuildsRightIn, BuildsAll, BuildsAllBut}
+use Rattle.stabilizer.specs.Left.{WasDueIn, WasCalledIn, IsUpToDateIn, IsLawfulIn, IsListedIn, HasCalledMetIn, IsBuiltMetIn, BuildsRightIn}
+use Rattle.stabilizer.specs.Look.{Look, IsNeeded, look_between, look_refused}
+use Rattle.stabilizer.specs.Round.{AreRooted, IsReady, IsUpToDate, IsLawful, HasCalledMet, BuildsAll, BuildsAllBut, left_by, died_by}
 use Rattle.stabilizer.specs.declared.parts.Parts.{Parts}
 use Rattle.wiring.specs.declared.refused.Refused.{Refused}
 use Rattle.wiring.specs.declared.refused.Refused.TheVariants.{Height, Cycle, Full, Memory}
-use Rattle.wiring.specs.declared.work.Work.{Work}
 use Rattle.graph.specs.Inside.{CanStabilize}
 use Rattle.graph.specs.Standing.{in_use}
 use Rattle.graph.specs.declared.observer.Observer.{Observer}
@@ -39,60 +38,60 @@ module _ (F : Functions) (G : Graph) (died : NodeId → Option NodeId) (xs ys : 
   met_as held p (from_root {n} root reach) = from_root (root_as n root) reach
   met_as held p (from_held h row stands reach) = from_held h row stands reach
 
-module _ (F : Functions) (G : Graph) (died : NodeId → Option NodeId) (old : Work) (xs ys : List NodeId) (to : (n : NodeId) → Among n xs → Among n ys)
+module _ (F : Functions) (G : Graph) (died : NodeId → Option NodeId) (old : Look) (xs ys : List NodeId) (to : (n : NodeId) → Among n xs → Among n ys)
     (back : (n : NodeId) → Among n ys → Among n xs) where
-  due_as : (settled : Point → Bool) (n : NodeId) → WasDueIn F G died old settled xs n → WasDueIn F G died old settled ys n
-  due_as settled n d = record {
+  due_as : (new : Look) (n : NodeId) → WasDueIn F G died old new xs n → WasDueIn F G died old new ys n
+  due_as new n d = record {
     row = d.row;
-    nodes = d.nodes;
+    kids = d.kids;
     values = d.values;
     is_row = d.is_row;
     takes = d.takes;
     gives = d.gives;
     reason = d.reason;
-    met = met_as F G died xs ys to (λ (p : Point). part.Needed old.graph p) (main n) d.met;
+    met = met_as F G died xs ys to (IsNeeded old) (main n) d.met;
   }
 
-  pub called_as : (new : Work) (n : NodeId) → WasCalledIn F G died old new xs n → WasCalledIn F G died old new ys n
+  pub called_as : (new : Look) (n : NodeId) → WasCalledIn F G died old new xs n → WasCalledIn F G died old new ys n
   unfolding due_as
-  called_as new n w = record { due = due_as (settled_by old.round new) n w.due; result = w.result; is_last = w.is_last; answers = w.answers }
+  called_as new n w = record { due = due_as new n w.due; result = w.result; is_last = w.is_last; answers = w.answers }
 
-  pub up_to_date_as : (after : Graph) (new : Work) (ran : List NodeId) → ((p : Point) → count p (map main xs) ≡ count p (map main ys))
+  pub up_to_date_as : (after : Graph) (new : Look) (ran : List NodeId) → ((p : Point) → count p (map main xs) ≡ count p (map main ys))
       → IsUpToDateIn F G died after old new xs ran → IsUpToDateIn F G died after old new ys ran
   up_to_date_as after new ran counts u = record {
-    rooted = λ p. u.rooted p ∙ counts p;
+    roots = λ p. u.roots p ∙ counts p;
     needs = λ p. (
       (λ n. needed_as F after none_died xs ys to p ((u.needs p).0 n)),
       (λ n. (u.needs p).1 (needed_as F after none_died ys xs back p n)),
     );
     sees = λ n need. u.sees n (needed_as F G died ys xs back (main n) need);
     chose = λ n m r row subject need. u.chose n m r row subject (needed_as F G died ys xs back (change n) need);
+    built = λ b left r f captures row def need. u.built b left r f captures row def (needed_as F G died ys xs back (change b) need);
     acyclic = λ p need. u.acyclic p (needed_as F G died ys xs back p need);
     shallow = λ p need. u.shallow p (needed_as F G died ys xs back p need);
     links = u.links;
     recalls = u.recalls;
     kept = λ n r row not. elim (u.kept n r row not) [ inl e ↦ inl e | inr c ↦ inr (called_as new n c.0, c.1) ];
     costs = u.costs;
-    cutoffs = u.cutoffs;
+    cutoff = u.cutoff;
     once = u.once;
     called = λ n among. called_as new n (u.called n among);
     work = λ before observers stood all. u.work before observers stood (λ n among. all n (to n among));
   }
 
-  pub few_as : (new : Work) (before after : ℕ) → HasCalledMetIn F G died old new xs before after → HasCalledMetIn F G died old new ys before after
+  pub few_as : (new : Look) (before after : ℕ) → HasCalledMetIn F G died old new xs before after → HasCalledMetIn F G died old new ys before after
   few_as new before after h = record {
     nodes = h.nodes;
     once = h.once;
-    due = λ n among. due_as (settled_by new.round new) n (h.due n among);
+    due = λ n among. due_as new n (h.due n among);
     count = h.count;
   }
 
   built_as : (b : NodeId) → IsBuiltMetIn F G died old xs b → IsBuiltMetIn F G died old ys b
-  built_as b h = record { right = h.right; met = met_as F G died xs ys to (λ (p : Point). part.Needed old.graph p) (change b) h.met }
+  built_as b h = record { right = h.right; met = met_as F G died xs ys to (IsNeeded old) (change b) h.met }
 
-  pub builds_as : (before : Graph) (given : ℕ) (unbuilt : Option NodeId) → BuildsRightIn F G died before given old xs unbuilt
-      → BuildsRightIn F G died before given old ys unbuilt
-  builds_as before given unbuilt h = record {
+  pub builds_as : (unbuilt : Option NodeId) → BuildsRightIn F G died old xs unbuilt → BuildsRightIn F G died old ys unbuilt
+  builds_as unbuilt h = record {
     stays = λ b r is row. elim (h.stays b r is row) [
       | inl same ↦ inl same
       | inr (inl right) ↦ inr (inl (built_as b right))
@@ -100,7 +99,7 @@ module _ (F : Functions) (G : Graph) (died : NodeId → Option NodeId) (old : Wo
     ];
     made = λ b r late row. elim (h.made b r late row) [ inl none ↦ inl none | inr right ↦ inr (built_as b right) ];
     refused = λ b is. let u = h.refused b is in
-        record { none = u.none; differs = u.differs; met = met_as F G died xs ys to (λ (p : Point). part.Needed old.graph p) (change b) u.met };
+        record { none = u.none; differs = u.differs; met = met_as F G died xs ys to (IsNeeded old) (change b) u.met };
     was = h.was;
     scoped = h.scoped;
   }
@@ -108,7 +107,7 @@ module _ (F : Functions) (G : Graph) (died : NodeId → Option NodeId) (old : Wo
   listed_as : (points : List Point) → IsListedIn F G died old xs points → IsListedIn F G died old ys points
   listed_as points l = record {
     walk = l.walk;
-    met = λ p starts. met_as F G died xs ys to (λ (q : Point). part.Needed old.graph q) p (l.met p starts);
+    met = λ p starts. met_as F G died xs ys to (IsNeeded old) p (l.met p starts);
   }
 
   pub lawful_as : (e : Refused) → IsLawfulIn F G died old xs e → IsLawfulIn F G died old ys e
@@ -149,7 +148,7 @@ module _ (M : Meaning) (old new : Parts) (os : List Observer) (rooted : ℕ)
   pub all_right : ((observed : List NodeId) → AreRooted old.work observed
       → IsUpToDate M.functions old new (rest ++ observed))
       → IsUpToDate M.functions old new (in_use os)
-  all_right right = up_to_date_as M.functions (left_by old new) (died_by old new) old.work (rest ++ front) (in_use os) to_all from_all (graph_in new) new.work new.ran.items counts_all
+  all_right right = up_to_date_as M.functions (left_by old new) (died_by old new) (look_between old) (rest ++ front) (in_use os) to_all from_all (graph_in new) (look_between new) new.ran.items counts_all
       (right front can.roots)
 
   pub all_lawful : (e : Refused) → ((observed : List NodeId) → AreRooted old.work observed
@@ -157,17 +156,16 @@ module _ (M : Meaning) (old new : Parts) (os : List Observer) (rooted : ℕ)
       → IsLawful M.functions old new (in_use os) e
   all_lawful e lawful =
       let l = lawful front can.roots in
-      (lawful_as M.functions (left_by old new) (died_by old new) old.work (rest ++ front) (in_use os) to_all from_all e l.0, l.1)
+      (lawful_as M.functions (left_by old new) (died_by old new) (look_between old) (rest ++ front) (in_use os) to_all from_all e l.0, l.1)
 
   pub all_few : (before after : ℕ) → ((observed : List NodeId) → AreRooted old.work observed
       → HasCalledMet M.functions old new (rest ++ observed) before after)
       → HasCalledMet M.functions old new (in_use os) before after
-  all_few before after few = few_as M.functions (left_by old new) (died_by old new) old.work (rest ++ front) (in_use os) to_all from_all new.work before after (few front can.roots)
+  all_few before after few = few_as M.functions (left_by old new) (died_by old new) (look_between old) (rest ++ front) (in_use os) to_all from_all (look_refused new) before after (few front can.roots)
 
   pub all_built : ((observed : List NodeId) → AreRooted old.work observed → BuildsAll M.functions old new (rest ++ observed))
       → BuildsAll M.functions old new (in_use os)
-  all_built built = builds_as M.functions (left_by old new) (died_by old new) old.work (rest ++ front) (in_use os) to_all from_all (graph_in old)
-      old.arena.given None (built front can.roots)
+  all_built built = builds_as M.functions (left_by old new) (died_by old new) (look_between old) (rest ++ front) (in_use os) to_all from_all None (built front can.roots)
 
   pub all_built_but : (e : Refused) → ((observed : List NodeId) → AreRooted old.work observed
       → BuildsAllBut M.functions old new (rest ++ observed) e)
@@ -175,8 +173,7 @@ module _ (M : Meaning) (old new : Parts) (os : List Observer) (rooted : ℕ)
   all_built_but e built =
       let k = built front can.roots in (
         k.0,
-        builds_as M.functions (left_by old new) (died_by old new) old.work (rest ++ front) (in_use os) to_all from_all (graph_in old)
-            old.arena.given k.0 k.1,
+        builds_as M.functions (left_by old new) (died_by old new) (look_between old) (rest ++ front) (in_use os) to_all from_all k.0 k.1,
         k.2,
       )
 
@@ -190,7 +187,7 @@ module _ (M : Meaning) (old new : Parts) (os : List Observer) (rooted : ℕ)
       let whole : take (length os) os ≡ os = take-length os in
       record {
         ready = ready;
-        roots = subst (λ (xs : List Observer). AreRooted new.work (in_use xs)) (sym whole) right.rooted;
+        roots = subst (λ (xs : List Observer). AreRooted new.work (in_use xs)) (sym whole) right.roots;
         given = λ n among. let g = can.given n among in omega (arith, g, later);
         shown = λ n among.
             let s = right.sees n (n, inl (subst (λ (xs : List Observer). Among n (in_use xs)) whole among), here) in

@@ -1,24 +1,18 @@
 -- What a contract sees of a graph.
-use Rattle.std.specs.Prelude.{◌≡◌, ◌⊎◌, ◌+◌, ◌==◌, ◌<◌, ◌&&◌, ℕ, nat_lt, Bool, false, cond, List, [], ◌∷◌, map, take, Option, None, Some, slice_get}
+use Rattle.std.specs.Prelude.{◌≡◌, ◌⊎◌, ◌-◌, ℕ, cond, List, [], ◌∷◌, take, Option, None, Some, slice_get}
 use Rattle.inc_value.specs.declared.node.NodeId.{NodeId}
 use Rattle.inc_value.specs.declared.node.ObsId.{ObsId}
 use Rattle.inc_value.specs.declared.node.Point.{Point}
 use Rattle.inc_value.specs.declared.outcome.Outcome.{Outcome}
-use Rattle.inc_value.specs.Choice.{Reaches, and_then}
-use Rattle.inc_terms.specs.Depend.{main, change}
+use Rattle.inc_value.specs.Choice.{and_then}
 use Rattle.inc_terms.specs.Graph.{Graph, Row, Built}
 use Rattle.inc_terms.specs.Rebuild.{Inside}
-use Rattle.link_table.specs.Links.{times}
 use Rattle.map_nodes.specs.declared.cutoff.Cutoff.{Cutoff}
-use Rattle.necessity.specs.Need.{root_times}
 use Rattle.node_arena.specs.Arena.{Arena}
 use Rattle.node_outcomes.specs.Computing.{seen}
-use Rattle.node_outcomes.specs.Row.{outcome_in, settled_in}
-use Rattle.node_outcomes.specs.declared.row.Progress.{Progress}
-use Rattle.point_map.specs.Rows.{at}
-use Rattle.stabilize_round.specs.State.{Call, count}
-use Rattle.wiring.specs.Graph.{graph_at}
-use Rattle.stabilizer.specs.Round.{last_call, cutoff_at}
+use Rattle.stabilize_round.specs.State.{Call}
+use Rattle.stabilizer.specs.Look as seen
+use Rattle.stabilizer.specs.Look.{Look, look_of}
 use Rattle.wiring.specs.declared.work.Work.{Work}
 use Rattle.wiring.specs.declared.refused.Refused.{Refused}
 use Rattle.graph.specs.Fault.{kept_of}
@@ -84,46 +78,41 @@ looked_at (Some o) = cond o.in_use (Some o.node) None
 abbrev pub node_at : List Observer → ObsId → Option NodeId
 node_at os o = looked_at (slice_get os o.0)
 
--- ---- what is kept of nodes
+-- ---- what can be looked at
 
--- a row was settled in the round before the one of this number
-abbrev pub settled_before : ℕ → Option Progress → Bool
-settled_before round None = false
-settled_before round (Some k) = nat_lt 0 k.settled && (k.settled + 1 == round)
-
--- a row was settled in the last round: that before the one of this number, or where one was refused this one
-abbrev pub settled_last : Option Refused → ℕ → Option Progress → Bool
-settled_last None round k = settled_before round k
-settled_last (Some refused) round k = settled_in round k
+-- the number of the last round: that before the number of the next one, or where a round was refused the number that it had
+abbrev pub last_round : Option Refused → ℕ → ℕ
+last_round None round = round - 1
+last_round (Some refused) round = round
 
 module _ {F : Type 0} where
+  -- what can be looked at between two calls, by which contracts say what these do
+  abbrev pub look : Standing F → Look
+  look s = look_of (last_round s.refused s.work.round) s.nodes s.work
+
   -- what is shown of a node: the outcome that it had when it was brought up to date last, Invalid of a dead one
   abbrev pub shown_of : Standing F → NodeId → Option Outcome
-  shown_of s n = seen s.work.rows (main n)
+  shown_of s n = (look s).shown n
 
   -- by which outcome of its test or child an if or a join last chose its right side
   abbrev pub chosen_by : Standing F → NodeId → Option Outcome
-  chosen_by s n = outcome_in (at s.work.rows (change n))
+  chosen_by s n = (look s).chosen n
 
   -- what a node's function was last called on, and what it gave
   abbrev pub called_last : Standing F → NodeId → Option Call
-  called_last s n = last_call s.work n
+  called_last s n = (look s).last n
 
   -- which outcomes of a node are told to its readers
   abbrev pub cutoff_of : Standing F → NodeId → Cutoff
-  cutoff_of s n = cutoff_at s.work n
-
-  -- whether a point was settled by the last stabilize, accepted or refused; told of what that stabilize leaves
-  abbrev pub is_settled : Standing F → Point → Bool
-  is_settled s p = settled_last s.refused s.work.round (at s.work.rows p)
+  cutoff_of s n = (look s).cutoff n
 
   -- how often a point is linked to another
   abbrev pub times_linked : Standing F → Point → Point → ℕ
-  times_linked s p q = times s.work.graph.links p q
+  times_linked s p q = (look s).linked p q
 
   -- how often need begins at a point
   abbrev pub times_rooted : Standing F → Point → ℕ
-  times_rooted s p = root_times s.work.graph.roots p
+  times_rooted s p = (look s).rooted p
 
   -- ---- words for it
 
@@ -137,22 +126,16 @@ module _ {F : Type 0} where
 
   -- the nodes as a graph, with what binds are built for. Its evaluation from scratch says what is shown
   abbrev pub graph : Standing F → Graph
-  graph s = graph_at s.nodes s.work
+  graph s = (look s).graph
 
   -- the nodes of the observers in use that were there when a stabilize was accepted last
   abbrev pub rooted_nodes : Standing F → List NodeId
   rooted_nodes s = in_use (take s.rooted s.observers)
 
-  -- a point is linked to another
-  abbrev pub IsLinked : Standing F → Point → Point → Type 0
-  IsLinked s p q = 0 < times_linked s p q
-
   -- the point is brought up to date by a stabilize: links lead to it from where need begins
-  pub record IsNeeded (s : Standing F) (p : Point) : Type 0 where
-    pub root : Point
-    pub is_root : 0 < times_rooted s root
-    pub leads : Reaches (IsLinked s) root p
+  abbrev pub IsNeeded : Standing F → Point → Type 0
+  IsNeeded s p = seen.IsNeeded (look s) p
 
   -- need begins at the mains of these nodes, as often at each as it is listed
   abbrev pub AreRooted : Standing F → List NodeId → Type 0
-  AreRooted s nodes = (p : Point) → times_rooted s p ≡ count p (map main nodes)
+  AreRooted s nodes = seen.AreRooted (look s) nodes

@@ -387,7 +387,7 @@ module _ (named : List ℕ → Option FnRef) (value : FnRef → List GraphValue 
       }
 
   rooted : AreRooted g (in_use g.observers)
-  rooted = subst (λ (os : List Looking). AreRooted g (in_use os)) (sym done.observers) done.roots
+  rooted = subst (λ (os : List Looking). AreRooted g (in_use os)) (sym done.observers) done.right.roots
 
   module _ (dead : (n : NodeId) → row_at g.nodes n ≡ None → cutoff_of g n ≡ Equal) where
     -- each cutoff is Equal still
@@ -396,7 +396,7 @@ module _ (named : List ℕ → Option FnRef) (value : FnRef → List GraphValue 
       where
         by_row : (x : Option Row) → row_at g.nodes n ≡ x → cutoff_of g n ≡ Equal
         by_row None is = dead n is
-        by_row (Some r) is = done.cutoff n r is ∙ (stands.matches.settled unbroken).today.equal n
+        by_row (Some r) is = done.right.cutoff n r is ∙ (stands.matches.settled unbroken).today.equal n
 
     settled : Settled F then then new
     settled = record {
@@ -416,7 +416,7 @@ module _ (named : List ℕ → Option FnRef) (value : FnRef → List GraphValue 
       };
       built = scopes_built M k.graph g c.before c.after (given named value s k g c) c.sound.scopes c.built c.stays c.left done.builds c.sound'.scopes;
       grabs = λ n b v is. is;
-      links = λ p q held link. (done.links p q (held_needed g rooted p held)).0 link;
+      links = λ p q held link. (done.right.links p q (held_needed g rooted p held)).0 link;
       ran = recalled;
       watched = λ x among is. observed_root then x among;
       today = record { plain = plain_then; equal = still_equal };

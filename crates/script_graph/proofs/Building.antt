@@ -16,9 +16,10 @@ use Rattle.inc_terms.specs.Local.{Exact}
 use Rattle.inc_terms.specs.Rebuilding.{outcome_of}
 use Rattle.inc_terms.specs.Term as term
 use Rattle.inc_terms.specs.Term.{Functions}
+use Rattle.stabilizer.specs.Left.{IsObservedIn, IsMetIn, IsBuiltMetIn}
 use Rattle.graph.specs.Sound.{IsWhole}
-use Rattle.graph.specs.Stabilizes.{IsObservedIn, IsMetIn, IsBuiltMetIn, Stabilizes as GraphStabilizes, left_by, died_by}
-use Rattle.graph.specs.Standing.{Standing, graph, in_use}
+use Rattle.graph.specs.Stabilizes.{Stabilizes as GraphStabilizes, left_by, died_by}
+use Rattle.graph.specs.Standing.{look, Standing, graph, in_use}
 use Rattle.stabilize_round.specs.Calling.{costs_of}
 use Rattle.script_model.specs.Blocked.{InTheWay, on_cycle, too_deep}
 use Rattle.script_model.specs.Formula as script
@@ -116,7 +117,7 @@ module _ (named : List ℕ → Option FnRef) (value : FnRef → List GraphValue 
   -- ---- what is needed
 
   abbrev IsObserved : Point → Type 0
-  IsObserved p = IsObservedIn M (left_by k.graph g) (died_by k.graph g) k.graph p
+  IsObserved p = IsObservedIn M (left_by k.graph g) (died_by k.graph g) observed p
 
   exact : (p : Point) → IsObserved p → Exact M y.graph (shown_at g) p
   exact = needed_is_right M k.graph g c.sound'.scopes (rooted_then named value s k g c) done
@@ -128,13 +129,13 @@ module _ (named : List ℕ → Option FnRef) (value : FnRef → List GraphValue 
       by_cause : (j : Item) → Needed F s j → InTheWay F s j → ⊥
       by_cause j n (on_cycle {n = t} cycle) = needed_is_on_no_cycle y fits grabs_now observed have (shown_at g) exact t n cycle
       by_cause j n (too_deep deep) =
-          needed_is_shallow y fits c.valid observed have (shown_at g) exact (λ p is long. done.shallow p is long) j n deep
+          needed_is_shallow y fits c.valid observed have (shown_at g) exact (λ p is long. done.right.shallow p is long) j n deep
 
   -- ---- calls
 
   pub due : WithinWork F before s (costs_of (left_by k.graph g) g.ran)
   due = due_is_covered named value m k g stands unbroken c whole (costs_of (left_by k.graph g) g.ran)
-      (done.work (side_of k.graph) (observed_by k.graph) (stood named value m k g stands unbroken c whole)
+      (done.right.work (side_of k.graph) (observed_by k.graph) (stood named value m k g stands unbroken c whole)
       (observed_among named value m k g stands unbroken c whole) (costs_of (left_by k.graph g) g.ran) (omega arith))
 
   -- ---- what binds are built for
@@ -217,7 +218,7 @@ module _ (named : List ℕ → Option FnRef) (value : FnRef → List GraphValue 
     )
 
     -- the left place is met where the bind's change is
-    left_met : IsMetIn M (left_by k.graph g) (died_by k.graph g) k.graph (change (N n)) → Met F before s (Place n (Left ∷ []))
+    left_met : IsMetIn M (left_by k.graph g) (died_by k.graph g) (look k.graph) (in_use k.graph.observers) (change (N n)) → Met F before s (Place n (Left ∷ []))
     left_met met = by_cover (meeting_is_covered named value m k g stands unbroken c whole (change (N n)) met)
       where
         no_choice : (owner : ℕ) (path : List Edge) (b : NodeId) (f : Option Formula) → formula_at s owner path ≡ f → IsChoice f → node_at y owner path ≡ Some b
@@ -263,7 +264,7 @@ module _ (named : List ℕ → Option FnRef) (value : FnRef → List GraphValue 
         by_cover (i, is_met, by_variable place node row scope built for def e) =
             absurd (let parts : ChangePart ≡ MainPart = ap (λ (p : Point). p.part) e in cc)
 
-    built_so : IsBuiltMetIn M (left_by k.graph g) (died_by k.graph g) k.graph (N n)
+    built_so : IsBuiltMetIn M (left_by k.graph g) (died_by k.graph g) (look k.graph) (in_use k.graph.observers) (N n)
         → (now : Option Outcome) × BuiltThen F before s N at n (Computed (Bind left body) kept) now
     built_so h =
         let p = gives_now h.right.row h.right.left h.right.function h.right.captures h.right.built.outcome h.right.is_row h.right.is_bind h.right.gives in (

@@ -18,9 +18,10 @@ use Rattle.inc_terms.specs.Rebuild.{direct}
 use Rattle.inc_terms.specs.Term as term
 use Rattle.inc_terms.specs.Term.{Functions}
 use Rattle.inc_terms.proofs.Same.{outcome_decides}
+use Rattle.stabilizer.specs.Left.{ComesBack, IsListedIn, IsLawfulIn}
 use Rattle.graph.specs.Sound.{IsWhole}
-use Rattle.graph.specs.Stabilizes.{ComesBack, IsRefusedFor, HasCalledMet, IsListedIn, IsLawfulIn, left_by, died_by}
-use Rattle.graph.specs.Standing.{Standing, IsOwner, graph}
+use Rattle.graph.specs.Stabilizes.{IsRefusedFor, HasCalledMet, left_by, died_by}
+use Rattle.graph.specs.Standing.{in_use, look, Standing, IsOwner, graph}
 use Rattle.graph.specs.Fault.{kept_of}
 use Rattle.graph.specs.declared.fault.Kept.TheVariants as fault
 use Rattle.script_model.specs.Blocked.{IsCycle}
@@ -47,7 +48,6 @@ use Rattle.script_graph.proofs.Extending.{body_past}
 use Rattle.script_graph.proofs.Owning.{HasOwnNode, own_body, own_or_grab}
 use Rattle.script_graph.proofs.Refusing.{IsSessions, grabs_before, formulas_stay, kept_so, functions_so, moment_unbroken, stabilize_of}
 use Rattle.script_graph.proofs.Remembering.{meeting_is_covered}
-use Rattle.script_graph.proofs.Without.{lawful_without}
 use Rattle.wiring.specs.declared.refused.Refused.{Refused}
 use Rattle.wiring.specs.declared.refused.Refused.TheVariants as refused
 use Rattle.transfer.specs.Both.{Both, graph_value, graph_outcome}
@@ -307,7 +307,7 @@ module _ (named : List ℕ → Option FnRef) (value : FnRef → List GraphValue 
 
   -- the names that a listed cycle passes are a cycle of met names, with the first of them once more at its end
   passed_cycle : (p q : Point) (rest : List Point) (names : List ℕ)
-      → IsListedIn M (left_by k.graph g) (died_by k.graph g) k.graph (p ∷ q ∷ rest) → ComesBack (p ∷ q ∷ rest)
+      → IsListedIn M (left_by k.graph g) (died_by k.graph g) (look k.graph) (in_use k.graph.observers) (p ∷ q ∷ rest) → ComesBack (p ∷ q ∷ rest)
       → Passes y p (q ∷ rest) names → (first : ℕ) × (more : List ℕ) × (names ≡ first ∷ more) × IsCycle F s (first ∷ (more ++ first ∷ []))
       × Every (λ n. Met F m.settled s (Named n)) names
   passed_cycle p q rest names listed back passes =
@@ -322,7 +322,7 @@ module _ (named : List ℕ → Option FnRef) (value : FnRef → List GraphValue 
   Refuses targets = (first : ℕ) × (more : List ℕ) × (targets ≡ first ∷ more) × Stabilizes F m (record m { broken = Some 20 })
       (step.Refused (step.Cycle (first ∷ (more ++ first ∷ []))) ∷ [])
 
-  circular : (points : List Point) (targets : List ℕ) → IsListedIn M (left_by k.graph g) (died_by k.graph g) k.graph points
+  circular : (points : List Point) (targets : List ℕ) → IsListedIn M (left_by k.graph g) (died_by k.graph g) (look k.graph) (in_use k.graph.observers) points
       → ComesBack points → PassesAll g k.names.declared k.nodes points targets → Refuses targets
   circular [] targets listed back mains = absurd back.starts
   circular (p ∷ []) targets listed back mains = absurd (let long = back.long in omega (arith, long))
@@ -332,7 +332,7 @@ module _ (named : List ℕ → Option FnRef) (value : FnRef → List GraphValue 
       (r.0, r.1, r.2, by_cycle (r.0 ∷ (r.1 ++ r.0 ∷ [])) r.0 r.3 (inl refl) met.0 refl refl)
 
   pub circular_met : (met : Option Refused) (r : Refused) (targets : List ℕ) → met ≡ Some r → kept_of r ≡ fault.Cycle
-      → IsLawfulIn M (left_by k.graph g) (died_by k.graph g) k.graph r → PassesMet g k.names.declared k.nodes met targets → Refuses targets
+      → IsLawfulIn M (left_by k.graph g) (died_by k.graph g) (look k.graph) (in_use k.graph.observers) r → PassesMet g k.names.declared k.nodes met targets → Refuses targets
   circular_met None r targets e cause lawful passes = absurd passes
   circular_met (Some (refused.Cycle points)) (refused.Cycle others) targets e cause lawful passes =
       let same : points ≡ others = cc in
@@ -354,10 +354,10 @@ module _ {A : Type 0} (named : List ℕ → Option FnRef) (value : FnRef → Lis
   abbrev bare : Standing (Unit {0})
   bare = without_functions new
 
-  lawful : IsLawfulIn H (left_by k.graph bare) (died_by k.graph bare) k.graph done.met
-  lawful = kept_so named value k old new c m stands (λ (h : Standing (Unit {0})). IsLawfulIn H (left_by h bare) (died_by h bare) h done.met)
-      (lawful_without H (left_by old new) (died_by old new) old done.met
-      (functions_so named value k old new c m stands (λ (N : Functions). IsLawfulIn N (left_by old new) (died_by old new) old done.met) done.lawful))
+  lawful : IsLawfulIn H (left_by k.graph bare) (died_by k.graph bare) (look k.graph) (in_use k.graph.observers) done.met
+  lawful = kept_so named value k old new c m stands (λ (h : Standing (Unit {0})). IsLawfulIn H (left_by h bare) (died_by h bare) (look h)
+      (in_use h.observers) done.met) (functions_so named value k old new c m stands
+      (λ (N : Functions). IsLawfulIn N (left_by old new) (died_by old new) (look old) (in_use old.observers) done.met) done.lawful)
 
   passes_bare : (p : Point) (points : List Point) (targets : List ℕ) → PassesFrom new k.names.declared k.nodes p points targets
       → PassesFrom bare k.names.declared k.nodes p points targets

@@ -19,7 +19,6 @@ use Rattle.script_graph.specs.Stabilizing.{IsCutShort}
 use Rattle.script_graph.specs.State.{MatchesMoment, Stands}
 use Rattle.script_graph.proofs.Held.{was_still}
 use Rattle.script_graph.proofs.Refusing.{IsSessions, kept_so, functions_so, moment_unbroken, stabilize_of, few_calls}
-use Rattle.script_graph.proofs.Without.{few_without}
 
 -- ---- broken
 
@@ -84,8 +83,7 @@ module _ {A : Type 0} (named : List ℕ → Option FnRef) (value : FnRef → Lis
       few_calls named value m k (without_functions new) stands (moment_unbroken named value k old new c m stands)
       (stabilize_of named value k old new c m stands) (kept_whole named value k old new c m stands was) called calls
       (kept_so named value k old new c m stands (λ (h : Standing (Unit {0})). HasCalledMet (graph_functions F k.bodies) h (without_functions new) called calls)
-      (few_without (graph_functions F k.bodies) old new called calls
-      (functions_so named value k old new c m stands (λ (M : Functions). HasCalledMet M old new called calls) few)))
+      (functions_so named value k old new c m stands (λ (M : Functions). HasCalledMet M old new called calls) few))
 
   -- and it leaves the broken moment
   pub session_broken : (number : ℕ) (cause : Cause) → IsRefusedFor (functions_over value k.bodies) old new cause

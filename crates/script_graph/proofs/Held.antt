@@ -8,9 +8,9 @@ use Rattle.inc_terms.specs.Depend.{main}
 use Rattle.inc_terms.specs.Need.{Holder, Observing, Freezing, Observed, nodes_of, StillHolds, Linked, Held}
 use Rattle.inc_terms.proofs.Local.{reach_more}
 use Rattle.inc_terms.proofs.Plan.{among_map}
-use Rattle.graph.specs.Standing.{Standing, in_use, looked_at, node_at, rooted_nodes, IsNeeded, AreRooted, times_linked, times_rooted}
+use Rattle.stabilizer.specs.Left.{StoodBeside}
+use Rattle.graph.specs.Standing.{look, Standing, in_use, looked_at, node_at, rooted_nodes, IsNeeded, AreRooted, times_linked, times_rooted}
 use Rattle.graph.specs.declared.observer.Observer.{Observer as Looking}
-use Rattle.graph.specs.Stabilizes.{StoodBeside}
 use Rattle.graph.proofs.Needing.{needed_root, needed_linked, needed_has}
 use Rattle.stabilize_round.proofs.Points.{count_among, among_count}
 use Rattle.script_graph.specs.Represents.{rooted_at, WasThere}
@@ -165,7 +165,7 @@ module _ {A : Type 0} where
           reached = reach_more (Linked (side_of g)) (main h.node) a b h.reached link;
         }) p need
 
-    pub stood_beside : StoodBeside (side_of g) g (observed_by g)
+    pub stood_beside : StoodBeside (side_of g) (look g) (observed_by g)
     stood_beside = record { held = needed_held; last = λ n. refl; never = λ n. refl }
 
   -- of fewer roots and links less is held

@@ -11,8 +11,9 @@ use Rattle.inc_terms.specs.Same.{same_outcome}
 use Rattle.inc_terms.specs.Term.{Functions}
 use Rattle.inc_terms.specs.Within.{Given}
 use Rattle.inc_terms.proofs.Same.{outcome_decides}
-use Rattle.graph.specs.Standing.{Standing, graph}
-use Rattle.graph.specs.Stabilizes.{IsBuiltOther, LeavesNodes, BuildsRightIn, left_by, died_by}
+use Rattle.graph.specs.Standing.{Standing, graph, look, in_use}
+use Rattle.graph.specs.Stabilizes.{LeavesNodes, left_by, died_by}
+use Rattle.stabilizer.specs.Left.{IsBuiltOther, BuildsRightIn}
 use Rattle.node_arena.specs.Arena.{row_at}
 use Rattle.stabilize_round.specs.Laws.{GraphStays}
 use Rattle.wiring.specs.Stands.{Counts}
@@ -40,7 +41,7 @@ unbuilt_other (Some w) (Some w') none some same = cc
 
 module _ {A : Type 0} (M : Functions) (old new : Standing A) (before after : Counts)
     (given : (n : NodeId) (r : Row) → row_at old.nodes n ≡ Some r → Given old.nodes.given n) (scoped : Scoped (graph old)) (built : ScopesBuilt (graph old))
-    (stays : GraphStays old.nodes.given new.nodes.given (graph old) (graph new)) (left : LeavesNodes M old new before after) where
+    (stays : GraphStays old.nodes.given new.nodes.given (graph old) (left_by old new)) (left : LeavesNodes M old new before after) where
   abbrev G : Graph
   G = graph old
 
@@ -53,7 +54,7 @@ module _ {A : Type 0} (M : Functions) (old new : Standing A) (before after : Cou
   inside_built c n (nested {r} {c = d} e scope i) = inside_built c d i
 
   -- who died stood inside a bind that is built for another outcome
-  pub fell : (n : NodeId) (r : Row) → G.row n ≡ Some r → G'.row n ≡ None → (b : NodeId) × Inside G b n × IsBuiltOther old new b
+  pub fell : (n : NodeId) (r : Row) → G.row n ≡ Some r → G'.row n ≡ None → (b : NodeId) × Inside G b n × IsBuiltOther (graph old) (graph new) b
   fell n r row dead =
       let f = left.fallen n r row dead in
       (f.0, f.1, elim f.2 [ inl none ↦ unbuilt_other (G.built f.0) (G'.built f.0) none (inside_built f.0 n f.1) | inr other ↦ other ])
@@ -69,7 +70,7 @@ module _ {A : Type 0} (M : Functions) (old new : Standing A) (before after : Cou
   row_was n q p row = elim (stays.rows n p) [ inl same ↦ sym same ∙ row | inr dead ↦ absurd (let clash : None ≡ Some q = sym dead ∙ row in cc) ]
 
   inside_dies : (n b c : NodeId) (r q : Row) → G.row n ≡ Some r → r.scope ≡ Some b → G'.row b ≡ Some q
-      → outcome_of (G'.built b) ≡ outcome_of (G.built b) → Inside G c n → IsBuiltOther old new c → ⊥
+      → outcome_of (G'.built b) ≡ outcome_of (G.built b) → Inside G c n → IsBuiltOther (graph old) (graph new) c → ⊥
   inside_dies n b c r q row scope live same (direct {r = r'} e sc) other =
       let rows : r ≡ r' = (let k : Some r ≡ Some r' = sym row ∙ e in cc) in
       let binds : b ≡ c = (let k : Some b ≡ Some c = sym scope ∙ (ap (λ (x : Row). x.scope) rows ∙ sc) in cc) in
@@ -102,7 +103,7 @@ module _ {A : Type 0} (M : Functions) (old new : Standing A) (before after : Cou
   }
 
   -- a bind in whose scope a node stands is built again
-  pub scopes_built : BuildsRightIn M (left_by old new) (died_by old new) old None → Scoped G' → ScopesBuilt G'
+  pub scopes_built : BuildsRightIn M (left_by old new) (died_by old new) (look old) (in_use old.observers) None → Scoped G' → ScopesBuilt G'
   scopes_built builds scoped' n r b row scope = elim (cases_lt n.gen_ old.nodes.given) [
     | inr late ↦ by_built (G'.built b) refl late
     | inl low ↦ by_old low

@@ -14,8 +14,9 @@ use Rattle.inc_terms.specs.Rebuilding.{outcome_of}
 use Rattle.inc_terms.specs.Term as term
 use Rattle.inc_terms.specs.Term.{Functions}
 use Rattle.inc_terms.specs.Within.{Given}
+use Rattle.stabilizer.specs.Left.{IsBuiltOther}
 use Rattle.graph.specs.Sound.{IsSound}
-use Rattle.graph.specs.Stabilizes.{IsBuiltOther, LeavesNodes, left_by, died_by}
+use Rattle.graph.specs.Stabilizes.{LeavesNodes, left_by, died_by}
 use Rattle.graph.specs.Standing.{Standing, graph}
 use Rattle.node_arena.specs.Arena.{row_at}
 use Rattle.node_outcomes.specs.Meaning.{Meaning}
@@ -64,7 +65,7 @@ pub record IsStabilize (F : Meanings) (s : State) (k : Kept) (g : Standing (Unit
   pub sound' : IsSound meaning' g
   pub functions' : meaning'.functions ≡ graph_functions F k.bodies
   pub built : ScopesBuilt (graph k.graph)
-  pub stays : GraphStays (arena_of k).given g.nodes.given (graph k.graph) (graph g)
+  pub stays : GraphStays (arena_of k).given g.nodes.given (graph k.graph) (left_by k.graph g)
   pub left : LeavesNodes (graph_functions F k.bodies) k.graph g before after
 
 -- the state beside the graph that it leaves, and who died
@@ -184,7 +185,7 @@ module _ (named : List ℕ → Option FnRef) (value : FnRef → List GraphValue 
       there : IsBindNode bind
       there = bind_node bind facts.0 facts.1 facts.2 facts.3
 
-      lost : IsBuiltOther k.graph g (node_in k.nodes bind) → Lost y (node_in k.nodes n) bind v
+      lost : IsBuiltOther (graph k.graph) (graph g) (node_in k.nodes bind) → Lost y (node_in k.nodes n) bind v
       lost other =
           let dead = c.left.killed (node_in k.nodes n) (node_in k.nodes bind) (direct facts.6 facts.7) other in
           let d = c.left.dead (node_in k.nodes n) facts.5 facts.6 dead in

@@ -10,19 +10,20 @@ use Rattle.inc_value.specs.declared.node.Point.{Point}
 use Rattle.inc_value.specs.declared.outcome.Outcome.{Outcome}
 use Rattle.inc_value.specs.declared.value.Value.{Value as GraphValue}
 use Rattle.inc_terms.specs.Depend.{Depends, gate, ghost, fixed, right, none_died, kids_of, main, change, subject_of, unfrozen}
-use Rattle.inc_terms.specs.Evaluate.{answer, GiveAll, NodeGives, Stands}
+use Rattle.inc_terms.specs.Evaluate.{answer, GiveAll, NodeGives, Of, Stands}
 use Rattle.inc_terms.specs.Graph.{Graph, Row, Def, Map, Fold, If, Join, Bind, Freeze, Expert}
 use Rattle.inc_terms.specs.Local.{PartExact, Exact, HasRun, Scoped, shown_of as shown_as}
 use Rattle.inc_terms.specs.Need.{Needed}
 use Rattle.inc_terms.specs.Term.{Functions}
 use Rattle.inc_terms.specs.Work.{cost_of, predicate_cost, predicate_kids}
+use Rattle.inc_terms.proofs.Evaluation.{one_outcome}
 use Rattle.inc_terms.proofs.Local.{needed_more}
+use Rattle.inc_terms.specs.Term as term
 use Rattle.inc_terms.proofs.Unfolding.{scope_stands}
+use Rattle.stabilizer.specs.Left.{IsObservedIn}
 use Rattle.graph.specs.Standing.{Standing, graph, in_use, shown_of, chosen_by, called_last}
-use Rattle.graph.specs.Stabilizes.{Stabilizes, IsObservedIn, left_by, died_by}
+use Rattle.graph.specs.Stabilizes.{Stabilizes, left_by, died_by}
 use Rattle.node_arena.specs.Arena.{Arena, row_at}
-use Rattle.node_outcomes.specs.Choosing.{built_by, built_in}
-use Rattle.point_map.specs.Rows.{at}
 use Rattle.script_model.specs.Formula.{State, Meanings}
 use Rattle.script_model.specs.Need as Need
 use Rattle.script_model.specs.Need.{Visit, IsVisit}
@@ -45,14 +46,6 @@ shown_in g n Change = chosen_by g n
 abbrev pub shown_at : {A : Type 0} → Standing A → Point → Option Outcome
 shown_at g p = shown_in g p.node p.part
 
--- a bind is built for the outcome by which its change chose last
-built_for : {A : Type 0} (g : Standing A) (n : NodeId) (r : Row) (l : NodeId) (f : FnRef) (caps : List NodeId) (o : Outcome) → row_at g.nodes n ≡ Some r
-    → r.def ≡ Bind l f caps → chosen_by g n ≡ Some o → (graph g).built n ≡ Some (record { outcome = o; root = at g.work.roots (change n) })
-built_for g n r l f caps o row def chosen =
-    ap (λ (x : Option Row). built_in x (chosen_by g n) (at g.work.roots (change n))) row
-    ∙ (ap (λ (x : Option Outcome). built_in (Some r) x (at g.work.roots (change n))) chosen
-    ∙ ap (λ (d : Def). built_by d (Some o) (at g.work.roots (change n))) def)
-
 -- what is needed once these observers have their roots, needs no one who died
 without_dead : (M : Functions) (G : Graph) (died : NodeId → Option NodeId) (p q : Point) → Depends M G none_died p q → Depends M G died p q
 without_dead M G died p q (gate row scope to) = gate row scope to
@@ -74,7 +67,7 @@ module _ {A : Type 0} (M : Functions) (old new : Standing A) (scoped : Scoped (g
   D = died_by old new
 
   abbrev IsObserved : Point → Type 0
-  IsObserved p = IsObservedIn M L D old p
+  IsObserved p = IsObservedIn M L D (in_use old.observers) p
 
   pub observed_without : (p : Point) → Needed M L none_died (in_use old.observers) p → IsObserved p
   observed_without p need = (need.0, need.1, reach_without M L D (main need.0) p need.2)
@@ -83,21 +76,24 @@ module _ {A : Type 0} (M : Functions) (old new : Standing A) (scoped : Scoped (g
   pub run_right : (n l : NodeId) (r : Row) (f : FnRef) (caps : List NodeId) → IsObserved (change n) → L.row n ≡ Some r → r.def ≡ Bind l f caps
       → HasRun M L (shown_at new) n (Bind l f caps) l
   run_right n l r f caps need row def =
-      let c = done.chose n l r row (ap (λ (d : Def). subject_of d) def) need in
-      let is = built_for new n r l f caps c.0 row def c.1 in
-      (c.0, c.1, c.2, (_, is, refl, rooted n r l f caps _ row def is))
+      let c = done.right.chose n l r row (ap (λ (d : Def). subject_of d) def) need in
+      let b = done.right.built n l r f caps row def need in
+      let rows : b.row ≡ r = (let e : Some b.row ≡ Some r = sym b.is_row ∙ row in cc) in
+      let lefts : b.left ≡ l = (let e : Bind b.left b.function b.captures ≡ Bind l f caps = sym b.is_bind ∙ (ap (λ (x : Row). x.def) rows ∙ def) in cc) in
+      let same = one_outcome M L (Of (term.Ref l)) b.built.outcome c.0 (subst (λ (x : NodeId). NodeGives M L x b.built.outcome) lefts b.gives) c.2 in
+      (c.0, c.1, c.2, (b.built, b.is_built, same, rooted n r l f caps b.built row def b.is_built))
 
   part_right : (n : NodeId) (part : Part) → IsObserved (record { node = n; part = part }) → (r : Row)
       → L.row n ≡ Some r → PartExact M L (shown_at new) n r.def part
-  part_right n Main need r row = let s = done.sees n need in (s.0, ap (λ (x : Option Row). shown_as x (shown_of new n)) row ∙ s.1, s.2)
+  part_right n Main need r row = let s = done.right.sees n need in (s.0, ap (λ (x : Option Row). shown_as x (shown_of new n)) row ∙ s.1, s.2)
   part_right n Change need r row = by_def r.def refl
     where
       by_def : (d : Def) → r.def ≡ d → PartExact M L (shown_at new) n d Change
       by_def (Bind l f caps) def = λ k is.
           let same : l ≡ k = cc in
           subst (λ (z : NodeId). HasRun M L (shown_at new) n (Bind l f caps) z) same (run_right n l r f caps need row def)
-      by_def (If t a b) def = λ k is. let c = done.chose n k r row (ap (λ (d : Def). subject_of d) def ∙ is) need in (c.0, c.1, c.2, tt)
-      by_def (Join t) def = λ k is. let c = done.chose n k r row (ap (λ (d : Def). subject_of d) def ∙ is) need in (c.0, c.1, c.2, tt)
+      by_def (If t a b) def = λ k is. let c = done.right.chose n k r row (ap (λ (d : Def). subject_of d) def ∙ is) need in (c.0, c.1, c.2, tt)
+      by_def (Join t) def = λ k is. let c = done.right.chose n k r row (ap (λ (d : Def). subject_of d) def ∙ is) need in (c.0, c.1, c.2, tt)
       by_def d def = λ k is. absurd (cc)
 
   -- the scope of what is needed stands, or as long a walk begins there, by scopes alone
@@ -126,7 +122,7 @@ module _ {A : Type 0} (M : Functions) (old new : Standing A) (scoped : Scoped (g
   needed_is_right p need r row = (
     elim (stands_or_walk 129 p need r row) [
       | inl st ↦ st
-      | inr w ↦ absurd (done.shallow p need w)
+      | inr w ↦ absurd (done.right.shallow p need w)
     ],
     part_right p.node p.part need r row,
   )
@@ -189,6 +185,6 @@ module _ {A : Type 0} (M : Functions) (old new : Standing A) (scoped : Scoped (g
       let h = visits_have_nodes z fits grabs (in_use old.observers) have (shown_at new)
       (λ p observed. needed_is_right M old new scoped rooted done p (observed_without M old new scoped rooted done p observed)) v is need in
       let m = called_on M (graph new) h.0 (map (graph_value (node_in nodes)) v.values) v.cost h.3.row.def h.3.values h.3.cost in
-      let c = done.recalls h.0 h.3.row m.kids (map (graph_value (node_in nodes)) v.values) ((done.needs (main h.0)).1 h.2) h.3.is_row m.takes
+      let c = done.right.recalls h.0 h.3.row m.kids (map (graph_value (node_in nodes)) v.values) ((done.right.needs (main h.0)).1 h.2) h.3.is_row m.takes
       m.give in
       record { node = h.0; is_node = h.1; row = h.3.row; is_row = h.3.is_row; call = c.0; is_last = c.1; values_are = c.2 }

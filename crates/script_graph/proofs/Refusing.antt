@@ -6,7 +6,7 @@ use Rattle.inc_value.specs.declared.value.Value.{Value as GraphValue}
 use Rattle.inc_terms.specs.Depend.{main}
 use Rattle.inc_terms.specs.Term.{Functions}
 use Rattle.graph.specs.Sound.{IsSound, IsWhole}
-use Rattle.graph.specs.Stabilizes.{HasCalledMet, LeavesNodes}
+use Rattle.graph.specs.Stabilizes.{HasCalledMet, LeavesNodes, left_by}
 use Rattle.graph.specs.Standing.{Standing, graph}
 use Rattle.node_outcomes.specs.Meaning.{Meaning}
 use Rattle.stabilize_round.specs.Laws.{GraphStays}
@@ -25,7 +25,7 @@ use Rattle.script_graph.proofs.Calling.{calls_within}
 use Rattle.script_graph.proofs.Functions.{functions_are}
 use Rattle.script_graph.proofs.Middle.{DeadGrabsGiven, IsStabilize, middle, fits_then}
 use Rattle.script_graph.proofs.Remembering.{meeting_is_covered}
-use Rattle.script_graph.proofs.Without.{sound_without, left_without}
+use Rattle.script_graph.proofs.Without.{sound_without}
 use Rattle.transfer.specs.Both.{Both}
 use Rattle.transfer.specs.Items.{Closed, FormulasStay, GrabsBind}
 use Rattle.transfer.proofs.Reaching.{met_closed}
@@ -45,7 +45,7 @@ pub record IsSessions {A : Type 0} (value : FnRef → List GraphValue → GraphV
   pub meaning' : Meaning
   pub sound' : IsSound meaning' new
   pub functions' : meaning'.functions ≡ functions_over value k.bodies
-  pub stays : GraphStays old.nodes.given new.nodes.given (graph old) (graph new)
+  pub stays : GraphStays old.nodes.given new.nodes.given (graph old) (left_by old new)
   pub before : Counts
   pub after : Counts
   pub left : LeavesNodes (functions_over value k.bodies) old new before after
@@ -94,10 +94,9 @@ module _ {A : Type 0} (named : List ℕ → Option FnRef) (value : FnRef → Lis
     sound' = sound_without c.meaning' new c.sound';
     functions' = c.functions' ∙ sym are;
     built = (stands.matches.settled moment_unbroken).built;
-    stays = kept_so (λ (h : Standing (Unit {0})). GraphStays h.nodes.given new.nodes.given (graph h) (graph new)) c.stays;
+    stays = kept_so (λ (h : Standing (Unit {0})). GraphStays h.nodes.given new.nodes.given (graph h) (left_by h (without_functions new))) c.stays;
     left = kept_so (λ (h : Standing (Unit {0})). LeavesNodes (graph_functions named_meanings k.bodies) h (without_functions new) c.before c.after)
-        (left_without (graph_functions named_meanings k.bodies) old new c.before c.after
-        (functions_so (λ (M : Functions). LeavesNodes M old new c.before c.after) c.left));
+        (functions_so (λ (M : Functions). LeavesNodes M old new c.before c.after) c.left);
   }
 
 -- ---- what was met

@@ -8,12 +8,13 @@ use Rattle.inc_value.specs.declared.node.Point.{Point}
 use Rattle.inc_value.specs.declared.value.Value.{Value as GraphValue}
 use Rattle.inc_terms.specs.Term as term
 use Rattle.inc_terms.specs.Term.{Functions}
-use Rattle.inc_terms.specs.Need.{Observing, Freezing, nodes_of, Held, Met as GraphMet}
+use Rattle.inc_terms.specs.Need.{Observing, Freezing, nodes_of, Held, Met as GraphMet, from_root, from_held}
 use Rattle.inc_terms.specs.Work.{WithinWork as GraphWork}
 use Rattle.inc_terms.proofs.Plan.{among_left, among_map}
+use Rattle.stabilizer.specs.Left.{StoodBeside, IsMetIn}
 use Rattle.graph.specs.Sound.{IsWhole}
-use Rattle.graph.specs.Stabilizes.{StoodBeside, IsMetIn, left_by, died_by}
-use Rattle.graph.specs.Standing.{Standing, graph, in_use, node_at, IsNeeded, cutoff_of}
+use Rattle.graph.specs.Stabilizes.{left_by, died_by}
+use Rattle.graph.specs.Standing.{look, Standing, graph, in_use, node_at, IsNeeded, cutoff_of}
 use Rattle.map_nodes.specs.declared.cutoff.Cutoff.{Cutoff}
 use Rattle.map_nodes.specs.declared.cutoff.Cutoff.TheVariants.{Equal, Never}
 use Rattle.node_arena.specs.Arena.{row_at}
@@ -34,7 +35,6 @@ use Rattle.script_graph.proofs.Leaving.{scopes_stay}
 use Rattle.script_graph.proofs.Looking.{roots_are, among_image, same_name}
 use Rattle.script_graph.proofs.Middle.{IsStabilize, middle, given, fits_then}
 use Rattle.script_graph.proofs.Watching.{roots_are_in}
-use Rattle.script_graph.proofs.Without.{met_more}
 use Rattle.transfer.specs.Both.{Both}
 use Rattle.transfer.specs.Holding.{ScopesStay, Later, HoldersAre, LastKept, MarksAreNew, Remembers}
 use Rattle.transfer.specs.Items.{node_at as place_node, CoveredBy, RootsAre}
@@ -89,6 +89,12 @@ observed_root s z among =
     (among_map (λ (x : Observer). Named x.target) z s.observers among)
 
 -- ---- the last accepted stabilize
+
+-- more that was held, more is met
+met_more : (M : Functions) (G : Graph) (died : NodeId → Option NodeId) (observed : List NodeId) (held more : Point → Type 0)
+    → ((p : Point) → held p → more p) → (p : Point) → GraphMet M G died observed held p → GraphMet M G died observed more p
+met_more M G died observed held more all p (from_root root on) = from_root root on
+met_more M G died observed held more all p (from_held {h} was row stands on) = from_held (all h was) row stands on
 
 not_never : (c : Cutoff) → c ≡ Equal → is_never c ≡ true → ⊥
 not_never Equal e never = cc
@@ -221,7 +227,7 @@ module _ (named : List ℕ → Option FnRef) (value : FnRef → List GraphValue 
   roots_now = subst (RootsAre y) (sym (observed_nodes 0 k.graph.observers)) observed_are_roots
 
   -- what the graph meets is covered by what the script meets
-  pub meeting_is_covered : (p : Point) → IsMetIn M (left_by k.graph g) (died_by k.graph g) k.graph p → CoveredBy y (Met F before s) p
+  pub meeting_is_covered : (p : Point) → IsMetIn M (left_by k.graph g) (died_by k.graph g) (look k.graph) (in_use k.graph.observers) p → CoveredBy y (Met F before s) p
   meeting_is_covered p met =
       met_is_covered left y (side_of k.graph) (observed_by k.graph) remembers fits stands.valid.1 c.held.apart roots_now p
       (subst (λ (ns : List NodeId). GraphMet M y.graph y.died ns (Held (side_of k.graph) (observed_by k.graph)) p)
@@ -229,7 +235,7 @@ module _ (named : List ℕ → Option FnRef) (value : FnRef → List GraphValue 
       (met_more M y.graph y.died (in_use k.graph.observers) (IsNeeded k.graph)
       (Held (side_of k.graph) (observed_by k.graph)) (needed_held k.graph whole.roots) p met))
 
-  pub stood : StoodBeside (side_of k.graph) k.graph (observed_by k.graph)
+  pub stood : StoodBeside (side_of k.graph) (look k.graph) (observed_by k.graph)
   stood = stood_beside k.graph whole.roots
 
   pub observed_among : (n : NodeId) → Among n (in_use k.graph.observers) → Among n (nodes_of (observed_by k.graph))

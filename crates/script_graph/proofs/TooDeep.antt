@@ -9,9 +9,11 @@ use Rattle.inc_value.specs.declared.node.Point.{Point}
 use Rattle.inc_value.specs.declared.value.Value.{Value as GraphValue}
 use Rattle.inc_terms.specs.Graph.{Graph, Row}
 use Rattle.inc_terms.specs.Term.{Functions}
+use Rattle.stabilizer.specs.Look.{Look}
+use Rattle.stabilizer.specs.Left.{IsListedIn, IsLawfulIn}
 use Rattle.graph.specs.Sound.{IsWhole}
-use Rattle.graph.specs.Stabilizes.{IsRefusedFor, HasCalledMet, IsListedIn, IsLawfulIn, left_by, died_by}
-use Rattle.graph.specs.Standing.{Standing, IsOwner, graph}
+use Rattle.graph.specs.Stabilizes.{IsRefusedFor, HasCalledMet, left_by, died_by}
+use Rattle.graph.specs.Standing.{in_use, look, Standing, IsOwner, graph}
 use Rattle.graph.specs.Fault.{kept_of}
 use Rattle.graph.specs.declared.fault.Kept.TheVariants as fault
 use Rattle.script_model.specs.Blocked.{IsPrintedFor, own, of_bind}
@@ -36,7 +38,6 @@ use Rattle.script_graph.proofs.Owner.{IsTooDeepAt, deep_owner}
 use Rattle.script_graph.proofs.Owning.{aged_name}
 use Rattle.script_graph.proofs.Refusing.{IsSessions, grabs_before, formulas_stay, met_is_closed, kept_so, functions_so, moment_unbroken, stabilize_of}
 use Rattle.script_graph.proofs.Remembering.{meeting_is_covered}
-use Rattle.script_graph.proofs.Without.{lawful_without}
 use Rattle.wiring.specs.declared.refused.Refused.{Refused}
 use Rattle.wiring.specs.declared.refused.Refused.TheVariants as refused
 use Rattle.transfer.specs.Both.{Both}
@@ -126,7 +127,7 @@ module _ (named : List ℕ → Option FnRef) (value : FnRef → List GraphValue 
 
   -- ---- the chain
 
-  listed_is_deep : (points : List Point) → IsListedIn (graph_functions F k.bodies) (left_by k.graph g) (died_by k.graph g) k.graph points → length points ≡ 130
+  listed_is_deep : (points : List Point) → IsListedIn (graph_functions F k.bodies) (left_by k.graph g) (died_by k.graph g) (look k.graph) (in_use k.graph.observers) points → length points ≡ 130
       → NoRepeats points → (p : Point) → StartsAt points p → Tells p.node
   listed_is_deep [] listed long once p starts = absurd starts
   listed_is_deep (q ∷ rest) listed long once p starts =
@@ -138,7 +139,7 @@ module _ (named : List ℕ → Option FnRef) (value : FnRef → List GraphValue 
 
   -- where the chain begins an item is too deep
   begins_deep : (met : Option Refused) (r : Refused) → met ≡ Some r
-      → IsLawfulIn (graph_functions F k.bodies) (left_by k.graph g) (died_by k.graph g) k.graph r → (p : Point) → ChainBegins met p → Tells p.node
+      → IsLawfulIn (graph_functions F k.bodies) (left_by k.graph g) (died_by k.graph g) (look k.graph) (in_use k.graph.observers) r → (p : Point) → ChainBegins met p → Tells p.node
   begins_deep None r e lawful p begins = absurd begins
   begins_deep (Some (refused.Height points)) (refused.Height others) e lawful p begins =
       let same : points ≡ others = cc in
@@ -192,13 +193,13 @@ long_begins : (points : List Point) → length points ≡ 130 → (p : Point) ×
 long_begins [] long = absurd (cc)
 long_begins (p ∷ rest) long = (p, refl)
 
-chain_begins : {A : Type 0} (M : Functions) (G : Graph) (died : NodeId → Option NodeId) (g : Standing A) (refused : Option Refused) (met : Refused)
-    → refused ≡ Some met → kept_of met ≡ fault.Height → IsLawfulIn M G died g met → (p : Point) × ChainBegins refused p
-chain_begins M G died g None met e cause lawful = absurd (cc)
-chain_begins M G died g (Some (refused.Height points)) (refused.Height others) e cause lawful =
+chain_begins : (M : Functions) (G : Graph) (died : NodeId → Option NodeId) (before : Look) (observed : List NodeId) (refused : Option Refused) (met : Refused)
+    → refused ≡ Some met → kept_of met ≡ fault.Height → IsLawfulIn M G died before observed met → (p : Point) × ChainBegins refused p
+chain_begins M G died before observed None met e cause lawful = absurd (cc)
+chain_begins M G died before observed (Some (refused.Height points)) (refused.Height others) e cause lawful =
     let same : points ≡ others = cc in
     long_begins points.items (subst (λ (v : _). length v.items ≡ 130) (sym same) lawful.1)
-chain_begins M G died g (Some met) r e cause lawful = absurd (cc)
+chain_begins M G died before observed (Some met) r e cause lawful = absurd (cc)
 
 module _ {A : Type 0} (named : List ℕ → Option FnRef) (value : FnRef → List GraphValue → GraphValue) (k : Kept) (old new : Standing A)
     (c : IsSessions value k old new) (done : IsRefusedFor (functions_over value k.bodies) old new fault.Height) (m : Moment)
@@ -212,13 +213,13 @@ module _ {A : Type 0} (named : List ℕ → Option FnRef) (value : FnRef → Lis
   abbrev bare : Standing (Unit {0})
   bare = without_functions new
 
-  lawful : IsLawfulIn Ms (left_by k.graph bare) (died_by k.graph bare) k.graph done.met
-  lawful = kept_so named value k old new c m stands (λ (h : Standing (Unit {0})). IsLawfulIn Ms (left_by h bare) (died_by h bare) h done.met)
-      (lawful_without Ms (left_by old new) (died_by old new) old done.met
-      (functions_so named value k old new c m stands (λ (N : Functions). IsLawfulIn N (left_by old new) (died_by old new) old done.met) done.lawful))
+  lawful : IsLawfulIn Ms (left_by k.graph bare) (died_by k.graph bare) (look k.graph) (in_use k.graph.observers) done.met
+  lawful = kept_so named value k old new c m stands (λ (h : Standing (Unit {0})). IsLawfulIn Ms (left_by h bare) (died_by h bare) (look h)
+      (in_use h.observers) done.met) (functions_so named value k old new c m stands
+      (λ (N : Functions). IsLawfulIn N (left_by old new) (died_by old new) (look old) (in_use old.observers) done.met) done.lawful)
 
   begins : (p : Point) × ChainBegins new.refused p
-  begins = chain_begins Ms (left_by k.graph bare) (died_by k.graph bare) k.graph new.refused done.met done.broken done.is_cause lawful
+  begins = chain_begins Ms (left_by k.graph bare) (died_by k.graph bare) (look k.graph) (in_use k.graph.observers) new.refused done.met done.broken done.is_cause lawful
 
   abbrev call : IsStabilize Means m.present k bare
   call = stabilize_of named value k old new c m stands

@@ -3,7 +3,7 @@ use Rattle.std.proofs.Common.{◌≡◌, ◌+◌, ◌<◌, ◌≤◌, ◌^◌, �
 use Rattle.std.specs.Prelude.{sum_by}
 use Rattle.graph.specs.Few.{ListsTops}
 use Rattle.graph.specs.Sound.{IsSound as IsSoundGraph}
-use Rattle.graph.specs.Stabilizes.{HasCalledMet, IsRefusedFor, LeavesNodes}
+use Rattle.graph.specs.Stabilizes.{left_by, HasCalledMet, IsRefusedFor, LeavesNodes}
 use Rattle.graph.specs.Standing.{IsUnbroken, Standing, graph, without_functions}
 use Rattle.graph.specs.declared.fault.Kept.TheVariants as cause
 use Rattle.graph.specs.declared.fault.Kept.{Kept as Cause}
@@ -48,7 +48,7 @@ module _ {A : Type 0} (maps maps' : FnRef → Bool) (k : Kept) (bodies : List Bo
     (before after : Counts) (sound : IsSound k) (same : k.graph ≡ without_functions old)
     (knows : SameKnown (is_known maps (makers k.bodies)) (is_known maps' (makers bodies)))
     (sides : SameSides (side_in (makers k.bodies)) (side_in (makers bodies))) (arena : arenas.IsSound old.nodes)
-    (stays : GraphStays old.nodes.given new.nodes.given (graph old) (graph new))
+    (stays : GraphStays old.nodes.given new.nodes.given (graph old) (left_by old new))
     (left : LeavesNodes (functions_over value k.bodies) old new before after) (observers : new.observers ≡ old.observers) where
   -- the bodies make what those made that were kept
   pub made : makers bodies ≡ makers k.bodies
@@ -73,7 +73,7 @@ module _ {L A : Type 0} (named : L → List ℕ → Option FnRef) (value : L →
     (l l' : L) (builds builds' : ℕ) (k : Kept) (bodies : List Body) (old new : Standing A) (before after : Counts) (sound : IsSound k)
     (same : k.graph ≡ without_functions old) (knows : SameKnown (is_known (known l) (makers k.bodies)) (is_known (known l') (makers bodies)))
     (sides : SameSides (side_in (makers k.bodies)) (side_in (makers bodies)))
-    (stays : GraphStays old.nodes.given new.nodes.given (graph old) (graph new))
+    (stays : GraphStays old.nodes.given new.nodes.given (graph old) (left_by old new))
     (left : LeavesNodes (functions_over (value l) k.bodies) old new before after) (observers : new.observers ≡ old.observers)
     (unbroken : k.broken ≡ None) (W W' : Meaning) (sound_old : IsSoundGraph W old) (functions : W.functions ≡ functions_over (value l) k.bodies)
     (sound_new : IsSoundGraph W' new) (functions' : W'.functions ≡ functions_over (value l') bodies) (names : SameNames (named l) (named l'))

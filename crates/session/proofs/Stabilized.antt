@@ -7,7 +7,7 @@ use Rattle.std.proofs.Math.Path.{fun_ext}
 use Rattle.stabilize_round.specs.Counts.{last_count}
 use Rattle.graph.specs.Fault.{kept_of}
 use Rattle.graph.specs.Sound.{IsSound as IsSoundGraph}
-use Rattle.graph.specs.Stabilizes.{IsRefusedFor, LeavesNodes}
+use Rattle.graph.specs.Stabilizes.{left_by, IsRefusedFor, LeavesNodes}
 use Rattle.graph.specs.Standing.{Standing, graph, IsUnbroken, node_at}
 use Rattle.graph.specs.declared.fault.Kept.{Kept as Cause}
 use Rattle.graph.specs.declared.fault.Kept.TheVariants as cause
@@ -59,7 +59,7 @@ abbrev counted : List Body → Option Row → ℕ
 counted bodies row = elim row [ None ↦ 0 | Some r ↦ weight_of bodies r.def ]
 
 module _ {A : Type 0} (M : Functions) (old new : Standing A) (before after : Counts) (arena : arenas.IsSound old.nodes)
-    (stays : GraphStays old.nodes.given new.nodes.given (graph old) (graph new)) (left : LeavesNodes M old new before after) where
+    (stays : GraphStays old.nodes.given new.nodes.given (graph old) (left_by old new)) (left : LeavesNodes M old new before after) where
   given_old : (n : NodeId) (r : Row) → row_at old.nodes n ≡ Some r → Given old.nodes.given n
   given_old n r is = arena.given n (ap is_some is)
 
@@ -237,7 +237,7 @@ same_functions value value' ms ms' values made =
 pub of_sessions : {A : Type 0} (value value' : FnRef → List GraphValue → GraphValue) (k : Kept) (bodies : List Body) (old new : Standing A) (W W' : Meaning)
     (before after : Counts) → k.graph ≡ without_functions old → k.broken ≡ None → IsSound k → IsSoundGraph W old → W.functions ≡ functions_over value k.bodies
     → IsSoundGraph W' new → W'.functions ≡ functions_over value' bodies → SameValues (seen_value value) (seen_value value') → makers bodies ≡ makers k.bodies
-    → GraphStays old.nodes.given new.nodes.given (graph old) (graph new) → LeavesNodes (functions_over value k.bodies) old new before after
+    → GraphStays old.nodes.given new.nodes.given (graph old) (left_by old new) → LeavesNodes (functions_over value k.bodies) old new before after
     → IsSessions value k old new
 of_sessions value value' k bodies old new W W' before after same unbroken kept sound functions sound' functions' values made stays left = record {
   same = same;

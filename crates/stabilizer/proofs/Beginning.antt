@@ -29,7 +29,8 @@ use Rattle.stabilize_round.specs.Machine.{Entry}
 use Rattle.stabilize_round.specs.State.{State, Start}
 use Rattle.node_outcomes.specs.Computing.{has_part}
 use Rattle.wiring.specs.Kept.{IsKept}
-use Rattle.stabilizer.specs.Round.{IsReady, last_of, last_call, never_at}
+use Rattle.stabilizer.specs.Look.{last_of, last_call, never_at}
+use Rattle.stabilizer.specs.Round.{IsReady}
 use Rattle.node_outcomes.specs.Row.{never_in}
 use Rattle.wiring.specs.Stands.{Stands, Counts}
 use Rattle.stabilizer.specs.declared.parts.Parts.{Parts}

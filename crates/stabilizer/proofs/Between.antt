@@ -44,7 +44,8 @@ use Rattle.stabilizer.specs.Between.{IsBetween, Stays, out_of}
 use Rattle.wiring.specs.Deciding.{is_needed}
 use Rattle.wiring.specs.Kept.{IsKept}
 use Rattle.stabilizer.specs.Kept.{PartsKept}
-use Rattle.stabilizer.specs.Round.{IsReady, last_of, last_call}
+use Rattle.stabilizer.specs.Look.{last_of, last_call}
+use Rattle.stabilizer.specs.Round.{IsReady}
 use Rattle.stabilizer.specs.declared.parts.Parts.{Parts}
 use Rattle.wiring.specs.Stands.{Stands}
 use Rattle.node_outcomes.specs.declared.row.Progress.{Progress}

@@ -5,9 +5,7 @@ use Rattle.inc_value.specs.declared.node.NodeId.{NodeId}
 use Rattle.inc_value.specs.declared.node.Point.{Point}
 use Rattle.inc_terms.specs.Depend.{main, change}
 use Rattle.inc_terms.specs.Graph.{Graph}
-use Rattle.inc_terms.specs.Need.{Met}
 use Rattle.inc_terms.specs.Term.{Functions}
-use Rattle.necessary_graph.specs.Part as part
 use Rattle.node_arena.specs.Arena.{Arena}
 use Rattle.node_outcomes.specs.Meaning.{Meaning}
 use Rattle.stabilize_round.specs.Invariant.{MetNow}
@@ -15,9 +13,11 @@ use Rattle.stabilize_round.specs.State.{State}
 use Rattle.wiring.specs.Stands.{Hand, Stands, Counts}
 use Rattle.wiring.specs.declared.refused.Refused.{Refused}
 use Rattle.wiring.specs.declared.refused.Refused.TheVariants.{Height, Cycle, Full, Memory}
+use Rattle.stabilizer.specs.Left.{IsMetIn, RefusesBuild}
+use Rattle.stabilizer.specs.Look.{look_between}
 use Rattle.stabilizer.specs.Building.{StopsBuilding}
 use Rattle.stabilizer.specs.Kept.{graph_in}
-use Rattle.stabilizer.specs.Round.{AreRooted, OnlyRoots, Pauses, BuildsRight, BuildsAllBut, RefusesBuild, died_by}
+use Rattle.stabilizer.specs.Round.{AreRooted, OnlyRoots, Pauses, BuildsRight, BuildsAllBut, died_by}
 use Rattle.stabilizer.specs.declared.parts.Parts.{Parts}
 use Rattle.stabilizer.proofs.Beginning.{Begun}
 use Rattle.stabilizer.proofs.Ending.{as_graph}
@@ -44,7 +44,7 @@ module _ (F : Functions) (old new : Parts) (before after : Counts) (b : Begun F 
   abbrev last : State
   last = record u { graph = G; died = D }
 
-  is_met : (p : Point) → MetNow F b.start G D u.root p → Met F G D (nodes ++ observed) (λ (q : Point). part.Needed old.work.graph q) p
+  is_met : (p : Point) → MetNow F b.start G D u.root p → IsMetIn F G D (look_between old) (nodes ++ observed) p
   is_met p h = met_as F old new before after b left u stands nodes observed only rooted p h
 
   told : (x : Option NodeId) → BuildsLeft F b.start b.state u x → BuildsLeft F b.start first last x

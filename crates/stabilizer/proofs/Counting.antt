@@ -11,31 +11,31 @@ use Rattle.inc_terms.specs.Graph.{Graph}
 use Rattle.inc_terms.specs.Need.{IsRoot, Beside, Observed, nodes_of, Held, Met, from_root, from_held}
 use Rattle.inc_terms.specs.Term.{Functions}
 use Rattle.inc_terms.specs.Work.{Visit, HasReason, other, passed, IsDueVisit, WithinWork}
-use Rattle.necessary_graph.specs.Part.{Needed}
+use Rattle.node_outcomes.specs.Row.{is_never}
 use Rattle.stabilize_round.specs.Calling as why
 use Rattle.stabilize_round.specs.Calling.{Reason, cost_at, costs_of}
 use Rattle.stabilize_round.proofs.Calling.{kids_taken, cost_of_taken}
 use Rattle.stabilize_round.specs.Calls.{arguments_of}
 use Rattle.stabilize_round.specs.State.{Call}
-use Rattle.stabilizer.specs.Round.{last_call, never_at, settled_by, StoodBeside, WasCalledIn}
-use Rattle.wiring.specs.declared.work.Work.{Work}
+use Rattle.stabilizer.specs.Left.{StoodBeside, IsMetIn, WasCalledIn}
+use Rattle.stabilizer.specs.Look.{Look}
 
-module _ (F : Functions) (G : Graph) (died : NodeId → Option NodeId) (old new : Work) (observed : List NodeId)
+module _ (F : Functions) (G : Graph) (died : NodeId → Option NodeId) (old new : Look) (observed : List NodeId)
     (roots : (n : NodeId) → IsRoot G observed n → Among n observed) (before : Beside) (observers : List Observed)
     (stood : StoodBeside before old observers) (looks : (n : NodeId) → Among n observed → Among n (nodes_of observers)) where
   -- a node whose function was called, in a scope that stands
   abbrev pub Called : NodeId → Type 0
   Called n = (c : WasCalledIn F G died old new observed n) × Stands F G c.due.row.scope
 
-  is_met : (p : Point) → Met F G died observed (λ (q : Point). Needed old.graph q) p → Met F G died (nodes_of observers) (Held before observers) p
+  is_met : (p : Point) → IsMetIn F G died old observed p → Met F G died (nodes_of observers) (Held before observers) p
   is_met p (from_root {n} root way) = from_root (inl (looks n (roots n root))) way
   is_met p (from_held {h} held row stands way) = from_held (stood.held h held) row stands way
 
   visit_of : (n : NodeId) → Called n → Visit
   visit_of n c = record { node = n; values = c.0.due.values; cost = cost_at G n }
 
-  other_arguments : (n : NodeId) (c : Called n) → ((k : Call) → last_call old n ≡ Some k → k.arguments ≡ c.0.due.values → ⊥) → (x : Option Call)
-      → last_call old n ≡ x → before.last n ≡ Some c.0.due.values → ⊥
+  other_arguments : (n : NodeId) (c : Called n) → ((k : Call) → old.last n ≡ Some k → k.arguments ≡ c.0.due.values → ⊥) → (x : Option Call)
+      → old.last n ≡ x → before.last n ≡ Some c.0.due.values → ⊥
   other_arguments n c differs None e last =
       let k : before.last n ≡ None = stood.last n ∙ ap arguments_of e in let x : None ≡ Some c.0.due.values = sym k ∙ last in cc
   other_arguments n c differs (Some call) e last =
@@ -47,11 +47,11 @@ module _ (F : Functions) (G : Graph) (died : NodeId → Option NodeId) (old new 
   unfolding visit_of
   reason_of n c = by_reason c.0.due.reason
     where
-      by_reason : Reason (last_call old) (never_at old) (settled_by old.round new) (λ (m : NodeId). false) n c.0.due.nodes c.0.due.values
+      by_reason : Reason old.last (λ (m : NodeId). is_never (old.cutoff m)) new.settled (λ (m : NodeId). false) n c.0.due.kids c.0.due.values
           → HasReason G before (visit_of n c)
-      by_reason (why.other differs) = other (λ last. other_arguments n c differs (last_call old n) refl last)
+      by_reason (why.other differs) = other (λ last. other_arguments n c differs (old.last n) refl last)
       by_reason (why.forced {kid} a never settled) = passed {r = c.0.due.row} {kid = kid} c.0.due.is_row
-          (subst (λ (ks : List NodeId). Among kid ks) (sym (kids_taken G n c.0.due.row.def c.0.due.nodes c.0.due.takes)) a) (stood.never kid ∙ never)
+          (subst (λ (ks : List NodeId). Among kid ks) (sym (kids_taken G n c.0.due.row.def c.0.due.kids c.0.due.takes)) a) (stood.never kid ∙ never)
       by_reason (why.made_stale marked) = absurd (cc)
 
   due : (n : NodeId) (c : Called n) → IsDueVisit F G died observers before (visit_of n c)
@@ -61,8 +61,8 @@ module _ (F : Functions) (G : Graph) (died : NodeId → Option NodeId) (old new 
       row = c.0.due.row;
       is_row = c.0.due.is_row;
       stands = c.1;
-      values = subst (λ (ks : List NodeId). GiveAll F G ks c.0.due.values) (sym (kids_taken G n c.0.due.row.def c.0.due.nodes c.0.due.takes)) c.0.due.gives;
-      cost = cost_of_taken G n c.0.due.row c.0.due.nodes c.0.due.is_row c.0.due.takes;
+      values = subst (λ (ks : List NodeId). GiveAll F G ks c.0.due.values) (sym (kids_taken G n c.0.due.row.def c.0.due.kids c.0.due.takes)) c.0.due.gives;
+      cost = cost_of_taken G n c.0.due.row c.0.due.kids c.0.due.is_row c.0.due.takes;
     };
     met = is_met (main n) c.0.due.met;
     reason = reason_of n c;

@@ -18,7 +18,8 @@ use Rattle.stabilize_round.proofs.Points.{same_or_other, node_or_other}
 use Rattle.wiring.specs.Kept.{IsKept}
 use Rattle.wiring.specs.Places.{ChangesNode, for_parts}
 use Rattle.stabilizer.specs.Kept.{PartsKept}
-use Rattle.stabilizer.specs.Round.{IsReady, never_at, cutoff_at}
+use Rattle.stabilizer.specs.Look.{never_at, cutoff_at}
+use Rattle.stabilizer.specs.Round.{IsReady}
 use Rattle.stabilizer.specs.declared.parts.Parts.{Parts}
 use Rattle.node_outcomes.specs.Row.{IsRewritten, with_cutoff, settled_in, stage_of, never_in, cutoff_in}
 use Rattle.wiring.specs.Stands.{Stands, counts_of}

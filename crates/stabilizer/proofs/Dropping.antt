@@ -25,7 +25,8 @@ use Rattle.stabilizer.specs.Kept.{PartsKept}
 use Rattle.stabilizer.specs.declared.parts.Parts.{Parts}
 use Rattle.wiring.specs.Places.{ChangesNode}
 use Rattle.map_nodes.specs.declared.cutoff.Cutoff.TheVariants.{Equal}
-use Rattle.stabilizer.specs.Round.{IsReady, cutoff_at}
+use Rattle.stabilizer.specs.Look.{cutoff_at}
+use Rattle.stabilizer.specs.Round.{IsReady}
 use Rattle.node_outcomes.specs.declared.row.Progress.{Progress}
 use Rattle.wiring.specs.declared.work.Work.{Work}
 use Rattle.node_lists.specs.Listed.{Listed}

@@ -1,11 +1,12 @@
 -- A round ends: what is needed is up to date, and another round may begin.
-use Rattle.std.proofs.Common.{◌≡◌, ◌⊎◌, inl, inr, ℕ, suc, Bool, ◌<◌, ◌≤◌, ◌+◌, ◌++◌, true, false, List, [], ◌∷◌, map, Option, None, Some, refl, sym, ap, subst, ◌∙◌, arith}
+use Rattle.std.proofs.Common.{◌≡◌, ◌-◌, ◌⊎◌, inl, inr, ℕ, suc, Bool, ◌<◌, ◌≤◌, ◌+◌, ◌++◌, true, false, List, [], ◌∷◌, map, Option, None, Some, refl, sym, ap, subst, ◌∙◌, arith}
 use Rattle.std.specs.Prelude.{is_some, ◌↔◌, ◌==◌, reverse}
 use Rattle.std.proofs.lemmas.Grind.{common_steps}
 use Rattle.std.proofs.lemmas.List.{reverse-append}
 use Rattle.std.proofs.lemmas.List.Sums.{sum_by-cons, sum_by_push}
 use Rattle.std.proofs.Math.Path.{fun_ext}
 use Rattle.std.specs.List.{sum_by}
+use Rattle.inc_value.specs.declared.function.FnRef.{FnRef}
 use Rattle.inc_value.specs.declared.node.NodeId.{NodeId}
 use Rattle.inc_value.specs.declared.node.Part.TheVariants.{Main, Change}
 use Rattle.inc_value.specs.declared.node.Point.{Point}
@@ -15,10 +16,10 @@ use Rattle.inc_value.specs.declared.value.Value.{Value}
 use Rattle.inc_value.specs.Choice.{Among, NoRepeats, Reaches}
 use Rattle.inc_terms.specs.Depend.{Depends, main, change, subject_of, none_died, died_in, scope_lost, fixed, fixed_reads}
 use Rattle.inc_terms.specs.Evaluate.{Of, Values, gathered, NodeGives, GiveAll, Stands as ScopeStands}
-use Rattle.inc_terms.specs.Graph.{Graph, Row}
+use Rattle.inc_terms.specs.Graph.{Graph, Row, Def, Bind}
 use Rattle.inc_terms.specs.Local.{shown, by_sight, Sees, Agrees}
 use Rattle.inc_terms.specs.Local as sight
-use Rattle.inc_terms.specs.Need.{IsRoot, Needed, Met, from_root, from_held}
+use Rattle.inc_terms.specs.Need.{IsRoot, Needed, from_root, from_held}
 use Rattle.inc_terms.specs.Term as term
 use Rattle.inc_terms.specs.Term.{Functions, refs}
 use Rattle.inc_terms.specs.Within.{FunctionLaws}
@@ -36,11 +37,13 @@ use Rattle.necessary_graph.specs.Part.{IsInStep}
 use Rattle.recompute_heap.specs.Agree.{IsEmpty}
 use Rattle.node_arena.specs.Arena.{Arena, row_at}
 use Rattle.node_arena.specs.Graph.{AllCallFit, Holdings, graph_of}
+use Rattle.node_outcomes.specs.Choosing.{built_by, built_in}
 use Rattle.node_outcomes.specs.Computing.{seen, seen_of, has_part}
 use Rattle.node_outcomes.specs.Meaning.{Meaning}
 use Rattle.node_outcomes.specs.Row.{settled_in, is_never, cutoff_in, outcome_in}
 use Rattle.node_outcomes.specs.declared.row.Progress.{Progress}
 use Rattle.stabilize_round.specs.Calling.{cost_at, costs_of}
+use Rattle.stabilize_round.specs.Runs.{IsBuiltRight}
 use Rattle.stabilize_round.proofs.Reasons.{reason_more, since_start}
 use Rattle.stabilize_round.specs.Closing.{next_start}
 use Rattle.stabilize_round.specs.Counts.{RoseBy}
@@ -67,8 +70,11 @@ use Rattle.wiring.specs.declared.work.Work.{Work}
 use Rattle.wiring.proofs.Agreeing.{no_freeze}
 use Rattle.wiring.proofs.Deciding.{decides_needed}
 use Rattle.wiring.specs.Graph.{graph_at}
+use Rattle.stabilizer.specs.Left.{IsMetIn, WasCalledIn, IsUpToDateIn}
+use Rattle.stabilizer.specs.Look.{Look, look_between, IsNeeded, last_of, last_call, cutoff_at}
+use Rattle.stabilizer.proofs.Looking.{look_needs, work_needs}
 use Rattle.stabilizer.specs.Kept.{graph_in, PartsKept}
-use Rattle.stabilizer.specs.Round.{settled_by, WasCalledIn, IsUpToDateIn, IsUpToDate, IsReady, AreRooted, last_of, last_call, cutoff_at, died_by}
+use Rattle.stabilizer.specs.Round.{IsUpToDate, IsReady, AreRooted, died_by}
 use Rattle.stabilizer.specs.declared.parts.Parts.{Parts}
 use Rattle.stabilizer.proofs.Beginning.{Begun, BegunOf, main_there}
 use Rattle.stabilizer.proofs.Counting.{within}
@@ -455,7 +461,17 @@ module _ (M : Meaning) (old mid : Parts) (before after : Counts) (first : PartsK
 
     -- ---- what is up to date
 
-    module _ (same_round : mid.work.round ≡ old.work.round) (observed : List NodeId) (rooted : AreRooted mid.work observed) where
+    abbrev after_look : Look
+    after_look = look_between next_parts
+
+    -- the round had this number
+    this_round : next.round - 1 ≡ mid.work.round
+    this_round = omega (arith, round)
+
+    kept_needs : (p : Point) → IsNeeded after_look p → part.Needed new.graph p
+    kept_needs p need = work_needs (next.round - 1) arena next p need
+
+    module _ (observed : List NodeId) (rooted : AreRooted mid.work observed) where
       are : RootsAre last observed
       are = record {
         on = λ n root. subst (λ (k : ℕ). 0 < k) (sym (stands.root (main n) ∙ rooted (main n)))
@@ -495,6 +511,25 @@ module _ (M : Meaning) (old mid : Parts) (before after : Counts) (first : PartsK
           kept.work.rows (change n) ∙ (ap (λ (y : Option Row). has_part y Change) row ∙ ap is_some subject) in
           (now.0, shows (at work.rows (change n)) (t.out (change n)) there (λ k e. stands.out (change n) k e) ∙ now.1, now.2)
 
+      -- a bind is built for it
+      built : (n m : NodeId) (x : Row) (f : FnRef) (captures : List NodeId) → row_at arena n ≡ Some x → x.def ≡ Bind m f captures
+          → IsWanted (change n) → IsBuiltRight F G n
+      built n m x f captures row def want =
+          let now = chose n m x row (ap (λ (d : Def). subject_of d) def) want in
+          let root = at work.roots (change n) in
+          record {
+            row = x;
+            left = m;
+            function = f;
+            captures = captures;
+            built = record { outcome = now.0; root = root };
+            is_row = row;
+            is_bind = def;
+            is_built = ap (λ (y : Option Row). built_in y (outcome_in (at work.rows (change n))) root) row
+                ∙ (ap (λ (o : Option Outcome). built_in (Some x) o root) now.1 ∙ ap (λ (d : Def). built_by d (Some now.0) root) def);
+            gives = now.2;
+          }
+
       -- ---- what is needed then
 
       abbrev IsNeededThen : Point → Type 0
@@ -528,20 +563,20 @@ module _ (M : Meaning) (old mid : Parts) (before after : Counts) (first : PartsK
           let c = ended_again.recalls (main n) ((decides (main n)).1 need) x nodes values row refl def all in
           (c.0, last_is n x row ∙ c.1, c.2)
 
-      is_met : (p : Point) → MetNow F z G D t.root p → Met F G D observed (λ (q : Point). part.Needed old.work.graph q) p
+      is_met : (p : Point) → MetNow F z G D t.root p → IsMetIn F G D (look_between old) observed p
       is_met p (invariant.from_root {r = top} root way) =
           let l = are.listed top root in
           from_root l.1 (subst (λ (y : Point). Reaches (Depends F G D) y p) l.2 way)
-      is_met p (invariant.from_held {h} held row stand way) = from_held ((b.held h).0 held) row stand way
+      is_met p (invariant.from_held {h} held row stand way) = from_held (look_needs (old.work.round - 1) old.arena old.work h ((b.held h).0 held)) row stand way
 
-      settled_then : (q : Point) → t.settled q ≡ true → settled_by old.work.round next q ≡ true
-      settled_then q settled = sym (ap (λ (k : ℕ). settled_in k (at work.rows q)) same_round) ∙ (sym (stands.settled q) ∙ settled)
+      settled_then : (q : Point) → t.settled q ≡ true → after_look.settled q ≡ true
+      settled_then q settled = ap (λ (k : ℕ). settled_in k (at work.rows q)) this_round ∙ (sym (stands.settled q) ∙ settled)
 
-      was_called : (n : NodeId) → HasCalled F z G D t.root t.settled t.last n → WasCalledIn F G D old.work next observed n
+      was_called : (n : NodeId) → HasCalled F z G D t.root t.settled t.last n → WasCalledIn F G D (look_between old) after_look observed n
       was_called n c = record {
         due = record {
           row = c.row;
-          nodes = c.kids;
+          kids = c.kids;
           values = c.values;
           is_row = c.is_row;
           takes = c.takes;
@@ -557,11 +592,11 @@ module _ (M : Meaning) (old mid : Parts) (before after : Counts) (first : PartsK
       in_state : (n : NodeId) → Among n work.ran.items → Among n t.ran
       in_state n a = subst (λ (ns : List NodeId). Among n ns) (sym stands.ran) (among_reverse n work.ran.items a)
 
-      called : (n : NodeId) → Among n work.ran.items → WasCalledIn F G D old.work next observed n
+      called : (n : NodeId) → Among n work.ran.items → WasCalledIn F G D (look_between old) after_look observed n
       called n a = was_called n (ended.ran n (in_state n a))
 
       -- and its scope stands
-      called_standing : (n : NodeId) → Among n work.ran.items → (c : WasCalledIn F G D old.work next observed n) × ScopeStands F G c.due.row.scope
+      called_standing : (n : NodeId) → Among n work.ran.items → (c : WasCalledIn F G D (look_between old) after_look observed n) × ScopeStands F G c.due.row.scope
       unfolding was_called
       called_standing n a =
           let c = ended.ran n (in_state n a) in
@@ -571,7 +606,7 @@ module _ (M : Meaning) (old mid : Parts) (before after : Counts) (first : PartsK
       costs n a = ended.costs n (in_state n a)
 
       uncalled : (n : NodeId) (x : Row) → row_at arena n ≡ Some x → (Among n work.ran.items → ⊥)
-          → (last_call work n ≡ last_call old.work n) ⊎ (WasCalledIn F G D old.work next observed n × (cost_at G n ≡ 0))
+          → (last_call work n ≡ last_call old.work n) ⊎ (WasCalledIn F G D (look_between old) after_look observed n × (cost_at G n ≡ 0))
       uncalled n x row not =
           elim (ended.kept n x row (λ a. not (reverse_among n work.ran.items (subst (λ (ns : List NodeId). Among n ns) stands.ran a)))) [
             | inl k ↦ inl (last_is n x row ∙ (k ∙ b.last n))
@@ -581,22 +616,23 @@ module _ (M : Meaning) (old mid : Parts) (before after : Counts) (first : PartsK
       once : NoRepeats work.ran.items
       once = once_reverse work.ran.items (subst (λ (ns : List NodeId). NoRepeats ns) stands.ran ended.once)
 
-      pub up_next : IsUpToDateIn F G D G old.work next observed work.ran.items
+      pub up_next : IsUpToDateIn F G D G (look_between old) after_look observed work.ran.items
       up_next = record {
-        rooted = λ p. r.sweep.roots p ∙ rooted p;
-        needs = λ p. (wanted p, needed p);
+        roots = λ p. r.sweep.roots p ∙ rooted p;
+        needs = λ p. (λ need. wanted p (kept_needs p need), λ want. look_needs (next.round - 1) arena next p (needed p want));
         sees = sees;
         chose = chose;
+        built = built;
         acyclic = ended.acyclic;
         shallow = ended.shallow;
-        links = links;
-        recalls = recalls;
+        links = λ p q need. links p q (kept_needs p need);
+        recalls = λ n x kids values need. recalls n x kids values (kept_needs (main n) need);
         kept = uncalled;
-        cutoffs = cutoffs;
+        cutoff = cutoffs;
         once = once;
         called = called;
         costs = costs;
-        work = λ beside observers stood are_on calls few. within F G D old.work next observed (root_observed arena
+        work = λ beside observers stood are_on calls few. within F G D (look_between old) after_look observed (root_observed arena
             (held_at arena work) observed) beside
             observers stood are_on work.ran.items once called_standing calls few;
       }
@@ -604,7 +640,7 @@ module _ (M : Meaning) (old mid : Parts) (before after : Counts) (first : PartsK
       -- as the round's end leaves it
       pub up_end : next ≡ end.work → end.ran.items ≡ work.ran.items → IsUpToDate F old (record mid { work = end.work; ran = end.ran }) observed
       up_end is ran_is = subst (λ (w : Work). IsUpToDate F old (record mid { work = w; ran = end.ran }) observed) is
-          (subst (λ (xs : List NodeId). IsUpToDateIn F G D G old.work next observed xs) (sym ran_is) up_next)
+          (subst (λ (xs : List NodeId). IsUpToDateIn F G D G (look_between old) after_look observed xs) (sym ran_is) up_next)
 
     pub ready_end : next ≡ end.work → FunctionLaws M.functions M.known M.ids → AllCallFit M.known M.ids arena
         → ScopesRooted (graph_at arena end.work) → IsReady M (record mid { work = end.work; ran = end.ran })

@@ -1,15 +1,14 @@
 -- What a refused round says is so.
-use Rattle.std.proofs.Common.{◌≡◌, inl, inr, ℕ, ◌<◌, ◌≤◌, ◌++◌, true, List, [], ◌∷◌, length, map, Option, refl, sym, ap, subst, ◌∙◌, arith}
+use Rattle.std.proofs.Common.{◌≡◌, ◌-◌, inl, inr, ℕ, ◌<◌, ◌≤◌, ◌++◌, true, List, [], ◌∷◌, length, map, Option, refl, sym, ap, subst, ◌∙◌, arith}
 use Rattle.inc_value.specs.declared.node.NodeId.{NodeId}
 use Rattle.inc_value.specs.declared.node.Point.{Point}
 use Rattle.inc_value.specs.Choice.{Among, Reaches}
 use Rattle.inc_value.specs.Walk.{IsWalk}
 use Rattle.inc_terms.specs.Depend.{Depends, main}
 use Rattle.inc_terms.specs.Graph.{Graph}
-use Rattle.inc_terms.specs.Need.{Met, from_root, from_held}
+use Rattle.inc_terms.specs.Need.{from_root, from_held}
 use Rattle.inc_terms.specs.Term.{Functions}
 use Rattle.inc_terms.proofs.Plan.{among_left, among_right}
-use Rattle.necessary_graph.specs.Part as part
 use Rattle.height_order.specs.Chains.{ReadsWith, IsChain}
 use Rattle.node_outcomes.specs.Meaning.{Meaning}
 use Rattle.stabilize_round.specs.Invariant as invariant
@@ -25,9 +24,12 @@ use Rattle.wiring.specs.Stands.{Hand, Stands, Counts}
 use Rattle.wiring.specs.declared.refused.Refused.{Refused}
 use Rattle.wiring.specs.declared.refused.Refused.TheVariants.{Height, Cycle, Full, Memory}
 use Rattle.wiring.proofs.Once.{once_as}
+use Rattle.stabilizer.specs.Left.{IsMetIn, IsListedIn, IsLawfulIn}
+use Rattle.stabilizer.specs.Look.{look_between}
+use Rattle.stabilizer.proofs.Looking.{look_needs}
 use Rattle.stabilizer.specs.Building.{StopsBuilding}
 use Rattle.stabilizer.specs.Kept.{graph_in}
-use Rattle.stabilizer.specs.Round.{AreRooted, OnlyRoots, IsListedIn, IsLawfulIn, IsFullBy, IsLawful, died_by}
+use Rattle.stabilizer.specs.Round.{AreRooted, OnlyRoots, IsFullBy, IsLawful, died_by}
 use Rattle.stabilizer.specs.declared.parts.Parts.{Parts}
 use Rattle.stabilizer.proofs.Beginning.{Begun}
 use Rattle.stabilizer.proofs.Ending.{as_graph, among_main}
@@ -50,12 +52,12 @@ pub met_as : (F : Functions) (old new : Parts) (before counts : Counts) (b : Beg
     → Stands new.arena new.work counts left t → (nodes observed : List NodeId)
     → OnlyRoots old.work.graph.roots new.work.graph.roots (map main nodes) → AreRooted old.work observed
     → (p : Point) → MetNow F b.start (graph_in new) (died_by old new) t.root p
-    → Met F (graph_in new) (died_by old new) (nodes ++ observed) (λ (q : Point). part.Needed old.work.graph q) p
+    → IsMetIn F (graph_in new) (died_by old new) (look_between old) (nodes ++ observed) p
 met_as F old new before counts b left t stands nodes observed only rooted p (invariant.from_root {r} root way) =
     let l = root_listed old new counts left t stands nodes observed only rooted r root in
     from_root (inl l.1) (subst (λ (y : Point). Reaches (Depends F (graph_in new) (died_by old new)) y p) l.2 way)
 met_as F old new before counts b left t stands nodes observed only rooted p (invariant.from_held {h} held row stand way) =
-    from_held ((b.held h).0 held) row stand way
+    from_held (look_needs (old.work.round - 1) old.arena old.work h ((b.held h).0 held)) row stand way
 
 -- ---- a refused link
 
@@ -101,7 +103,7 @@ module _ (F : Functions) (old new : Parts) (before counts : Counts) (b : Begun F
 
     -- a chain over them of two points or more is a walk of what points depend on, and its first is met
     listed : (list : List Point) → 2 ≤ length list → IsChain (ReadsWith new.work.graph.links p q) list
-        → IsListedIn F G D old.work (nodes ++ observed) list
+        → IsListedIn F G D (look_between old) (nodes ++ observed) list
     listed [] long chain = absurd (omega arith)
     listed (a ∷ []) long chain = absurd (omega arith)
     listed (a ∷ c ∷ rest) long chain =
@@ -109,12 +111,12 @@ module _ (F : Functions) (old new : Parts) (before counts : Counts) (b : Begun F
         (reader_needed a c (linked a c chain.0)) (walk (a ∷ c ∷ rest) chain) in
         record {
           walk = l.0;
-          met = λ x starts. subst (λ (y : Point). Met F G D (nodes ++ observed) (λ (o : Point). part.Needed old.work.graph o) y) starts
+          met = λ x starts. subst (λ (y : Point). IsMetIn F G D (look_between old) (nodes ++ observed) y) starts
               (met_as F old new before counts b left (called_more t counts.calls) stands nodes observed only rooted a (l.1 a (inl refl)));
         }
 
   by_refused : (p q : Point) → t.needed p ≡ true → Depends F t.graph t.died p q → (e : Refused) → RefusedBy new.work p q e
-      → IsLawfulIn F G D old.work (nodes ++ observed) e × IsFullBy old.arena new.arena e
+      → IsLawfulIn F G D (look_between old) (nodes ++ observed) e × IsFullBy old.arena new.arena e
   by_refused p q need tried (Height points) why = (
     (
       listed p q need tried why.strict points.items (let l = why.long in omega arith) why.chain,
@@ -143,17 +145,17 @@ module _ (F : Functions) (old new : Parts) (before counts : Counts) (b : Begun F
 
   -- what a refusal says where a round stops is so
   by_reason : (e : Refused) → TellsWhy F (called_more t counts.calls) new.work left e
-      → IsLawfulIn F G D old.work (nodes ++ observed) e × IsFullBy old.arena new.arena e
+      → IsLawfulIn F G D (look_between old) (nodes ++ observed) e × IsFullBy old.arena new.arena e
   by_reason e why = by_why left e why
     where
       by_why : (h : Option Hand) (x : Refused) → TellsWhy F (called_more t counts.calls) new.work h x
-          → IsLawfulIn F G D old.work (nodes ++ observed) x × IsFullBy old.arena new.arena x
+          → IsLawfulIn F G D (look_between old) (nodes ++ observed) x × IsFullBy old.arena new.arena x
       by_why h x no_memory = (tt, tt)
       by_why h x (by_link {p} {q} {rest} need tried confirmed why) = by_refused p q need tried x why
 
 -- where a build found no room
 by_room : (F : Functions) (G : Graph) (D : NodeId → Option NodeId) (old new : Parts) (nodes : List NodeId) (count : ℕ) → old.arena.given ≤ count
-    → (e : Refused) → StopsBuilding count new.arena e → IsLawfulIn F G D old.work nodes e × IsFullBy old.arena new.arena e
+    → (e : Refused) → StopsBuilding count new.arena e → IsLawfulIn F G D (look_between old) nodes e × IsFullBy old.arena new.arena e
 by_room F G D old new nodes count later Full room = (tt, (count, later, room))
 by_room F G D old new nodes count later Memory room = (tt, tt)
 by_room F G D old new nodes count later (Height points) room = absurd room

@@ -10,7 +10,8 @@ use Rattle.stabilize_round.specs.State.{State}
 use Rattle.stabilize_round.specs.Stopped.{StandsAnew}
 use Rattle.wiring.specs.Stands.{Counts, counts_of}
 use Rattle.stabilizer.specs.Kept.{graph_in}
-use Rattle.stabilizer.specs.Round.{IsLeftBy, BuiltFew, StandsAnewBy}
+use Rattle.stabilizer.specs.Left as look
+use Rattle.stabilizer.specs.Round.{IsLeftBy, BuiltFew}
 use Rattle.stabilizer.specs.declared.parts.Parts.{Parts}
 use Rattle.stabilizer.proofs.Stopped.{IsLeftOver}
 
@@ -23,7 +24,7 @@ is_told_by : (s : State) (parts : Parts) (counts : Counts) → s.graph ≡ graph
 is_told_by s parts counts graph given c = λ i. record s { graph = graph i; given = given i; builds = (c i).builds; adds = (c i).adds }
 
 stands_by : (s u : State) (old new : Parts) (before after : Counts) (n : NodeId) → StandsAnew (told_by s old before) (told_by u new after) n
-    → StandsAnewBy old new n
+    → look.StandsAnew old.arena.given new.arena.given (graph_in new) n
 stands_by s u old new before after n a = record { bind = a.bind; row = a.row; given = a.given; is_row = a.is_row; inside = a.inside; there = a.new }
 
 left_as : (F : Functions) (old new : Parts) (before after : Counts) (s u : State) → ((n : NodeId) (r : Row) → row_at old.arena n ≡ Some r
@@ -32,14 +33,16 @@ left_as : (F : Functions) (old new : Parts) (before after : Counts) (s u : State
 unfolding stands_by
 left_as F old new before after s u live k = record {
   rest = k.left.rest;
-  dead = λ n r row gone. k.left.dead n r (live n r row) row gone;
-  fallen = λ n r row gone. k.fallen n r row gone;
-  killed = k.killed;
+  nodes = record {
+    dead = λ n r row gone. k.left.dead n r (live n r row) row gone;
+    fallen = λ n r row gone. k.fallen n r row gone;
+    killed = k.killed;
+    roots = k.left.roots;
+    born = λ n r le row. let a = k.left.new n r le row in (stands_by s u old new before after n a.0, a.1);
+    builds = k.left.builds;
+    adds = k.left.adds;
+  };
   rooted = k.rooted;
-  roots = k.left.roots;
-  born = λ n r le row. let a = k.left.new n r le row in (stands_by s u old new before after n a.0, a.1);
-  builds = k.left.builds;
-  adds = k.left.adds;
   inside = k.left.inside;
 }
 

@@ -29,8 +29,10 @@ use Rattle.wiring.specs.Kept.{IsKept}
 use Rattle.wiring.specs.Stands.{Hand, Stands, Counts}
 use Rattle.wiring.specs.declared.refused.Refused.{Refused}
 use Rattle.wiring.specs.declared.work.Work.{Work}
+use Rattle.stabilizer.specs.Left.{WasDueIn}
+use Rattle.stabilizer.specs.Look.{look_between, look_refused, cutoff_at}
 use Rattle.stabilizer.specs.Kept.{graph_in}
-use Rattle.stabilizer.specs.Round.{AreRooted, OnlyRoots, Pauses, WasDueIn, HasCalledMet, ShowsStill, IsLeftBy, cutoff_at, settled_by, left_by, died_by}
+use Rattle.stabilizer.specs.Round.{AreRooted, OnlyRoots, Pauses, HasCalledMet, ShowsStill, IsLeftBy, left_by, died_by}
 use Rattle.stabilizer.specs.declared.parts.Parts.{Parts}
 use Rattle.stabilizer.proofs.Beginning.{Begun, main_there}
 use Rattle.stabilizer.proofs.Ending.{cutoff_live, seen_case}
@@ -155,10 +157,10 @@ module _ (M : Meaning) (old new : Parts) (before after : Counts) (e : Refused) (
       }
     where
       due_then : (n : NodeId) → WasDue F b.start (graph_in new) (died_by old new) u.root u.settled n
-          → WasDueIn F (left_by old new) (died_by old new) old.work (settled_by new.work.round new.work) (nodes ++ observed) n
+          → WasDueIn F (left_by old new) (died_by old new) (look_between old) (look_refused new) (nodes ++ observed) n
       due_then n d = record {
         row = d.row;
-        nodes = d.kids;
+        kids = d.kids;
         values = d.values;
         is_row = d.is_row;
         takes = d.takes;

@@ -28,6 +28,7 @@ pub mod ChangeSteps
 pub mod Left
 pub mod Turned
 pub mod Listing
+pub mod Looking
 pub mod BuryingAll
 pub mod Died
 pub mod KeepingGates

@@ -26,13 +26,18 @@ use Rattle.wiring.specs.Stands.{Hand, Stands, Counts, hand}
 use Rattle.wiring.specs.declared.refused.Refused.{Refused}
 use Rattle.wiring.specs.declared.refused.Refused.TheVariants.{Height, Cycle, Full, Memory}
 use Rattle.wiring.specs.declared.work.Work.{Work}
+use Rattle.stabilizer.specs.Left.{AllButLast, IsTried, LeavesTried}
+use Rattle.stabilizer.specs.Look.{Look, look_of, look_refused, IsNeeded}
+use Rattle.stabilizer.proofs.Looking.{look_needs}
 use Rattle.stabilizer.specs.Building.{StopsBuilding}
-use Rattle.stabilizer.specs.Round.{AllButLast, IsTried, LeavesTried}
 use Rattle.stabilizer.specs.declared.parts.Parts.{Parts}
 use Rattle.stabilizer.proofs.Paused.{IsPaused}
 
 module _ (F : Functions) (z : Start) (t : State) (holds : Invariant F z t) (arena : Arena) (work : Work) (counts : Counts) (left : Option Hand)
     (stands : Stands arena work counts left (called_more t counts.calls)) (step : IsInStep work.graph) where
+  abbrev L : Look
+  L = look_of work.round arena work
+
   module _ (p q : Point) (need : t.needed p ≡ true) (confirmed : IsConfirmed (called_more t counts.calls) p q) where
     walks : (list : List Point) → IsChain (ReadsWith work.graph.links p q) list → IsWalk (ReadsWith work.graph.links p q) list
     walks [] chain = tt
@@ -40,11 +45,11 @@ module _ (F : Functions) (z : Start) (t : State) (holds : Invariant F z t) (aren
     walks (a ∷ b ∷ rest) chain = (chain.0, walks (b ∷ rest) chain.1)
 
     -- who is linked, or was to be, is needed
-    reader_needed : (a b : Point) → ReadsWith work.graph.links p q a b → Needed work.graph a
-    reader_needed a b (inl reads) = step.readers a b reads
-    reader_needed a b (inr e) = subst (Needed work.graph) (sym e.0) ((stands.needed p).0 need)
+    reader_needed : (a b : Point) → ReadsWith work.graph.links p q a b → IsNeeded L a
+    reader_needed a b (inl reads) = look_needs work.round arena work a (step.readers a b reads)
+    reader_needed a b (inr e) = look_needs work.round arena work a (subst (Needed work.graph) (sym e.0) ((stands.needed p).0 need))
 
-    all_needed : (list : List Point) → IsChain (ReadsWith work.graph.links p q) list → AllButLast (Needed work.graph) list
+    all_needed : (list : List Point) → IsChain (ReadsWith work.graph.links p q) list → AllButLast (IsNeeded L) list
     all_needed [] chain = tt
     all_needed (a ∷ []) chain = tt
     all_needed (a ∷ b ∷ rest) chain = (reader_needed a b chain.0, all_needed (b ∷ rest) chain.1)
@@ -57,7 +62,7 @@ module _ (F : Functions) (z : Start) (t : State) (holds : Invariant F z t) (aren
         subst (λ (G : Graph). Among q (targets G p.node r.def (t.out (change p.node)))) (sym stands.graph)
         (subst (λ (o : Option Outcome). Among q (targets (graph_at arena work) p.node r.def o)) (sym (stands.out (change p.node) k is)) among)
 
-    tried : (list : List Point) → IsChain (ReadsWith work.graph.links p q) list → IsTried arena work list
+    tried : (list : List Point) → IsChain (ReadsWith work.graph.links p q) list → IsTried L list
     tried list chain = record {
       reader = p;
       kid = q;
@@ -68,7 +73,7 @@ module _ (F : Functions) (z : Start) (t : State) (holds : Invariant F z t) (aren
           (chosen r (at work.rows (change p.node)) refl among));
     }
 
-    pub tried_by : (e : Refused) → RefusedBy work p q e → LeavesTried arena work e
+    pub tried_by : (e : Refused) → RefusedBy work p q e → LeavesTried L e
     tried_by (Height points) why = tried points.items why.chain
     tried_by (Cycle points) why = tried points.items why.path.chain
     tried_by Full why = absurd why
@@ -78,13 +83,13 @@ module _ (F : Functions) (z : Start) (t : State) (holds : Invariant F z t) (aren
 leaves_tried : (F : Functions) (z : Start) (t : State) → Invariant F z t → (arena : Arena) (work : Work) (counts : Counts) (left : Option Hand)
     → Stands arena work counts left (called_more t counts.calls) → IsInStep work.graph → (e : Refused)
     → TellsWhy F (called_more t counts.calls) work left e
-    → LeavesTried arena work e
+    → LeavesTried (look_of work.round arena work) e
 leaves_tried F z t holds arena work counts left stands step e no_memory = tt
 leaves_tried F z t holds arena work counts left stands step e (by_link {p} {q} {rest} need depends confirmed why) =
     tried_by F z t holds arena work counts (Some (hand p (q ∷ rest))) stands step p q need confirmed e why
 
 -- where a build found no room
-room_tried : (count : ℕ) (arena : Arena) (work : Work) (e : Refused) → StopsBuilding count arena e → LeavesTried arena work e
+room_tried : (count : ℕ) (arena : Arena) (work : Work) (e : Refused) → StopsBuilding count arena e → LeavesTried (look_of work.round arena work) e
 room_tried count arena work Full room = tt
 room_tried count arena work Memory room = tt
 room_tried count arena work (Height points) room = absurd room
@@ -92,7 +97,7 @@ room_tried count arena work (Cycle points) room = absurd room
 
 -- wherever a round stops
 pub paused_tried : (M : Meaning) (old new : Parts) (before after : Counts) (e : Refused) → IsPaused M old new before after e
-    → LeavesTried new.arena new.work e
+    → LeavesTried (look_refused new) e
 paused_tried M old new before after e p =
     let b = p.begins.begun in
     let k = p.pauses in

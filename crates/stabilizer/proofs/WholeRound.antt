@@ -122,7 +122,7 @@ module _ (M : Meaning) (old : Parts) (rooted : Work) (before : Counts) (ready : 
           (died_same F first.start old settled before after None first.state t.0 t.0 kept.work first.stands first.entry begins.round.given t.1
           (as_it_is refl) t.2) nodes observed only looks None (moves_build F first.start first.state t.0 first.entry begins.round.given t.1))
 
-      module _ (same_round : settled.work.round ≡ old.work.round) (nodes observed : List NodeId)
+      module _ (nodes observed : List NodeId)
           (roots : KeepsRoots rooted.graph.roots settled.work.graph.roots) (more : RootsMore old.work.graph.roots rooted.graph.roots
           (map main nodes))
           (looks : AreRooted old.work observed) where
@@ -133,4 +133,4 @@ module _ (M : Meaning) (old : Parts) (rooted : Work) (before : Counts) (ready : 
 
         pub round_rights : end.ran.items ≡ settled.work.ran.items → IsUpToDate F old result (nodes ++ observed)
         round_rights ran_is = up_end M old settled before after ready.kept begins kept last.0 last.1 last.2 idle empty end r in_step ran retries round
-            same_round (nodes ++ observed) all_rooted is ran_is
+            (nodes ++ observed) all_rooted is ran_is

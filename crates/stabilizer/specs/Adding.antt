@@ -14,7 +14,8 @@ use Rattle.wiring.specs.Places.{ChangesNode, for_parts}
 use Rattle.stabilizer.specs.Between.{KeepsWork}
 use Rattle.stabilizer.specs.Building.{new_row}
 use Rattle.stabilizer.specs.Kept.{PartsKept}
-use Rattle.stabilizer.specs.Round.{IsReady, cutoff_at}
+use Rattle.stabilizer.specs.Look.{cutoff_at}
+use Rattle.stabilizer.specs.Round.{IsReady}
 use Rattle.stabilizer.specs.declared.parts.Parts.{Parts}
 
 -- the node has this row and its points, to which nothing was done yet; what is kept of all others stays

@@ -23,7 +23,8 @@ use Rattle.wiring.specs.Kept.{IsKept}
 use Rattle.stabilizer.specs.Kept.{PartsKept}
 use Rattle.stabilizer.specs.declared.parts.Parts.{Parts}
 use Rattle.map_nodes.specs.declared.cutoff.Cutoff.TheVariants.{Equal}
-use Rattle.stabilizer.specs.Round.{IsReady, last_call, cutoff_at}
+use Rattle.stabilizer.specs.Look.{last_call, cutoff_at}
+use Rattle.stabilizer.specs.Round.{IsReady}
 use Rattle.node_outcomes.specs.Row.{settled_in, outcome_in}
 use Rattle.wiring.specs.Wiring.{KeepsRound}
 use Rattle.node_outcomes.specs.declared.row.Progress.{Progress}

@@ -4,6 +4,8 @@ pub mod Building
 pub mod Rebuilding
 pub mod Settling
 pub mod Stepping
+pub mod Look
+pub mod Left
 pub mod Round
 pub mod Between
 pub mod Weights

@@ -25,7 +25,8 @@ ghost use Rattle.stabilizer.specs.Between.{KeepsWork};
 ghost use Rattle.wiring.specs.Graph.{rowless};
 ghost use Rattle.stabilizer.specs.Kept.{PartsKept};
 ghost use Rattle.wiring.specs.Places.{ChangesNode, for_parts};
-ghost use Rattle.stabilizer.specs.Round.{IsReady, AreRooted, cutoff_at};
+ghost use Rattle.stabilizer.specs.Look.{cutoff_at};
+ghost use Rattle.stabilizer.specs.Round.{IsReady, AreRooted};
 
 use inc_terms::Def;
 use inc_value::{NodeId, Outcome, Point, Ty, Value};

@@ -19,8 +19,10 @@ ghost use Rattle.wiring.specs.Kept.{IsKept};
 ghost use Rattle.wiring.specs.Wiring.{PutsRoots, RootRefused};
 ghost use Rattle.stabilizer.specs.Kept.{PartsKept, KeepsMeaning, StaysFlat, WantsTell, counts_by};
 ghost use Rattle.stabilizer.specs.Rebuilding.{BuildRefused};
-ghost use Rattle.stabilizer.specs.Round.{IsReady, AreRooted, IsUpToDate, IsLawful, LeavesTried, HasCalledMet, ShowsStill};
-ghost use Rattle.stabilizer.specs.Round.{cutoff_at, left_by, IsLeftBy, BuiltFew, BuildsAll, BuildsAllBut};
+ghost use Rattle.stabilizer.specs.Left.{LeavesTried};
+ghost use Rattle.stabilizer.specs.Look.{cutoff_at, look_refused};
+ghost use Rattle.stabilizer.specs.Round.{IsReady, AreRooted, IsUpToDate, IsLawful, HasCalledMet, ShowsStill};
+ghost use Rattle.stabilizer.specs.Round.{left_by, IsLeftBy, BuiltFew, BuildsAll, BuildsAllBut};
 ghost use Rattle.stabilizer.specs.Round.{IsInRound, RootsMore, OnlyRoots, Settles, SettleRefused};
 ghost use Rattle.stabilizer.specs.Stepping.{MainIsSettled, MainIsLeft, IsUnbuiltBind, IsBuiltFor, IsTurnedAwake, IsAsleep, IsTurned, ChangeIsSettled, ChangeIsLeft, SettlesLeast};
 ghost use Rattle.stabilizer.specs.Stepping.{Steps, StepRefused, StepStopsFull, StepFalls};
@@ -109,7 +111,7 @@ impl Stabilizer {
         ensures round { OnOk result (parts.new.work.round ≡ parts.old.work.round + 1) }
         ensures lawful { IfErr result (λ e. (observed : List NodeId) → AreRooted parts.old.work observed
             → IsLawful (functions_of F.Functions functions.old) parts.old parts.new (roots.now ++ observed) e) }
-        ensures tried { IfErr result (LeavesTried parts.new.arena parts.new.work) }
+        ensures tried { IfErr result (LeavesTried (look_refused parts.new)) }
         ensures few { OnErr result ((observed : List NodeId) → AreRooted parts.old.work observed
             → HasCalledMet (functions_of F.Functions functions.old) parts.old parts.new (roots.now ++ observed)
             (F.calls functions.old) (F.calls functions.new)) }

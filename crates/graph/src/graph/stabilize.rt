@@ -1,5 +1,5 @@
 //! One call that brings what is observed up to date.
-ghost use Rattle.std.specs.Prelude.{◌≡◌, ◌⊎◌, ◌↔◌, Some, OnOk, OnErr, IsErrOf, ◌≤◌, ◌+◌};
+ghost use Rattle.std.specs.Prelude.{◌≡◌, ◌⊎◌, ◌↔◌, None, Some, OnOk, OnErr, IsErrOf, ◌≤◌, ◌+◌};
 ghost use Rattle.inc_value.specs.Counts.{raised};
 ghost use Rattle.inc_value.specs.declared.node.NodeId.{NodeId};
 ghost use Rattle.node_arena.specs.Arena.{live};
@@ -7,12 +7,13 @@ ghost use Rattle.node_arena.specs.Meanings.{SameNames, SameKnown, SameValues};
 ghost use Rattle.node_arena.specs.RightSide.{SameSides};
 ghost use Rattle.stabilize_round.specs.Calling.{costs_of};
 ghost use Rattle.stabilize_round.specs.Counts.{RoseBy};
+ghost use Rattle.stabilize_round.specs.Runs.{BuildsFew};
 ghost use Rattle.stabilizer.specs.Giving.{HasBuilt};
 ghost use Rattle.node_outcomes.specs.Meaning.{functions_of};
 ghost use Rattle.stabilizer.specs.Kept.{counts_by};
 ghost use Rattle.stabilizer.specs.Kept.{HasNoBinds};
 ghost use Rattle.graph.specs.Few.{IdsAreFew, IsFilled};
-ghost use Rattle.graph.specs.Standing.{IsBroken, IsUnbroken};
+ghost use Rattle.graph.specs.Standing.{IsBroken, IsUnbroken, graph};
 ghost use Rattle.graph.specs.Stabilizes.{Stabilizes, IsRefusedFor, HasCalledMet, LeavesNodes, left_by};
 ghost use Rattle.graph.specs.declared.fault.Kept.{Kept as ACause};
 ghost use Rattle.graph.specs.declared.fault.Kept.TheVariants as kept;
@@ -49,6 +50,9 @@ impl<F: Functions> Graph<F> {
             (F.calls self.old.functions) (F.calls self.new.functions) }
         ensures left { IsUnbroken self.old → LeavesNodes (functions_of F.Functions self.old.functions) self.old self.new
             (counts_by F.Functions self.old.functions) (counts_by F.Functions self.new.functions) }
+        ensures builds { OnOk result (BuildsFew (functions_of F.Functions self.old.functions) self.old.nodes.given (graph self.old)
+            (graph self.new) None (counts_by F.Functions self.old.functions).builds
+            (counts_by F.Functions self.new.functions).builds) }
         ensures ids { IdsAreFew (F.right self.new.functions) self.old.nodes.given self.new.nodes }
         ensures full { IsErrOf result (StabilizeFault.Refused kept.Full) → IsFilled (F.right self.new.functions) self.new.nodes }
         ensures rose { IsErrOf result (StabilizeFault.Refused kept.Full)

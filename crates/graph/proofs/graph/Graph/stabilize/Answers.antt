@@ -1,4 +1,4 @@
-use Rattle.std.proofs.Common.{◌≡◌, List, None, Some, length, refl, sym, ap, subst, ◌∙◌, ℕ, arith, drop}
+use Rattle.std.proofs.Common.{◌≡◌, List, length, sym, ap, subst, ◌∙◌, ℕ, arith, drop}
 use Rattle.inc_value.specs.Choice.{Among}
 use Rattle.inc_value.specs.declared.node.NodeId.{NodeId}
 use Rattle.inc_terms.specs.Within.{Given}
@@ -7,13 +7,12 @@ use Rattle.stabilize_round.specs.Invariant.{Rooted}
 use Rattle.graph.specs.Inside.{CanStabilize}
 use Rattle.graph.specs.Standing.{in_use}
 use Rattle.stabilizer.specs.Kept.{graph_in, counts_by}
-use Rattle.stabilizer.specs.Round.{left_by, died_by}
 use Rattle.stabilizer.proofs.Giving.{live_few, gives_few}
 use Rattle.stabilizer.proofs.MeaningKept.{means_still}
 use Rattle.graph.proofs.Observing.{all_of}
 use Rattle.graph.proofs.Sound.{ready_built}
 use Rattle.graph.proofs.Grouping.{ids_few, filled_by}
-use Rattle.graph.proofs.Rounding.{accepted, refused_in, few_in, leaves_nodes}
+use Rattle.graph.proofs.Rounding.{accepted, refused_in, few_in}
 use Rattle.graph.proofs.Stabilizing.{rest_given, all_right, all_lawful, all_few, all_built, all_built_but, can_again}
 use Rattle.graph.proofs.graph.Graph.stabilize.Goals as goal
 
@@ -36,16 +35,15 @@ returns-in-Ok-ended-clause-brought g c =
     let roots : c.deref-2.result.now ≡ in_use (drop rooted os) = c.deref-2.ensures.value ∙ rw c.deref.ensures.value at c.in-Ok.ensures in
     let right = all_right M old new os rooted can within (rw roots at c.in-Ok-ended.ensures.right) in
     let same : c.len-self-inside.result ≡ length os = c.len-self-inside.ensures ∙ (sym c.deref.ensures.len ∙ ap length c.deref.ensures.value) in
-    rw (← c.self.view_is) (accepted M.functions c.self.inside.functions c.run-ended.new.functions old new os rooted c.len-self-inside.result
-    c.self.inside.refused still same can.ready.numbered c.in-Ok-ended.ensures.round c.run-ended.ensures.left.rest
+    rw (← c.self.view_is) (accepted M.functions c.self.inside.functions c.run-ended.new.functions old new os rooted c.self.inside.refused still
+    c.len-self-inside.result same c.run-ended.ensures.left.rest
     (all_built M old new os rooted can within (rw roots at c.in-Ok-ended.ensures.built)) right)
 
 pub returns-in-Ok-ended-clause-left : goal.returns-in-Ok-ended-clause-left
-returns-in-Ok-ended-clause-left g c unbroken = rw (← c.self.view_is)
-    (leaves_nodes (functions_of g.F.Functions c.self.inside.functions) c.self.inside.functions c.run-ended.new.functions c.self.inside.parts
-    c.run-ended.new.parts c.self.inside.observers.items c.self.inside.rooted c.len-self-inside.result c.self.inside.refused c.self.inside.refused
-    (counts_by g.F.Functions c.self.inside.functions) (counts_by g.F.Functions c.run-ended.new.functions) c.run-ended.ensures.left
-    (None, (λ e. refl), c.in-Ok-ended.ensures.builds))
+returns-in-Ok-ended-clause-left g c unbroken = rw (← c.self.view_is) c.run-ended.ensures.left.nodes
+
+pub returns-in-Ok-ended-clause-builds : goal.returns-in-Ok-ended-clause-builds
+returns-in-Ok-ended-clause-builds g c = rw (← c.self.view_is) c.in-Ok-ended.ensures.builds
 
 pub returns-in-Ok-ended-clause-ids : goal.returns-in-Ok-ended-clause-ids
 returns-in-Ok-ended-clause-ids g c =
@@ -83,16 +81,12 @@ returns-in-Err-ended-clause-few g c cause is =
     let can = c.self.invariant.1.unbroken still in let within = c.self.invariant.1.earlier in
     let roots : c.deref-2.result.now ≡ in_use (drop rooted os) = c.deref-2.ensures.value ∙ rw c.deref.ensures.value at c.in-Ok.ensures in
     let before = g.F.Functions.calls c.self.inside.functions in let after = g.F.Functions.calls c.run-ended.new.functions in
-    rw (← c.self.view_is) (few_in M.functions (left_by old new) (died_by old new) c.self.inside.functions old os rooted c.self.inside.refused
-    c.run-ended.new.functions new rooted c.in-Err-ended.refused before after
+    rw (← c.self.view_is) (few_in M.functions c.self.inside.functions c.run-ended.new.functions old new os rooted c.self.inside.refused still
+    c.in-Err-ended.refused before after
     (all_few M old new os rooted can within before after (rw roots at c.in-Err-ended.ensures.few)))
 
 pub returns-in-Err-ended-clause-left : goal.returns-in-Err-ended-clause-left
-returns-in-Err-ended-clause-left g c unbroken = rw (← c.self.view_is)
-    (leaves_nodes (functions_of g.F.Functions c.self.inside.functions) c.self.inside.functions c.run-ended.new.functions c.self.inside.parts
-    c.run-ended.new.parts c.self.inside.observers.items c.self.inside.rooted c.self.inside.rooted c.self.inside.refused (Some c.in-Err-ended.refused)
-    (counts_by g.F.Functions c.self.inside.functions) (counts_by g.F.Functions c.run-ended.new.functions) c.run-ended.ensures.left
-    (let b = c.run-ended.ensures.left.builds in (b.0, (λ e. absurd (cc)), b.1)))
+returns-in-Err-ended-clause-left g c unbroken = rw (← c.self.view_is) c.run-ended.ensures.left.nodes
 
 pub returns-in-Err-ended-clause-ids : goal.returns-in-Err-ended-clause-ids
 returns-in-Err-ended-clause-ids g c =

@@ -4,7 +4,7 @@ use Rattle.inc_value.specs.declared.node.NodeId.{NodeId}
 use Rattle.point_map.specs.Rows.{Rows, at}
 use Rattle.stabilizer.specs.Weights.{SidesFit}
 use Rattle.node_outcomes.specs.Computing.{seen_of}
-use Rattle.stabilizer.specs.Round.{last_of}
+use Rattle.stabilizer.specs.Look.{last_of}
 use Rattle.node_outcomes.specs.Row.{outcome_in, cutoff_in}
 use Rattle.node_outcomes.specs.declared.row.Progress.{Progress}
 use Rattle.node_outcomes.specs.Meaning.{meaning_of}

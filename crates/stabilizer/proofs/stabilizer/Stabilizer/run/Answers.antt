@@ -6,9 +6,11 @@ use Rattle.node_arena.specs.Graph.{AllCallFit}
 use Rattle.node_arena.proofs.RightSides.{fit_lists_given}
 use Rattle.node_outcomes.specs.Meaning.{Meaning, functions_of, meaning_of}
 use Rattle.wiring.specs.declared.refused.Refused.TheVariants.{Memory}
+use Rattle.stabilizer.specs.Left.{LeavesTried}
+use Rattle.stabilizer.specs.Look.{look_refused}
 use Rattle.stabilizer.specs.Kept.{counts_by}
 use Rattle.stabilizer.specs.Giving.{StopsFull}
-use Rattle.stabilizer.specs.Round.{IsReady, AreRooted, IsLawful, LeavesTried, BuildsAllBut}
+use Rattle.stabilizer.specs.Round.{IsReady, AreRooted, IsLawful, BuildsAllBut}
 use Rattle.stabilizer.specs.declared.parts.Parts.{Parts}
 use Rattle.stabilizer.proofs.BuiltFor.{paused_built}
 use Rattle.stabilizer.proofs.Giving.{none_few}
@@ -109,7 +111,7 @@ returns-in_err-put_roots-clause-tried g c =
     let e = c.in_err-put_roots.field-0.0 in
     let new : Parts = record c.args.parts.now { work = c.put_roots.new.work } in
     let is : IsErrAnd c.from_residual.result (λ x. x ≡ e) = c.from_residual.ensures.1 in
-    exit_is c.from_residual.result e (λ x. LeavesTried new.arena new.work x) is
+    exit_is c.from_residual.result e (λ x. LeavesTried (look_refused new) x) is
     (paused_tried M c.args.parts.now new counts counts e
     (roots_paused M c.args.parts.now counts c.requires.ready c.put_roots.new.work e c.in_err-put_roots.ensures.refused c.put_roots.ensures.kept))
 
@@ -221,7 +223,7 @@ returns-in_err-settle_all-clause-tried g c =
     let new = c.settle_all.new.parts in
     let e = c.in_err-settle_all.field-0.0 in
     let is : IsErrAnd c.from_residual-in_err-settle_all.result (λ x. x ≡ e) = c.from_residual-in_err-settle_all.ensures.1 in
-    exit_is c.from_residual-in_err-settle_all.result e (λ x. LeavesTried new.arena new.work x) is
+    exit_is c.from_residual-in_err-settle_all.result e (λ x. LeavesTried (look_refused new) x) is
     (paused_tried M old new before after e
     (steps_paused M old before c.requires.ready c.put_roots.new.work new after e c.in_ok-put_roots.ensures.wired c.in_err-settle_all.ensures.refused
     c.settle_all.ensures.kept))
@@ -369,7 +371,7 @@ returns-clause-right g c =
     c.end_round.ensures.ran
     c.end_round.ensures.retries round c.end_round.ensures.rows c.end_round.ensures.right_sides c.end_round.ensures.pairs c.end_round.ensures.scoped
     c.end_round.ensures.todo
-    (c.settle_all.ensures.round ∙ c.put_roots.ensures.round) c.args.roots.now observed c.settle_all.ensures.roots
+    c.args.roots.now observed c.settle_all.ensures.roots
     c.in_ok-put_roots.ensures.rooted looks
     (ap (λ v. v.items) c.swap.ensures.x_after)
 
