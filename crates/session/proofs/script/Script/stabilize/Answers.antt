@@ -35,7 +35,7 @@ returns-in-Ok g c =
     c.stabilize-stabilized.ensures.known c.stabilize-stabilized.ensures.sides done.stays left done.observers unbroken _ _
     c.keeps_sound.ensures.sound refl c.keeps_sound-2.ensures.sound refl c.stabilize-stabilized.ensures.names c.stabilize-stabilized.ensures.values
     (g.met.L.Library.maps_alone l) c.stabilize-stabilized.ensures.ids c.stabilize-stabilized.ensures.calls_grow
-    (not_fallen c.self.inside.graph.functions.builds new.functions.builds few_builds left.builds.2.count.kept)
+    (not_fallen c.self.inside.graph.functions.builds new.functions.builds few_builds left.builds.1.count.kept)
     (λ sessions m stands. session_accepted (g.L.Library.named l) (g.L.Library.value l) _ c.self.inside.graph new sessions done c.keeps_sound-2.ensures.dead
     (g.L.Library.calls l) (g.L.Library.calls new.functions.library) c.in-Ok.ensures.calls m stands))
 
@@ -71,7 +71,7 @@ returns-in-Some g c =
     c.stabilize-stabilized.ensures.known c.stabilize-stabilized.ensures.sides done.stays left done.observers unbroken _ _
     c.keeps_sound.ensures.sound refl c.keeps_sound-2.ensures.sound refl c.stabilize-stabilized.ensures.names c.stabilize-stabilized.ensures.values
     (g.met.L.Library.maps_alone l) c.stabilize-stabilized.ensures.ids c.stabilize-stabilized.ensures.calls_grow
-    (not_fallen c.self.inside.graph.functions.builds new.functions.builds few_builds left.builds.2.count.kept) c.in-Some.target done (c.stabilize-stabilized.ensures.few cause.Height for) c.in-Some.ensures.found c.in-Some.ensures.within)
+    (not_fallen c.self.inside.graph.functions.builds new.functions.builds few_builds left.builds.1.count.kept) c.in-Some.target done (c.stabilize-stabilized.ensures.few cause.Height for) c.in-Some.ensures.found c.in-Some.ensures.within)
 
 -- ---- refused for depth, where no declaration is told
 
@@ -102,7 +102,7 @@ returns-in-None g c =
     c.stabilize-stabilized.ensures.known c.stabilize-stabilized.ensures.sides done.stays left done.observers unbroken _ _
     c.keeps_sound.ensures.sound refl c.keeps_sound-2.ensures.sound refl c.stabilize-stabilized.ensures.names c.stabilize-stabilized.ensures.values
     (g.met.L.Library.maps_alone l) c.stabilize-stabilized.ensures.ids c.stabilize-stabilized.ensures.calls_grow
-    (not_fallen c.self.inside.graph.functions.builds new.functions.builds few_builds left.builds.2.count.kept) _ done (c.stabilize-stabilized.ensures.few cause.Height for) c.in-None.ensures.none)
+    (not_fallen c.self.inside.graph.functions.builds new.functions.builds few_builds left.builds.1.count.kept) _ done (c.stabilize-stabilized.ensures.few cause.Height for) c.in-None.ensures.none)
 
 -- ---- without memory
 
@@ -133,7 +133,7 @@ returns-in-Err-Refused-Memory g c =
     c.stabilize-stabilized.ensures.known c.stabilize-stabilized.ensures.sides done.stays left done.observers unbroken _ _
     c.keeps_sound.ensures.sound refl c.keeps_sound-2.ensures.sound refl c.stabilize-stabilized.ensures.names c.stabilize-stabilized.ensures.values
     (g.met.L.Library.maps_alone l) c.stabilize-stabilized.ensures.ids c.stabilize-stabilized.ensures.calls_grow
-    (not_fallen c.self.inside.graph.functions.builds new.functions.builds few_builds left.builds.2.count.kept) _ done (c.stabilize-stabilized.ensures.few cause.Memory for))
+    (not_fallen c.self.inside.graph.functions.builds new.functions.builds few_builds left.builds.1.count.kept) _ done (c.stabilize-stabilized.ensures.few cause.Memory for))
 
 -- ---- refused for a cycle
 
@@ -164,7 +164,7 @@ returns-in-Err-Refused-Cycle g c =
     c.stabilize-stabilized.ensures.known c.stabilize-stabilized.ensures.sides done.stays left done.observers unbroken _ _
     c.keeps_sound.ensures.sound refl c.keeps_sound-2.ensures.sound refl c.stabilize-stabilized.ensures.names c.stabilize-stabilized.ensures.values
     (g.met.L.Library.maps_alone l) c.stabilize-stabilized.ensures.ids c.stabilize-stabilized.ensures.calls_grow
-    (not_fallen c.self.inside.graph.functions.builds new.functions.builds few_builds left.builds.2.count.kept) done (c.stabilize-stabilized.ensures.few cause.Cycle for))
+    (not_fallen c.self.inside.graph.functions.builds new.functions.builds few_builds left.builds.1.count.kept) done (c.stabilize-stabilized.ensures.few cause.Cycle for))
 
 -- ---- what never comes
 
