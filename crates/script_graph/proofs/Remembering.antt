@@ -7,6 +7,7 @@ use Rattle.inc_value.specs.declared.node.ObsId.{ObsId}
 use Rattle.inc_value.specs.declared.node.Point.{Point}
 use Rattle.inc_value.specs.declared.value.Value.{Value as GraphValue}
 use Rattle.inc_terms.specs.Term as term
+use Rattle.inc_terms.specs.Graph.{Graph}
 use Rattle.inc_terms.specs.Term.{Functions}
 use Rattle.inc_terms.specs.Need.{Observing, Freezing, nodes_of, Held, Met as GraphMet, from_root, from_held}
 use Rattle.inc_terms.specs.Work.{WithinWork as GraphWork}
