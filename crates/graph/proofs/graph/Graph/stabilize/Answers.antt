@@ -2,7 +2,7 @@ use Rattle.std.proofs.Common.{◌≡◌, List, length, sym, ap, subst, ◌∙◌
 use Rattle.inc_value.specs.Choice.{Among}
 use Rattle.inc_value.specs.declared.node.NodeId.{NodeId}
 use Rattle.inc_terms.specs.Within.{Given}
-use Rattle.node_outcomes.specs.Meaning.{Meaning, functions_of, meaning_of}
+use Rattle.node_outcomes.specs.Meaning.{Meaning, meaning_of}
 use Rattle.stabilize_round.specs.Invariant.{Rooted}
 use Rattle.graph.specs.Inside.{CanStabilize}
 use Rattle.graph.specs.Standing.{in_use}
