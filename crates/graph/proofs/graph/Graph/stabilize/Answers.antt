@@ -1,20 +1,38 @@
-use Rattle.std.proofs.Common.{◌≡◌, List, length, sym, ap, subst, ◌∙◌, ℕ, arith, drop}
+use Rattle.std.proofs.Common.{◌≡◌, inl, List, None, length, refl, sym, ap, subst, ◌∙◌, ℕ, arith, drop}
+use Rattle.std.specs.Prelude.{is_some}
 use Rattle.inc_value.specs.Choice.{Among}
 use Rattle.inc_value.specs.declared.node.NodeId.{NodeId}
 use Rattle.inc_terms.specs.Within.{Given}
-use Rattle.node_outcomes.specs.Meaning.{Meaning, meaning_of}
+use Rattle.node_outcomes.specs.Meaning.{Meaning, functions_of, meaning_of}
 use Rattle.stabilize_round.specs.Invariant.{Rooted}
 use Rattle.graph.specs.Inside.{CanStabilize}
 use Rattle.graph.specs.Standing.{in_use}
 use Rattle.stabilizer.specs.Kept.{graph_in, counts_by}
 use Rattle.stabilizer.proofs.Giving.{live_few, gives_few}
 use Rattle.stabilizer.proofs.MeaningKept.{means_still}
+use Rattle.wiring.specs.declared.refused.Refused.TheVariants.{Memory}
 use Rattle.graph.proofs.Observing.{all_of}
 use Rattle.graph.proofs.Sound.{ready_built}
 use Rattle.graph.proofs.Grouping.{ids_few, filled_by}
 use Rattle.graph.proofs.Rounding.{accepted, refused_in, few_in}
 use Rattle.graph.proofs.Stabilizing.{rest_given, all_right, all_lawful, all_few, all_built, all_built_but, can_again}
 use Rattle.graph.proofs.graph.Graph.stabilize.Goals as goal
+
+pub returns-in-Err-clause-refused : goal.returns-in-Err-clause-refused
+returns-in-Err-clause-refused g c cause is =
+    let parts = c.self.inside.parts in let kept = c.self.invariant.1.kept.work in
+    let still = rw (← c.self.view_is) at c.in_default.ensures.none in
+    rw (← c.self.view_is) (refused_in (functions_of g.F.Functions c.self.inside.functions) c.self.inside.functions c.self.inside.functions parts parts
+    c.self.inside.observers.items c.self.inside.rooted c.self.inside.refused still Memory cause (let e = is in cc)
+    (record { given = omega arith; clock = refl; frozen = λ n given. refl; lists = λ n given. refl; rows = λ n given. inl refl })
+    refl (λ n r row. refl) (λ n given. inl refl) (tt, tt) tt
+    (None, record {
+      stays = λ b r given row. inl refl;
+      made = λ b r late row. let given = kept.sound.given b (ap is_some row) in absurd (omega (arith, given, late));
+      refused = λ b e. absurd (cc);
+      was = λ b e given. absurd (cc);
+      scoped = λ n r b late row scope none. let given = kept.sound.given n (ap is_some row) in absurd (omega (arith, given, late));
+    }, (λ b e. absurd (cc))))
 
 pub run-ended-requires-clause-given : goal.run-ended-requires-clause-given
 run-ended-requires-clause-given g c =
