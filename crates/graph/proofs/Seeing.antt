@@ -1,5 +1,5 @@
 -- How rows of points are seen.
-use Rattle.std.proofs.Common.{◌≡◌, ◌⊎◌, inl, inr, ℕ, Bool, true, false, List, Option, None, Some, refl, ap, ◌∙◌, sym, subst}
+use Rattle.std.proofs.Common.{◌≡◌, ◌⊎◌, inl, inr, ℕ, List, Option, None, Some, refl, ap, ◌∙◌, sym, subst}
 use Rattle.inc_value.specs.declared.node.NodeId.{NodeId}
 use Rattle.inc_value.specs.declared.node.Point.{Point}
 use Rattle.inc_terms.specs.Depend.{main, change}
@@ -7,12 +7,12 @@ use Rattle.inc_terms.specs.Graph.{Row, Def, Bind}
 use Rattle.inc_value.specs.declared.outcome.Outcome.{Outcome}
 use Rattle.inc_value.specs.declared.value.Value.{Value}
 use Rattle.map_nodes.specs.declared.cutoff.Cutoff.{Cutoff}
-use Rattle.map_nodes.specs.declared.cutoff.Cutoff.TheVariants.{Equal, Never}
+use Rattle.map_nodes.specs.declared.cutoff.Cutoff.TheVariants.{Equal}
 use Rattle.link_table.specs.Links.{Links, times}
 use Rattle.necessary_graph.specs.Part as part
 use Rattle.necessity.specs.Need.{Roots, root_times}
 use Rattle.node_outcomes.specs.Computing.{seen_of}
-use Rattle.node_outcomes.specs.Row.{is_never, never_in, outcome_in, cutoff_in}
+use Rattle.node_outcomes.specs.Row.{outcome_in, cutoff_in}
 use Rattle.node_outcomes.specs.declared.row.Progress.{Progress}
 use Rattle.point_map.specs.Rows.{Rows, at}
 use Rattle.node_arena.specs.Arena.{Arena, row_at, IsSet, IsVariable, with_value}
@@ -29,26 +29,6 @@ use Rattle.graph.specs.Standing.{Standing, IsNeeded}
 use Rattle.graph.specs.declared.observer.Observer.{Observer}
 
 -- ---- cutoffs
-
--- a cutoff, by whether it is Never
-abbrev cutoff_by : Bool → Cutoff
-cutoff_by true = Never
-cutoff_by false = Equal
-
-by_never : (c : Cutoff) → c ≡ cutoff_by (is_never c)
-by_never Equal = refl
-by_never Never = refl
-
-pub cutoff_is : (x : Option Progress) → cutoff_in x ≡ cutoff_by (never_in x)
-cutoff_is None = refl
-cutoff_is (Some k) = by_never k.cutoff
-
-pub never_is : (x : Option Progress) → is_never (cutoff_in x) ≡ never_in x
-never_is None = refl
-never_is (Some k) = refl
-
-pub cutoff_never : (x : Option Progress) → never_in x ≡ true → cutoff_in x ≡ Never
-cutoff_never x e = cutoff_is x ∙ ap cutoff_by e
 
 -- a cutoff that stays or is Equal now is Equal where it was
 pub equal_still : (now was : Cutoff) → (now ≡ was) ⊎ (now ≡ Equal) → was ≡ Equal → now ≡ Equal

@@ -1,5 +1,5 @@
 -- What every graph keeps, where a node is added.
-use Rattle.std.proofs.Common.{◌≡◌, ◌⊎◌, inl, inr, ℕ, zero, suc, ◌+◌, ◌<◌, ◌≤◌, Bool, List, Option, None, Some, option_map, Ok, Err, refl, sym, ap, subst, ◌∙◌, arith}
+use Rattle.std.proofs.Common.{◌≡◌, ℕ, ◌+◌, ◌≤◌, Bool, List, Option, None, Some, option_map, Ok, Err, refl, sym, ap, subst, ◌∙◌, arith}
 use Rattle.std.specs.Prelude.{Result, IfOk, OnOk, OnErr, IsErrOf}
 use Rattle.inc_value.specs.declared.function.FnRef.{FnRef}
 use Rattle.inc_value.specs.declared.node.NodeId.{NodeId}
@@ -83,11 +83,6 @@ adds_of s t def ty (Ok id) k unshown uncalled equal a row beside = record {
   equal = ap cutoff_in (row.now Main) ∙ equal;
 }
 adds_of s t def ty (Err e) k unshown uncalled equal a row beside = tt
-
-below_or_not : (m n : ℕ) → (m < n) ⊎ (n ≤ m)
-below_or_not m zero = inr (omega arith)
-below_or_not zero (suc n) = inl (omega arith)
-below_or_not (suc m) (suc n) = elim (below_or_not m n) [ inl h ↦ inl (omega (arith, h)) | inr h ↦ inr (omega (arith, h)) ]
 
 pub answer_given : (old new : Arena) (def : Def) (ty : Ty) (result : Result NodeId AddFault) → AddAnswers old new def ty result → old.given ≤ new.given
 answer_given old new def ty (Ok id) a = let g = a.given in omega (arith, g)

@@ -1,5 +1,5 @@
 -- What bodies call is usable, where each of their lines calls functions of the library, or the small one within.
-use Rattle.std.proofs.Common.{◌≡◌, ◌≤◌, inl, inr, arith, ℕ, Bool, List, [], ◌∷◌, ◌++◌, Option, Some, Result, Ok, Err, IfOk, refl, sym, ap, subst, ◌∙◌}
+use Rattle.std.proofs.Common.{◌≡◌, ◌≤◌, inl, inr, arith, ℕ, Bool, List, [], ◌∷◌, ◌++◌, Option, Some, refl, sym, subst}
 use Rattle.std.specs.Prelude.{IsTrue, slice_get}
 use Rattle.inc_value.specs.Choice.{Among, Every}
 use Rattle.inc_value.specs.declared.function.FnKind.{FnKind}
@@ -31,16 +31,6 @@ fit_after old new side kept same is fit = subst (λ (a : Arena). AreFit a kept.i
 -- where none is listed
 pub none_fit : (a : Arena) (ids : List Listed) → ids ≡ [] → AreFit a ids
 none_fit a ids none = subst (λ (xs : List Listed). AreFit a xs) (sym none) (λ x among. absurd among)
-
--- a function that was kept is as small as what was to be kept
-pub small_after : {E : Type 0} (r : Result FnRef E) (known : FnRef → Bool) (right : FnRef → RightSide) (side : RightSide) → side.ids ≡ []
-    → side.size ≤ 2 → IfOk r (λ f. IsTrue (known f)) → IfOk r (λ f. right f ≡ side) → IfOk r (IsSmall known right)
-small_after (Ok f) known right side none few is same = record {
-  is_known = is;
-  ids = ap (λ (s : RightSide). s.ids) same ∙ none;
-  size = subst (λ (s : RightSide). s.size ≤ 2) (sym same) few;
-}
-small_after (Err e) known right side none few is same = tt
 
 -- functions of the library are known, and make no right sides
 pub library_known : (sides : List Maker) (f : FnRef) → IsTrue (library.known f) → IsTrue (is_known library.known sides f)

@@ -1,7 +1,6 @@
 -- What is built adds up.
-use Rattle.std.proofs.Common.{arith, ◌≡◌, ◌≤◌, ◌+◌, ◌⊎◌, inl, inr, ℕ, List, [], ◌∷◌, ◌++◌, Option, Some, IfSome, refl, sym, subst, ap, ◌∙◌, sum_by}
+use Rattle.std.proofs.Common.{arith, ◌≡◌, ◌≤◌, ◌+◌, ◌⊎◌, inl, inr, ℕ, List, [], ◌∷◌, Option, Some, IfSome, refl, sym, subst, ap, ◌∙◌, sum_by}
 use Rattle.std.proofs.lemmas.List.Sums.{sum_by-append}
-use Rattle.inc_value.specs.Choice.{Among}
 use Rattle.inc_value.specs.declared.node.NodeId.{NodeId}
 use Rattle.inc_value.specs.declared.ty.Ty.{Ty}
 use Rattle.inc_terms.specs.Graph as graph
@@ -99,48 +98,6 @@ module _ (uses : List Use) (old mid new : Building) (k : ℕ) (grows : Grows use
       live = (let e = grows.live in let l = adds.live in let g = adds.given in omega (arith, e, l, g));
       few = (let le = grows.few in let g = adds.given in let one = weighs_one uses def w weighs in omega (arith, le, g, one));
     }
-
-among_left : (x : Weighed) (xs ys : List Weighed) → Among x xs → Among x (xs ++ ys)
-among_left x [] ys h = absurd h
-among_left x (y ∷ xs) ys (inl e) = inl e
-among_left x (y ∷ xs) ys (inr h) = inr (among_left x xs ys h)
-
-among_right : (x : Weighed) (xs ys : List Weighed) → Among x ys → Among x (xs ++ ys)
-among_right x [] ys h = h
-among_right x (y ∷ xs) ys h = inr (among_right x xs ys h)
-
--- what is built in two parts
-pub grown_then : (uses : List Use) (old mid new : Building) (k l : ℕ) → Grows uses old mid k → Grows uses mid new l → Grows uses old new (k + l)
-grown_then uses old mid new k l g h = record {
-  keeps = λ n is. h.keeps n (given_mid uses old mid new k g n is) ∙ g.keeps n is;
-  later = (let le = g.later in let le' = h.later in omega (arith, le, le'));
-  scope = h.scope ∙ g.scope;
-  nodes = g.nodes ++ h.nodes;
-  built = λ n r is. elim (h.built n r is) [
-    | inl was ↦ elim (g.built n r was) [
-      | inl before ↦ inl before
-      | inr b ↦ inr (record {
-        scope = b.scope;
-        calls = b.calls;
-        weighed = b.weighed;
-        among = among_left b.weighed g.nodes h.nodes b.among;
-        node = b.node;
-        weight = b.weight;
-      })
-    ]
-    | inr b ↦ inr (record {
-      scope = b.scope ∙ ap Some g.scope;
-      calls = b.calls;
-      weighed = b.weighed;
-      among = among_right b.weighed g.nodes h.nodes b.among;
-      node = b.node;
-      weight = b.weight;
-    })
-  ];
-  total = (let e = sum_by-append weight_of g.nodes h.nodes in let t = g.total in let t' = h.total in omega (arith, e, t, t'));
-  live = (let e = g.live in let e' = h.live in omega (arith, e, e'));
-  few = (let f = g.few in let f' = h.few in omega (arith, f, f'));
-}
 
 -- a greater number
 pub grown_most : (uses : List Use) (old new : Building) (k l : ℕ) → Grows uses old new k → k ≤ l → Grows uses old new l

@@ -1,6 +1,6 @@
 -- What a node gives by what its children show.
 use Rattle.std.proofs.Common.{◌≡◌, ◌⊎◌, inl, inr, ℕ, zero, suc, ◌<◌, ◌+◌, ◌++◌, Bool, true, false, List, [], ◌∷◌, length, take, get_or, Option, None, Some}
-use Rattle.std.proofs.Common.{refl, sym, ap, subst, ◌∙◌, IsTrue, IsSome, arith, append-nil}
+use Rattle.std.proofs.Common.{refl, sym, ap, subst, ◌∙◌, IsSome, arith, append-nil}
 use Rattle.std.specs.Prelude.{is_some, IfSome, IfOk, option_and_then, Result, Ok, Err}
 use Rattle.std.specs.List.{AllZip, cons_option, filter_map}
 use Rattle.std.proofs.lemmas.List.{take_more}
@@ -170,19 +170,6 @@ module _ (rows : Rows Progress) where
 
   pub all_shown : (nodes : List NodeId) → AllShow rows nodes → length (filter_map (value_shown rows) nodes) ≡ length nodes
   all_shown nodes all = as_many nodes (filter_map (value_shown rows) nodes) (filter_is_shown nodes all)
-
-  -- the test tells that the children don't show what the function was last called on
-  pub not_last : (nodes : List NodeId) (x : Option Call) (a b : Call) (values : List Value) (shows : Bool)
-      → Some a ≡ x → x ≡ Some b → values ≡ a.arguments → shows ≡ false → (AllZip (ShowsValue rows) nodes values → IsTrue shows)
-      → AllZip (ShowsValue rows) nodes b.arguments → ⊥
-  not_last nodes x a b values shows was is same not tells shown =
-      let arguments : values ≡ b.arguments = same ∙ ap (λ (c : Call). c.arguments) (same_Some a b (was ∙ is)) in
-      let h : IsTrue shows = tells (subst (λ (vs : List Value). AllZip (ShowsValue rows) nodes vs) (sym arguments) shown) in
-      cc
-
--- it was never called
-pub never_last : (x : Option Call) (b : Call) → None ≡ x → x ≡ Some b → ⊥
-never_last x b none some = none-some b (none ∙ some)
 
 -- ---- what a node gives whose function is called on what its children show
 

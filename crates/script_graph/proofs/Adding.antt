@@ -1,6 +1,6 @@
 -- A graph takes a welcome definition, unless there is no memory.
 use Rattle.std.proofs.Common.{◌≡◌, inl, inr, ◌-◌, ◌^◌, ◌<◌, Bool, None, Some, Result, Ok, Err, IfErr, IsErrOf, ap, sym, subst, ◌∙◌, arith}
-use Rattle.graph.specs.Effects.{top, Adds, IsAddFault, NamesUnknown, IsMistyped, HasNoRoom}
+use Rattle.graph.specs.Effects.{IsAddFault, NamesUnknown, IsMistyped, HasNoRoom}
 use Rattle.graph.specs.Standing.{Standing, IsUnbroken, IsBroken}
 use Rattle.graph.specs.declared.fault.GraphFault.{GraphFault}
 use Rattle.graph.specs.declared.fault.GraphFault.TheVariants as fault
@@ -17,10 +17,6 @@ use Rattle.script_graph.specs.Growing.{IsWelcome}
 pub welcome_as : (known : FnRef → Bool) (right : FnRef → RightSide) (a : Arena) (d : Def) (own ty : Ty) → IsWelcome known right a d ty → own ≡ ty
     → IsWelcome known right a d own
 welcome_as known right a d own ty welcome same = subst (IsWelcome known right a d) (sym same) welcome
-
--- what was added with its own type was added with each that is the same
-pub added_as : {F : Type 0} (old new : Standing F) (n : NodeId) (d : Def) (own ty : Ty) → own ≡ ty → Adds old new n (top d own) → Adds old new n (top d ty)
-added_as old new n d own ty same added = subst (λ (t : Ty). Adds old new n (top d t)) same added
 
 module _ {F : Type 0} (s : Standing F) (known : FnRef → Bool) (right : FnRef → RightSide) (d : Def) (ty : Ty)
     (whole : IsUnbroken s) (welcome : IsWelcome known right s.nodes d ty)

@@ -89,12 +89,6 @@ kept a i g r is = go (slot_in a.slots i) refl
         ap (λ (o : Option Entry). and_then o (λ (d : Entry). if d.gen_ == g then Some (row_of d.row) else None)) at in cc)
     go (Some e) at = refl
 
--- where each live node was live, no more are
-pub live_within : (a a' : Arena) → ((n : NodeId) (r : Row) → row_at a' n ≡ Some r → (q : Row) × (row_at a n ≡ Some q)) → live a' ≤ live a
-live_within a a' h = count_all a.slots a'.slots (λ i is.
-    let t = told a' i is in
-    let q = h (id_in i t.0) t.1 t.2 in kept a i t.0 q.0 q.1)
-
 -- one node more is live at most
 pub live_more : (a a' : Arena) (id : NodeId) (row : Option Row) → Changes a a' id row → live a' ≤ live a + 1
 live_more a a' id row h = count_more a.slots a'.slots id.slot (λ i other is.

@@ -44,7 +44,6 @@ use Rattle.script_graph.specs.Represents.{AreNames, beside, graph_functions}
 use Rattle.script_graph.specs.Sound.{AreFew, HasLiveNode, HasTarget, HaveNodes, IsLiveBind, IsSound}
 use Rattle.script_graph.specs.State.{MatchesMoment}
 use Rattle.script_graph.proofs.Bodies.{AreKnown, IsKnownSide, terms_stay}
-use Rattle.script_graph.proofs.Counting.{live_within}
 use Rattle.script_graph.proofs.Declaring.{declaring_stands, with_declared}
 use Rattle.script_graph.proofs.Extending.{BodiesServe, NodesGiven, WereLive, beside_without, extends_without, stands_on, taken_back_extends}
 use Rattle.script_graph.proofs.Few.{few_back, few_made}
@@ -327,10 +326,6 @@ module _ {F : Type 0} (first full now : Standing F) (count : ℕ) (more : Extend
     | inl low ↦ sym (more.rows n (omega (arith, low, since))) ∙ (sym (back.older n low) ∙ is)
     | inr high ↦ absurd (none-some r (sym (back.dropped n high) ∙ is))
   ]
-
-  -- no more nodes are live
-  pub back_few : live now.nodes ≤ live first.nodes
-  back_few = live_within first.nodes now.nodes (λ n r is. (r, back_live n r is))
 
 -- ---- a variable that may be set
 

@@ -1,5 +1,5 @@
 -- A script after a grab: a name for the right side that a bind has.
-use Rattle.std.proofs.Common.{◌≡◌, ◌⊎◌, inl, inr, ℕ, zero, suc, ◌+◌, ◌<◌, Bool, true, false, cond, List, [], ◌∷◌, ◌++◌, map, length, Option, None, Some, IsTrue, option_map, refl, ap, sym, subst, ◌∙◌, arith, slice_get}
+use Rattle.std.proofs.Common.{◌≡◌, ◌⊎◌, inl, inr, ℕ, zero, suc, ◌+◌, ◌<◌, Bool, true, false, cond, List, [], ◌∷◌, ◌++◌, length, Option, None, Some, IsTrue, option_map, refl, ap, sym, subst, ◌∙◌, arith, slice_get}
 use Rattle.std.proofs.lemmas.List.{get_or_append_left, get_or_at}
 use Rattle.std.proofs.lemmas.Option.{slice_get_within, slice_get-map, none-some}
 use Rattle.std.proofs.lemmas.Bool.{eqb-true, eq-eqb}
@@ -14,14 +14,14 @@ use Rattle.inc_value.specs.Ty.{type_of_base}
 use Rattle.inc_value.specs.declared.ty.Ty.{Ty}
 use Rattle.inc_value.specs.declared.ty.Ty.TheVariants as types
 use Rattle.inc_value.specs.declared.value.Value.{Value as GraphValue}
-use Rattle.inc_terms.specs.Graph.{Row, Def, Built as BuiltFor}
+use Rattle.inc_terms.specs.Graph.{Row, Built as BuiltFor}
 use Rattle.inc_terms.specs.Rebuilding.{outcome_of}
 use Rattle.inc_terms.specs.Term as term
 use Rattle.inc_terms.specs.Within.{Given}
 use Rattle.link_table.proofs.Lists.{get_append_last}
 use Rattle.node_arena.specs.Arena.{row_at}
 use Rattle.node_arena.specs.Sound as arena
-use Rattle.node_arena.specs.Typing.{Fits as FitsType, Makes}
+use Rattle.node_arena.specs.Typing.{Fits as FitsType}
 use Rattle.script_model.specs.Check.{Declared, Kind, Take, Bind as BindKind, Grab as GrabKind, declared_of, is_bind, kind_of_body, target_of_body}
 use Rattle.script_model.specs.Formula.{State, Body, Entry, Formula, Kept as KeptOf, Meanings, meanings_of, bind_at, bind_of, body_at, built_at, entry_at, places_of_body, Literal, Name, Bound, Apply, Fold, If, Join, Bind, At, Steps, Now, Computed, Grab}
 use Rattle.script_model.specs.Step.{Moment, alias, declared_in, grab_of, grab_or, is_live_grab, live_grab, moved, own_grab}
@@ -113,23 +113,6 @@ bind_known (Some d) is = (d, refl, by_kind d.kind is)
 module _ (k : Kept) (h : IsSound k) (sound : arena.IsSound (arena_of k))
     (roots : RootsFit (arena_of k) (graph k.graph))
     (name : List ℕ) (ty : Ty) (b : ℕ) (root : NodeId) (fits : GrabFits k.names name ty b) (is_right : IsRightSide k b root) where
-  pub root_fits : Given (arena_of k).given root × FitsType (arena_of k) root ty
-  root_fits =
-      let d = bind_known (slice_get k.names.declared b) fits.is_bind in
-      let f = fits.bind_fits in
-      let t = (h.has_nodes f.place f.declared f.stands).target in
-      let there : slice_get k.names.declared b ≡ Some t.target = subst (λ (j : ℕ). slice_get k.names.declared j ≡ Some t.target) f.target t.is_target in
-      let same : t.target ≡ d.0 = (let c : Some t.target ≡ Some d.0 = sym there ∙ d.1 in cc) in
-      let itself : d.0.target ≡ b = ap (λ (c : Declared). c.target) (sym same) ∙ (t.itself ∙ f.target) in
-      let typed : d.0.ty ≡ ty = ap (λ (c : Declared). c.ty) (sym same) ∙ (t.typed ∙ f.typed) in
-      let live = (h.has_nodes b d.0 d.1).live itself (λ grab. let clash : BindKind ≡ GrabKind = sym d.2 ∙ grab in cc) in
-      let bind = live.bind d.2 in
-      let makes = subst (λ (def : Def). Makes (arena_of k) def bind.0.ty) bind.5 (sound.types (node_in k.nodes b) bind.0 bind.4) in
-      let rows : bind.0 ≡ live.row = (let c : Some bind.0 ≡ Some live.row = sym bind.4 ∙ live.is_row in cc) in
-      let gives : bind.2.sig.gives ≡ ty = makes.gives ∙ (ap (λ (r : Row). r.ty) rows ∙ (live.typed ∙ typed)) in
-      let w = then_some ((graph k.graph).built (node_in k.nodes b)) (λ (w : BuiltFor). w.root) root is_right in
-      let fit = roots (node_in k.nodes b) bind.0 bind.1 bind.2 bind.3 w.0 root bind.4 bind.5 w.1 w.2 in
-      (fit.0, subst (FitsType (arena_of k) root) gives fit.1)
 
 -- ---- live grabs
 
@@ -292,13 +275,6 @@ module _ (named : List ℕ → Option FnRef) (value : FnRef → List GraphValue 
 
   abbrev declarations : ℕ
   declarations = length k.names.declared
-
-  mapped : (es : List Entry) → length (map declared_of es) ≡ length es
-  mapped [] = refl
-  mapped (e ∷ es) = ap (λ n. suc n) (mapped es)
-
-  size : declarations ≡ length s.entries
-  size = ap (λ (ds : List Declared). length ds) names.declared ∙ mapped s.entries
 
   -- ---- the bind
 

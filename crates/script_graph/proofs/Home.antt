@@ -14,7 +14,6 @@ use Rattle.script_model.specs.Formula.{State, Body, Formula, body_at, meanings_o
 use Rattle.script_model.specs.Need.{Edge, Argument, Test, Then, Else, Child, Left, Inside, Item, Named, Place, part_at, part_of, formula_at}
 use Rattle.script_model.specs.Values.{Value}
 use Rattle.script_graph.specs.Kept.{Kept, node_in}
-use Rattle.script_graph.specs.Represents.{beside}
 use Rattle.script_graph.specs.Today.{IsWithin, IsPartWithin}
 use Rattle.script_graph.proofs.Middle.{IsStabilize, middle, fits_then, tops, bind_node, aged_then}
 use Rattle.script_graph.proofs.Owner.{IsResolved}
@@ -37,14 +36,9 @@ inside_bind g f v e = absurd (cc)
 
 module _ (named : List ℕ → Option FnRef) (value : FnRef → List GraphValue → GraphValue) (s : State) (k : Kept) (g : Standing (Unit {0}))
     (c : IsStabilize (meanings_of named value) s k g) where
-  abbrev x : Both
-  x = beside (meanings_of named value) s k
 
   abbrev y : Both
   y = middle (meanings_of named value) s k g
-
-  abbrev G : Graph
-  G = graph k.graph
 
   abbrev G' : Graph
   G' = graph g

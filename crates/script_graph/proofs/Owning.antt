@@ -361,9 +361,3 @@ module _ (F : Meanings) (s : State) (k : Kept) (held : Represents F s k) where
   -- the node of a declaration that has one of its own was given after those of earlier declarations
   pub aged_name : (n : ℕ) (b : Body) → body_at s n ≡ Some b → HasOwnNode b → IsWithin k.nodes n (node_in k.nodes n)
   aged_name n b is own = own_name (beside F s k) (IsWithin k.nodes) (IsPartWithin k.nodes) held.today.aged n b is own
-
-  -- that of a part outside all bodies of binds was given before that of the declaration
-  pub aged_part : (owner : ℕ) (edge : Edge) (path : List Edge) (g : Formula) (n : NodeId) → IsOutside (edge ∷ path)
-      → formula_at s owner (edge ∷ path) ≡ Some g → IsForm g → node_at (beside F s k) owner (edge ∷ path) ≡ Some n → IsPartWithin k.nodes owner n
-  aged_part owner edge path g n out is own at =
-      own_part (beside F s k) (IsWithin k.nodes) (IsPartWithin k.nodes) held.today.aged owner edge path g n out is own at

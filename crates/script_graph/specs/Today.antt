@@ -5,13 +5,13 @@ use Rattle.inc_value.specs.declared.node.NodeId.{NodeId}
 use Rattle.inc_value.specs.declared.value.Value.{Value}
 use Rattle.inc_terms.specs.Graph as graph
 use Rattle.inc_terms.specs.Graph.{Graph, Row, Def}
-use Rattle.formula_elab.specs.Today.{IsLaidOut, IsLaidOutBody}
+use Rattle.formula_elab.specs.Today.{IsLaidOutBody}
 use Rattle.graph.specs.Standing.{cutoff_of, graph as graph_of_standing}
 use Rattle.map_nodes.specs.declared.cutoff.Cutoff.TheVariants.{Equal}
 use Rattle.node_arena.specs.Arena.{Arena}
 use Rattle.node_arena.specs.RightSide.{AreFit, RightSide}
 use Rattle.script_model.specs.Formula.{Formula, Formulas, Body, State, Observer, body_at, Literal, Name, Apply, Fold, If, Join, Bind, End, More, Variable, Computed, Grab, Unwatched}
-use Rattle.script_model.specs.Leaves.{EveryReference, EveryLeaf, EveryLeafOf}
+use Rattle.script_model.specs.Leaves.{EveryReference, EveryLeafOf}
 use Rattle.script_model.specs.Settle.{Notice}
 use Rattle.script_model.specs.Values.{Outcome, Val, Invalid}
 use Rattle.script_graph.specs.Kept.{Kept, node_in}
@@ -22,10 +22,6 @@ use Rattle.transfer.specs.Shows.{IsOwn}
 -- a declaration that is there, and is no other name
 abbrev pub IsDeclaredTarget : State → ℕ → Type 0
 IsDeclaredTarget s t = (b : Body) × (body_at s t ≡ Some b) × IsOwn (Some b)
-
--- the formula is of forms that are laid out, the names that it reads have the one property, and what its values refer to has the other
-abbrev pub IsPlain : (ℕ → Type 0) → (ℕ → Type 0) → Formula → Type 0
-IsPlain P R f = IsLaidOut 0 f × EveryLeaf P R f
 
 -- what is declared is of such forms, or a grab, and has such names and references
 abbrev pub IsPlainBody : (ℕ → Type 0) → (ℕ → Type 0) → Body → Type 0

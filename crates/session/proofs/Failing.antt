@@ -24,10 +24,6 @@ pub if_some_from : {T : Type 0} {P Q : T → Type 0} (o : Option T) → IfSome o
 if_some_from None p f = tt
 if_some_from (Some x) p f = f x p
 
-pub if_none_from : {T P Q : Type 0} (o : Option T) → IfNone o P → (P → Q) → IfNone o Q
-if_none_from None p f = f p
-if_none_from (Some x) p f = tt
-
 -- what a call that failed doesn't owe
 pub no_ok : {T E : Type 0} (r : Result T E) (P : T → Type 0) → is_err r ≡ true → IfOk r P
 no_ok (Ok x) P is = absurd (cc)

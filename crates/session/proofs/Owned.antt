@@ -120,7 +120,3 @@ own_root g p n top is own =
       λ e. own.2 (same ∙ e),
       ap (λ (q : Point). q.node) own.3 ∙ same,
     )
-
--- what isn't live is none
-pub dead_root : {A : Type 0} (g : Standing A) (p : Point) (n : NodeId) → (IsLive g.nodes n → ⊥) → IsOwnRoot g p n → ⊥
-dead_root g p n dead own = dead (owned_is_live (graph g) n own.0 own.1)

@@ -46,9 +46,6 @@ module _ {A : Type 0} (g : Standing A) (declared : List Declared) (nodes : List 
       pub is_first : first ≡ slice_get targets 0
       pub passed : (more : List ℕ) → PassesAll g declared nodes (drop (i - 1) points) more → PassesAll g declared nodes points (targets ++ more)
 
-    pub none_told : AreTold 1 written None
-    none_told = record { targets = []; from = omega arith; named = sym (append-nil written); is_first = refl; passed = λ more passes. passes }
-
     module _ (i : ℕ) (before point : Point) (at_before : slice_get points (i - 1) ≡ Some before) (at_point : slice_get points i ≡ Some point)
         (line : List ℕ) (first : Option ℕ) (told : AreTold i line first) where
       tail : drop i points ≡ point ∷ drop (suc i) points

@@ -1,5 +1,5 @@
 -- Nodes that were added to a bind's scope get their points, and enter it.
-use Rattle.std.proofs.Common.{◌≡◌, ◌≢◌, ◌⊎◌, inl, inr, ℕ, ◌<◌, ◌≤◌, ◌+◌, ◌^◌, Option, None, Some, refl, sym, ap, subst, ◌∙◌, arith}
+use Rattle.std.proofs.Common.{◌≡◌, ◌≢◌, ◌⊎◌, inl, inr, ℕ, ◌<◌, ◌≤◌, ◌+◌, Option, None, Some, refl, sym, ap, subst, ◌∙◌, arith}
 use Rattle.std.specs.Prelude.{is_some, IsSome}
 use Rattle.std.proofs.lemmas.Bool.{cases_lt}
 use Rattle.std.proofs.lemmas.Option.{none-some}
@@ -7,24 +7,22 @@ use Rattle.inc_value.specs.Choice.{Among}
 use Rattle.inc_value.specs.declared.node.NodeId.{NodeId}
 use Rattle.inc_value.specs.declared.node.Part.{Part}
 use Rattle.inc_value.specs.declared.node.Point.{Point}
-use Rattle.inc_value.specs.declared.node.Part.TheVariants.{Main}
-use Rattle.inc_terms.specs.Depend.{main, change, subject_of}
+use Rattle.inc_terms.specs.Depend.{subject_of}
 use Rattle.inc_terms.specs.Graph.{Row}
-use Rattle.necessary_graph.specs.Part.{Needed, IsInStep}
+use Rattle.necessary_graph.specs.Part.{IsInStep}
 use Rattle.node_arena.specs.Arena.{Arena, row_at, IsLive}
 use Rattle.node_arena.specs.Sound.{IsSound, IsFirstSince}
 use Rattle.node_outcomes.specs.Computing.{has_part}
-use Rattle.point_map.specs.Rows.{Rows, at, Holds, KeepsRows}
+use Rattle.point_map.specs.Rows.{Rows, at, KeepsRows}
 use Rattle.scopes.specs.Scopes.{Scopes, IsApart, Enters}
 use Rattle.stabilize_round.proofs.Points.{node_or_other}
 use Rattle.wiring.specs.Wiring.{KeepsRound}
 use Rattle.wiring.specs.declared.work.Work.{Work}
 use Rattle.wiring.specs.Places.{ChangesNode, for_parts, pairs_with}
-use Rattle.wiring.proofs.Deciding.{need_same}
-use Rattle.wiring.proofs.Placing.{at_node, has_parts, one_for_all, pair_listed, pair_stays, came_and_went}
+use Rattle.wiring.proofs.Placing.{at_node, has_parts, one_for_all, pair_listed, pair_stays}
 use Rattle.stabilizer.specs.Building.{new_row, IsNewBefore, HasAdopted, HaveEntered, AdoptsBefore, MayAdopt, GetsPoints, KeepsRest}
 use Rattle.stabilizer.specs.declared.parts.Parts.{Parts}
-use Rattle.stabilizer.proofs.Growing.{holds_none, none_holds, some_is}
+use Rattle.stabilizer.proofs.Growing.{none_holds, some_is}
 
 -- what a round keeps through two calls
 pub rounds_kept : (old mid new : Work) → KeepsRound old mid → KeepsRound mid new → KeepsRound old new
@@ -124,18 +122,6 @@ module _ (a : Arena) (node : NodeId) (count next : ℕ) (sound : IsSound a) (low
 
   -- it isn't there yet
   module _ (old mid : Work) (so : HasAdopted a count (IsNewBefore a count next) old mid) where
-    is_since : (p : Point) → p.node ≡ node → count ≤ p.node.gen_
-    is_since p is =
-        let e : p.node.gen_ ≡ node.gen_ = ap (λ (x : NodeId). x.gen_) is in
-        let s = new_since in
-        omega (arith, e, s)
-
-    pub no_row_yet : (p : Point) → p.node ≡ node → at mid.rows p ≡ None
-    no_row_yet p is = holds_none (at mid.rows p) (λ h. not_yet p.node is (so.points.alone p (is_since p is) h))
-
-    pub no_point_yet : (p : Point) → p.node ≡ node → at mid.graph.heights p ≡ None
-    no_point_yet p is = holds_none (at mid.graph.heights p)
-        (λ h. none_holds (at mid.rows p) (no_row_yet p is) (sym (so.points.there p (is_since p is)) ∙ h))
 
     module _ (new : Work) (gets : GetsPoints a mid new node) (rest : KeepsRest a mid new) where
       row_new : (p : Point) → p.node ≡ node → is_some (at new.rows p) ≡ has_part (Some gets.row) p.part
@@ -263,12 +249,6 @@ module _ (old mid : Parts) (b node : NodeId) (count next : ℕ) (may : MayAdopt 
   first : IsFirstSince old.arena next node
   first = subst (λ (x : Arena). IsFirstSince x next node) so.arena first_now
 
-  pub next_no_row : (p : Point) → p.node ≡ node → at mid.work.rows p ≡ None
-  next_no_row = no_row_yet old.arena node count next may.sound low first old.work mid.work so.work
-
-  pub next_no_point : (p : Point) → p.node ≡ node → at mid.work.graph.heights p ≡ None
-  next_no_point = no_point_yet old.arena node count next may.sound low first old.work mid.work so.work
-
   pub next_apart : IsApart mid.scopes node
   next_apart = apart_yet old.arena node count next may.sound low first old.scopes mid.scopes mid.scopes b so.scopes
       (may.apart node (new_since old.arena node count next may.sound low first))
@@ -276,9 +256,6 @@ module _ (old mid : Parts) (b node : NodeId) (count next : ℕ) (may : MayAdopt 
   -- its id was given
   pub next_given : node.gen_ + 1 ≤ old.arena.given
   next_given = let g = may.sound.given node first.live in omega (arith, g)
-
-  pub next_fits : node.gen_ + 1 < 2 ^ 64
-  next_fits = let g = may.sound.given node first.live in let f = may.sound.count in omega (arith, g, f)
 
   pub next_low : count ≤ node.gen_ + 1
   next_low = let s = new_since old.arena node count next may.sound low first in omega (arith, s)
@@ -341,40 +318,14 @@ module _ (a : Arena) (old mid : Work) (node : NodeId) (row : Row) (is_row : row_
     scoped = scoped;
   }
 
-  held_row : (p : Point) → p.node ≡ node → is_some (at mid.rows p) ≡ is_some (for_parts row.def (λ part. new_row) p.part)
-  held_row p is = ap is_some (at_node mid.rows p node is ∙ rows.now p.part)
-
-  -- the node's points are there where its rows are
-  alike : (p : Point) → p.node ≡ node → is_some (at mid.graph.heights p) ≡ is_some (at mid.rows p)
-  alike p is = ap is_some (at_node mid.graph.heights p node is ∙ points.now p.part)
-      ∙ (has_parts row heights p.part ∙ sym (held_row p is ∙ has_parts row (λ part. new_row) p.part))
-
-  pub main_there : Holds mid.graph.heights (main node) × Holds mid.rows (main node)
-  main_there = (ap is_some (points.now Main), ap is_some (rows.now Main))
-
-  pub change_there : Holds mid.rows (change node) → Holds mid.graph.heights (change node)
-  change_there h = alike (change node) refl ∙ h
-
-  pub change_not_there : at mid.rows (change node) ≡ None → at mid.graph.heights (change node) ≡ None
-  change_not_there e = holds_none (at mid.graph.heights (change node))
-      (λ h. none_holds (at mid.rows (change node)) e (sym (alike (change node) refl) ∙ h))
-
   module _ (before : IsInStep old.graph) (no_row : (p : Point) → p.node ≡ node → at old.rows p ≡ None)
       (no_point : (p : Point) → p.node ≡ node → at old.graph.heights p ≡ None) where
-    pub unneeded_yet : (p : Point) → p.node ≡ node → Needed mid.graph p → ⊥
-    unneeded_yet p is n = none_holds (at old.graph.heights p) (no_point p is)
-        (before.there p (need_same mid.graph old.graph (sym links) (sym roots) p n))
 
     -- its points were dropped again
     module _ (new : Work) (gone : ChangesNode mid.rows new.rows node (λ part. None))
         (dropped : ChangesNode mid.graph.heights new.graph.heights node (λ part. None)) (same_links : new.graph.links ≡ mid.graph.links)
         (same_roots : new.graph.roots ≡ mid.graph.roots) (same_heap : new.graph.heap ≡ mid.graph.heap) (new_step : IsInStep new.graph)
         (same : new ≡ record mid { graph = new.graph; rows = new.rows }) (same_todo : new.todo ≡ mid.todo) (same_round : KeepsRound mid new) where
-      pub back_rows : KeepsRows old.rows new.rows
-      back_rows = came_and_went old.rows mid.rows new.rows node (for_parts row.def (λ part. new_row)) no_row rows gone
-
-      pub back_points : KeepsRows old.graph.heights new.graph.heights
-      back_points = came_and_went old.graph.heights mid.graph.heights new.graph.heights node (for_parts row.def heights) no_point points dropped
 
       pub back_rest : KeepsRest a old new
       back_rest = record {

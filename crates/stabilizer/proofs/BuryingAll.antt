@@ -1,7 +1,7 @@
 -- The nodes that are to die are buried and dropped one after the other.
 use Rattle.std.proofs.Common.{◌≡◌, ◌≢◌, ◌⊎◌, inl, inr, ℕ, true, List, [], ◌∷◌, ◌++◌, Option, None, refl, sym, ap, subst, ◌∙◌}
 use Rattle.std.specs.Prelude.{is_some, IsSome}
-use Rattle.std.proofs.lemmas.List.{append_assoc, append-nil}
+use Rattle.std.proofs.lemmas.List.{append_assoc}
 use Rattle.inc_value.specs.declared.node.NodeId.{NodeId}
 use Rattle.inc_value.specs.declared.node.Point.{Point}
 use Rattle.inc_value.specs.Choice.{Among, NoRepeats}
@@ -31,39 +31,6 @@ pub record IsBurying (before : Arena) (old : Work) (all : List NodeId) (arena : 
   pub parts : all ≡ left ++ done
   pub buried : AreBuried before arena old now done
   pub step : IsInStep now.graph
-
-none_buried : (arena : Arena) (old : Work) → IsSound arena → AreBuried arena arena old old []
-none_buried arena old sound = record {
-  given = refl;
-  sound = sound;
-  dead = λ n a. absurd a;
-  others = λ n out. refl;
-  rows = λ p out. refl;
-  gone = λ p a. absurd a;
-  roots = λ p out. refl;
-  fewer = λ p e. e;
-  rootless = λ n a h. absurd a;
-  links = refl;
-  graph_roots = refl;
-  heights = λ p out. refl;
-  dropped = λ p a h none. absurd a;
-  absent = λ p e. e;
-  out = λ p a h. absurd a;
-  heap = λ p out h. h;
-  told = λ p n a reads. absurd a;
-  only = λ p h. inl h;
-  deaths = refl;
-  pairs = refl;
-  scoped = refl;
-  todo = refl;
-  ran = refl;
-  retries = refl;
-  round = refl;
-}
-
-pub burying_first : (arena : Arena) (old : Work) (all : List NodeId) → MayBury arena old all → IsBurying arena old all arena old all
-burying_first arena old all may =
-    record { done = []; parts = sym (append-nil all); buried = none_buried arena old may.sound; step = may.step }
 
 -- what stands in the first list doesn't in the second
 once_apart : (n : NodeId) (xs ys : List NodeId) → NoRepeats (xs ++ ys) → Among n xs → Among n ys → ⊥
@@ -237,9 +204,3 @@ module _ (before mid : Arena) (old now : Work) (all left rest : List NodeId) (n 
       buried = one_buried;
       step = step;
     }
-
--- none is left
-pub burying_last : (before arena : Arena) (old now : Work) (all left : List NodeId) → IsBurying before old all arena now left → left ≡ []
-    → AreBuried before arena old now all
-burying_last before arena old now all left so none =
-    subst (λ (xs : List NodeId). AreBuried before arena old now xs) (sym (so.parts ∙ ap (λ (xs : List NodeId). xs ++ so.done) none)) so.buried

@@ -1,5 +1,5 @@
 -- A change is turned: how the state follows.
-use Rattle.std.proofs.Common.{◌≡◌, ◌≢◌, ◌⊎◌, inl, inr, ℕ, ◌+◌, ◌<◌, ◌≤◌, Bool, true, false, List, [], ◌∷◌, Option, None, Some, refl, sym, ap, subst, ◌∙◌, arith}
+use Rattle.std.proofs.Common.{◌≡◌, ◌≢◌, ◌⊎◌, inl, inr, ℕ, ◌<◌, ◌≤◌, Bool, true, false, List, Option, None, Some, refl, sym, ap, subst, ◌∙◌, arith}
 use Rattle.std.specs.Prelude.{Result, Ok, Err, OnOk, IfErr, is_some, option_map}
 use Rattle.std.proofs.lemmas.Option.{none-some}
 use Rattle.inc_value.specs.declared.function.FnRef.{FnRef}
@@ -11,11 +11,10 @@ use Rattle.inc_terms.specs.Depend.{main, change}
 use Rattle.inc_terms.specs.Graph as graph
 use Rattle.inc_terms.specs.Graph.{Graph, Row}
 use Rattle.inc_terms.specs.Local.{shown}
-use Rattle.inc_terms.specs.Plan.{gate_of}
 use Rattle.inc_terms.specs.Term.{Functions}
 use Rattle.point_map.specs.Rows.{Rows, at, Holds}
 use Rattle.link_table.specs.Links.{times}
-use Rattle.height_order.specs.Levels.{level, or_zero}
+use Rattle.height_order.specs.Levels.{level}
 use Rattle.necessary_graph.specs.Part.{NecessaryPart, Needed}
 use Rattle.node_arena.specs.Arena.{Arena, row_at}
 use Rattle.node_outcomes.specs.Row.{IsRewritten, with_stage, with_outcome, stage_in, stage_of, outcome_in}
@@ -23,39 +22,27 @@ use Rattle.node_outcomes.specs.declared.row.Progress.{Progress}
 use Rattle.node_outcomes.specs.declared.row.Stage.{Stage}
 use Rattle.node_outcomes.specs.declared.row.Stage.TheVariants as code
 use Rattle.stabilize_round.specs.Invariant.{Invariant}
-use Rattle.stabilize_round.specs.Machine.{Move}
-use Rattle.stabilize_round.specs.Moves.{Quiet, IsLeast, Awaits}
+use Rattle.stabilize_round.specs.Moves.{Quiet, IsLeast}
 use Rattle.stabilize_round.specs.State as machine
-use Rattle.stabilize_round.specs.State.{State, Start, count, plan_at}
-use Rattle.stabilize_round.specs.Steps as steps
-use Rattle.stabilize_round.specs.Steps.{TakingOff, Preparing}
-use Rattle.stabilize_round.proofs.Machine.{moves_keep}
+use Rattle.stabilize_round.specs.State.{State, Start}
+use Rattle.stabilize_round.specs.Steps.{TakingOff}
 use Rattle.stabilize_round.proofs.Main.{main_change}
 use Rattle.stabilize_round.proofs.Parts.{bool_cases}
-use Rattle.stabilize_round.proofs.Points.{same_or_other, one_same}
-use Rattle.stabilize_round.proofs.Steps.{off_moves}
-use Rattle.wiring.specs.Graph.{graph_at}
+use Rattle.stabilize_round.proofs.Points.{same_or_other}
 use Rattle.wiring.specs.Kept.{IsKept}
 use Rattle.wiring.specs.Stands.{Stands, Counts}
-use Rattle.wiring.specs.Wiring.{IsTurnedIn}
 use Rattle.wiring.specs.declared.work.Work.{Work}
-use Rattle.wiring.proofs.Retrying.{off_keeps}
 use Rattle.wiring.proofs.Sight.{sees, reads_known, change_is}
-use Rattle.wiring.specs.Began.{IsRoundOf}
 use Rattle.wiring.specs.Turning.{IsAttached, IsLoosened, HasTurned}
 use Rattle.node_outcomes.specs.Choosing.{right_in}
 use Rattle.node_outcomes.specs.Computing.{has_part}
-use Rattle.node_outcomes.specs.Meaning.{Meaning}
 use Rattle.inc_value.specs.declared.node.Part.TheVariants.{Main}
 use Rattle.inc_terms.specs.Depend.{change_reads}
-use Rattle.link_table.specs.Links.{Reads}
 use Rattle.point_map.specs.Rows.{Changes}
-use Rattle.stabilizer.specs.Dying.{TakesLeast, StandsBefore}
-use Rattle.stabilizer.specs.Kept.{PartsKept}
+use Rattle.stabilizer.specs.Dying.{TakesLeast}
 use Rattle.stabilizer.specs.Stepping.{ChangeIsTurned}
-use Rattle.stabilizer.specs.declared.parts.Parts.{Parts}
 use Rattle.stabilizer.proofs.Waiting.{put_changes, put_back, with_change, change_back_kept, last, out_left, own_linked, loose_fewer, loose_heap, taken_off, last_kept}
-use Rattle.stabilizer.proofs.Running.{IsRun, StaysAbove, some_same, all_off_prepare, off_stays, graph_run, next, settles, turned_in}
+use Rattle.stabilizer.proofs.Running.{IsRun, StaysAbove, some_same, off_stays}
 
 -- ---- the state in which it is settled
 
@@ -287,92 +274,12 @@ module _ (arena : Arena) (taken turned : Work) (n : NodeId) (counts : Counts) (k
 
     -- ---- who is woken
 
-    abbrev ready : State
-    ready = readied.state
-
-    ready_inv : Invariant F z ready
-    ready_inv = moves_keep F z s ready (off_moves F z s ready readied.prepared) inv
-
-    ready_row : (a : Point) (r : Row) → ready.graph.row a.node ≡ Some r → row_at arena a.node ≡ Some r
-    ready_row a r e = sym (ap (λ (G : Graph). G.row a.node) readied.stands.graph) ∙ e
-
-    kept_of : (a : Point) (r : Row) → ready.needed a ≡ true → ready.graph.row a.node ≡ Some r → Holds readied.work.rows a
-    kept_of a r need row = elim (readied.kept.leaves a (readied.kept.step.there a ((readied.stands.needed a).0 need))) [
-      | inl h ↦ h
-      | inr dead ↦ absurd (none-some r (sym dead.0 ∙ ready_row a r row))
-    ]
-
-    gated_in : (a : Point) (x : Option Progress) → at readied.work.rows a ≡ x → is_some x ≡ true → ready.stage a ≡ machine.Gated → stage_in x ≡ Some code.Gated
-    gated_in a None e h g = absurd (cc)
-    gated_in a (Some k) e h g = ap (λ (y : Stage). Some y) (gated_of k.stage (sym (readied.stands.stage a k e) ∙ g))
-      where
-        gated_of : (y : Stage) → stage_of y ≡ machine.Gated → y ≡ code.Gated
-        gated_of code.Bare q = absurd (cc)
-        gated_of code.Gated q = refl
-        gated_of code.Static q = absurd (cc)
-        gated_of code.Full q = absurd (cc)
-
-    reads_gate : (a : Point) (r : Row) → ready.needed a ≡ true → ready.graph.row a.node ≡ Some r → r.scope ≡ Some n → ready.stage a ≡ machine.Gated
-        → Reads taken.graph.links a (change n)
-    reads_gate a r need row scope g =
-        let l = ready_inv.rows.links a (change n) need in
-        let o : count (change n) (ready.owed a) ≡ 0 = ap (count (change n)) (readied.stands.owed a) in
-        let p : plan_at ready.graph ready.out ready.died a (ready.graph.row a.node) (ready.stage a) ≡ change n ∷ [] =
-        ap (λ (x : Option Row). plan_at ready.graph ready.out ready.died a x (ready.stage a)) row
-        ∙ (ap (λ (x : machine.Stage). plan_at ready.graph ready.out ready.died a (Some r) x) g ∙ ap gate_of scope) in
-        let k : count (change n) (plan_at ready.graph ready.out ready.died a (ready.graph.row a.node) (ready.stage a)) ≡ machine.one (change n) (change n) + 0 =
-        ap (count (change n)) p in
-        let one = one_same (change n) in
-        let w = readied.stands.links a (change n) in
-        let f = readied.links a (change n) in
-        omega (arith, l, o, k, one, w, f)
-
-    is_woken : (a : Point) → Awaits ready n a → a ≢ main n → Among a turned.todo.items
-    is_woken a w ne = elim w.1 [
-      | inl x ↦ absurd (ne x.0)
-      | inr x ↦ subst (λ (xs : List Point). Among a xs) (sym readied.todo) ((c.wakes.listed a).1 (record {
-        reads = reads_gate a x.0 w.0 x.1 x.2 x.3;
-        stage = ap stage_in (sym (readied.rows a ne)) ∙ gated_in a (at readied.work.rows a) refl (kept_of a x.0 w.0 x.1) x.3;
-      }))
-    ]
-
     -- ---- the move
-
-    there : Holds readied.work.rows (change n)
-    there = ap is_some (readied.rows (change n) (λ e. main_change n n (sym e))) ∙ row_own
 
     ran : (r : Row) (l : NodeId) (f : FnRef) (captures : List NodeId) → row_at arena n ≡ Some r → r.def ≡ graph.Bind l f captures
         → outcome_in (at readied.work.rows (change n)) ≡ Some c.given
     ran r l f captures row is = ap outcome_in (readied.rows (change n) (λ e. main_change n n (sym e)))
         ∙ c.built l f captures (ap (λ (x : Row). x.def) (some_same c.row r (sym c.is_row ∙ row)) ∙ is)
-
-    same_graph : graph_at arena turned ≡ graph_at arena readied.work
-    same_graph = graph_run arena readied.work turned n c.given readied.work.round readied.run.rows readied.run.round.roots ran
-
-    out_ready : ready.out (change n) ≡ outcome_in (at readied.work.rows (change n))
-    out_ready = change_is ready arena readied.work counts readied.kept readied.stands n c.row c.is_row (ap is_some c.is_subject)
-
-    seen_ready : shown ready.graph ready.out (main c.subject) ≡ Some c.given
-    seen_ready =
-        let k = off_keeps F z s ready readied.prepared in
-        subst (λ (o : Point → Option Outcome). shown ready.graph o (main c.subject) ≡ Some c.given) (sym k.out)
-        (subst (λ (G : Graph). shown G s.out (main c.subject) ≡ Some c.given) (sym k.graph) seen_now)
-
-    pub moves : (r x : State) × Reaches (Preparing F z (change n)) s r × (m : Move F z r x) × steps.Settles (change n) m
-        × IsTurnedIn F z x arena turned counts n × (s.settled (change n) ≡ true → r ≡ s)
-    moves = (
-      ready,
-      next ready arena readied.work turned counts readied.stands n c.given there readied.run same_graph is_woken,
-      all_off_prepare F z (change n) s ready readied.prepared,
-      settles ready arena readied.work turned counts readied.stands n c.given there readied.run same_graph is_woken F z ready_inv readied.quiet c.row c.subject
-          c.is_row c.is_subject readied.least seen_ready (λ l f captures is. out_ready ∙ ran c.row l f captures c.is_row is) readied.right
-          (λ b x row scope same. (let low = kept.older n b x row scope in let gens = ap (λ (i : NodeId). i.gen_) same in omega (arith, low, gens))),
-      refl,
-      turned_in ready arena readied.work turned counts readied.stands n c.given there readied.run same_graph is_woken F z ready_inv readied.quiet c.row c.subject
-          c.is_row c.is_subject readied.least seen_ready (λ l f captures is. out_ready ∙ ran c.row l f captures c.is_row is) readied.right
-          (λ b x row scope same. (let low = kept.older n b x row scope in let gens = ap (λ (i : NodeId). i.gen_) same in omega (arith, low, gens))),
-      readied.again,
-    )
 
 -- ---- with the change in the heap
 
@@ -415,42 +322,6 @@ module _ (arena : Arena) (work taken : Work) (n : NodeId) (counts : Counts) (s :
     counts = st.counts;
     given = st.given;
   })
-
-  heights_as : taken.graph.heights ≡ work.graph.heights
-  heights_as = ap (λ (g : NecessaryPart). g.heights) takes.graph
-
-  -- and the change is least there
-  pub before_least : IsKept arena taken → Needed taken.graph (change n) → IsLeast s (change n)
-  before_least kept need = record {
-    heap = st.heap (change n) ∙ takes.held;
-    least = λ q h. elim (same_or_other q (change n)) [
-      | inl e ↦ subst (λ (x : Point). s.height (change n) ≤ s.height x) (sym e) (omega arith)
-      | inr ne ↦ above q ne (at work.graph.heap q) refl (sym (st.heap q) ∙ h)
-    ];
-  }
-    where
-      above : (q : Point) → q ≢ change n → (x : Option ℕ) → at work.graph.heap q ≡ x → is_some x ≡ true → s.height (change n) ≤ s.height q
-      above q ne None e h = absurd (cc)
-      above q ne (Some y) e h =
-          let low = takes.least q y e in
-          let in_step = kept.step.heap q y (takes.heap.others q ne ∙ e) in
-          let a = before_stands.height (change n) need in
-          let b = before_stands.height q in_step.1 in
-          let l : level taken.graph.heights (change n) ≡ level work.graph.heights (change n) = ap (λ (x : Rows ℕ). level x (change n)) heights_as in
-          let k : level taken.graph.heights q ≡ y = ap or_zero in_step.0 in
-          omega (arith, low, a, b, l, k)
-
--- from each state that the parts stand for whose heap lacks the change, moves lead to one in which the change was turned
-pub turned_moves : (M : Meaning) (old turned : Parts) (n : NodeId) (counts : Counts) → PartsKept old → Holds old.work.rows (change n)
-    → Needed old.work.graph (change n) → turned ≡ record old { work = turned.work } → ChangeIsTurned old.arena old.work turned.work n
-    → (z : Start) (s : State) → IsRoundOf M z s → Quiet s → StandsBefore old counts s n
-    → (ready next : State) × Reaches (Preparing M.functions z (change n)) s ready × (m : Move M.functions z ready next) × steps.Settles (change n) m
-    × IsTurnedIn M.functions z next turned.arena turned.work counts n × (s.settled (change n) ≡ true → ready ≡ s)
-turned_moves M old turned n counts kept row need only c z s begun quiet before =
-    let st = before_stands old.arena before.work old.work n counts s before.taken before.stands in
-    let least = before_least old.arena before.work old.work n counts s before.taken before.stands kept.work need in
-    let m = moves old.arena old.work turned.work n counts kept.work row need before.taken.heap.changed c M.functions z s begun.holds quiet st least in
-    (m.0, m.1, m.2, m.3, m.4, subst (λ (a : Arena). IsTurnedIn M.functions z m.1 a turned.work counts n) (sym (ap (λ (p : Parts). p.arena) only)) m.5, m.6)
 
 -- ---- results
 

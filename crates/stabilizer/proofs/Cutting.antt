@@ -9,7 +9,7 @@ use Rattle.inc_terms.specs.Depend.{main}
 use Rattle.inc_terms.specs.Graph.{Def}
 use Rattle.node_outcomes.specs.Meaning.{Meaning}
 use Rattle.map_nodes.specs.declared.cutoff.Cutoff.{Cutoff}
-use Rattle.point_map.specs.Rows.{Rows, at, KeepsRows}
+use Rattle.point_map.specs.Rows.{Rows, at}
 use Rattle.node_arena.specs.Arena.{Arena}
 use Rattle.stabilize_round.specs.Invariant.{ScopesRooted}
 use Rattle.stabilize_round.specs.Machine.{Entry}
@@ -183,9 +183,6 @@ module _ (old new : Parts) (id : NodeId) (c : Cutoff) (kept : PartsKept old) (w 
     cut_ready = subst (IsReady M) (sym rest) parts_ready
 
 -- ---- cutoffs stay
-
-pub rows_cutoffs : (old last : Work) → KeepsRows old.rows last.rows → (n : NodeId) → cutoff_at last n ≡ cutoff_at old n
-rows_cutoffs old last same n = ap cutoff_in (same (main n))
 
 -- a new node's is Equal, as that of a node that isn't there
 pub added_cutoffs : (old new : Work) (id : NodeId) (def : Def) → at old.rows (main id) ≡ None

@@ -38,8 +38,8 @@ use Rattle.wiring.proofs.Retrying.{Keeps, off_keeps}
 use Rattle.wiring.proofs.TakingAll.{places_then}
 use Rattle.wiring.proofs.Trying.{same_need}
 use Rattle.wiring.proofs.Wiring.{looks_stands}
-use Rattle.stabilizer.specs.Dying.{StandsBefore, GatesWait, CutsTo, IsCutOff, IsGateOf, LosesRight, IsDoomed, LeavesStanding, StandsBut}
-use Rattle.stabilizer.specs.Kept.{KeepsScopes, PartsKept, graph_in}
+use Rattle.stabilizer.specs.Dying.{StandsBefore, GatesWait, CutsTo, IsCutOff, IsGateOf, LosesRight, IsDoomed, LeavesStanding}
+use Rattle.stabilizer.specs.Kept.{PartsKept, graph_in}
 use Rattle.stabilizer.specs.declared.parts.Parts.{Parts}
 use Rattle.stabilizer.proofs.Dooming.{inside_as, never_inside, one_scope}
 use Rattle.stabilizer.proofs.Loosened.{mid, marked, mid_rest, need_mid, need_old, into_mid, subject, loose_kept, loose_places, loose_heap, loose_change, loose_rows, loose_main, loose_right, loosens}
@@ -347,22 +347,3 @@ module _ (old : Parts) (b : NodeId) (kept : PartsKept old) (there : Holds old.wo
       );
       none = doom.scopes.none;
     }
-
--- what stands in scopes then does so by the nodes, but for what is inside
-pub cut_stands_but : (old new : Parts) (b : NodeId) → KeepsScopes old.arena old.scopes → new.arena ≡ old.arena → LeavesStanding old new b → StandsBut new b
-cut_stands_but old new b kept arena left = record {
-  stands = λ n c. (
-    λ h.
-        let y = (left.stands n c).0 h in
-        let r = (kept.stands n c).0 y.0 in
-        (r.0, row_now n ∙ r.1, r.2, λ i. y.1 (inside_as (graph_in new) (graph_in old) (λ m. sym (row_now m)) b n i)),
-    λ h. (left.stands n c).1 (
-      (kept.stands n c).1 (h.0, sym (row_now n) ∙ h.1, h.2),
-      λ i. h.3 (inside_as (graph_in old) (graph_in new) row_now b n i),
-    ),
-  );
-  none = left.none;
-}
-  where
-    row_now : (m : NodeId) → row_at new.arena m ≡ row_at old.arena m
-    row_now m = ap (λ (a : Arena). row_at a m) arena

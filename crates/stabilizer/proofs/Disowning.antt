@@ -1,5 +1,5 @@
 -- Nodes that were added to a bind's scope leave it, lose their points, and are dropped.
-use Rattle.std.proofs.Common.{◌≡◌, ◌≢◌, ◌⊎◌, inl, inr, ℕ, ◌<◌, ◌≤◌, ◌+◌, ◌-◌, ◌^◌, [], Option, None, Some, refl, sym, ap, subst, ◌∙◌, arith}
+use Rattle.std.proofs.Common.{◌≡◌, ◌≢◌, ◌⊎◌, inl, inr, ℕ, ◌<◌, ◌≤◌, ◌+◌, ◌-◌, [], Option, None, Some, refl, sym, ap, subst, ◌∙◌, arith}
 use Rattle.std.specs.Prelude.{is_some, ◌↔◌}
 use Rattle.std.proofs.lemmas.Bool.{cases_lt}
 use Rattle.std.proofs.lemmas.Option.{none-some}
@@ -215,9 +215,6 @@ module _ (old now : Arena) (count next : ℕ) (so : AreDropping old now count ne
     -- its id was given
     pub dropping_given : id.gen_ + 1 ≤ old.given
     dropping_given = let g = so.sound.given id first.live in let e = so.given in omega (arith, g, e)
-
-    pub dropping_fits : id.gen_ + 1 < 2 ^ 64
-    dropping_fits = let g = so.sound.given id first.live in let f = so.sound.count in omega (arith, g, f)
 
     module _ (new : Arena) (dropped : nodes.Changes now new id None) (fewer : live new + 1 ≡ live now) (given : new.given ≡ now.given)
         (sound : IsSound new) where

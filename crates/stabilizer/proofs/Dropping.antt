@@ -265,9 +265,6 @@ pub record AreWalked (a : Arena) (count next : ℕ) : Type 0 where
   pub low : count ≤ next
   pub later : (n : NodeId) → IsLive a n → count ≤ n.gen_ → next ≤ n.gen_
 
-pub walk_begins : (a : Arena) (count : ℕ) → AreWalked a count count
-walk_begins a count = record { low = omega arith; later = λ n live since. since }
-
 module _ (a : Arena) (count next : ℕ) (walked : AreWalked a count next) where
   -- the first one since the next is dropped
   pub walk_goes_on : (new : Arena) (id : NodeId) → IsSound a → IsFirstSince a next id → nodes.Changes a new id None

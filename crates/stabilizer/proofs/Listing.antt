@@ -51,9 +51,6 @@ module _ (arena : Arena) (old now : Work) (nodes : List NodeId) (place : ℕ) (s
       so.others m (λ i below e. let same = place_once nodes i place m once e there in absurd (omega (arith, below, same)))
       ∙ absent m (at_place nodes place m there)
 
-  pub listing_spare : place < length nodes → 0 < now.deaths.spare
-  listing_spare within = let room = so.room in omega (arith, within, room)
-
   -- one more is listed
   pub listing_more : (deaths : Deaths) (scope : NodeId) → scope_at arena m ≡ Some scope
       → Changes now.deaths.scopes deaths.scopes (main m) (Some scope) → deaths.spare + 1 ≡ now.deaths.spare → IsListing arena old (record now { deaths = deaths }) nodes (place + 1)

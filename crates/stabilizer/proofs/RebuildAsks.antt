@@ -34,7 +34,7 @@ use Rattle.node_outcomes.specs.Computing.{has_part, seen_of, IsOfType}
 use Rattle.node_outcomes.specs.Row.{without_outcome}
 use Rattle.node_outcomes.specs.declared.row.Progress.{Progress}
 use Rattle.wiring.specs.Kept.{IsKept}
-use Rattle.stabilizer.specs.Dying.{HasDied, LeavesStanding, StandsBut, IsBindNode, IsBindOf}
+use Rattle.stabilizer.specs.Dying.{HasDied, LeavesStanding, StandsBut, IsBindOf}
 use Rattle.stabilizer.specs.Kept.{graph_in, KeepsScopes}
 use Rattle.stabilizer.specs.Rebuilding.{IsToBuild}
 use Rattle.stabilizer.specs.Weights.{SidesFit}
@@ -144,10 +144,6 @@ module _ (old cut dead : Parts) (b : NodeId) (same : cut.arena ≡ old.arena) (d
         let same : r ≡ to.row = same_Some r to.row (sym row ∙ (bind_stays ∙ to.is_row)) in
         let defs : graph.Bind l g captures' ≡ graph.Bind to.left f captures = sym bind ∙ (ap (λ (x : Row). x.def) same ∙ to.is_bind) in
         cc
-
-    -- the bind lives
-    pub is_bind_node : IsBindNode dead.arena b
-    is_bind_node = (to.row, to.left, f, captures, bind_stays ∙ to.is_row, to.is_bind)
 
     makes : BindMakes old.arena to.left f captures to.row.ty
     makes = subst (λ (d : graph.Def). Makes old.arena d to.row.ty) to.is_bind (kept.sound.types b to.row to.is_row)

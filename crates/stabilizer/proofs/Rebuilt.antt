@@ -8,7 +8,7 @@ use Rattle.inc_value.specs.declared.node.NodeId.{NodeId}
 use Rattle.inc_value.specs.declared.node.Point.{Point}
 use Rattle.inc_value.specs.declared.outcome.Outcome.{Outcome}
 use Rattle.inc_terms.specs.Depend.{main, change}
-use Rattle.inc_terms.specs.Graph.{Graph, Row, Built}
+use Rattle.inc_terms.specs.Graph.{Built}
 use Rattle.inc_terms.specs.Rebuild.{Inside}
 use Rattle.inc_terms.specs.Term.{Functions}
 use Rattle.inc_terms.specs.Within.{Given}
@@ -17,7 +17,6 @@ use Rattle.link_table.specs.Links.{Links, times}
 use Rattle.height_order.specs.Levels.{or_zero}
 use Rattle.necessity.specs.Need.{Roots, root_times}
 use Rattle.necessary_graph.specs.Part.{Needed}
-use Rattle.node_arena.specs.Arena.{row_at}
 use Rattle.stabilize_round.specs.Counts.{RoseBy}
 use Rattle.stabilize_round.specs.Rebuilding.{remade, Rebuild}
 use Rattle.stabilize_round.specs.State.{State, Start}
@@ -99,15 +98,6 @@ module _ (F : Functions) (z : Start) (t : State) (b : NodeId) (now : Outcome) (c
       by None e here = absurd (cc)
       by (Some k) e here = not_first k.settled cut.work.round (a.kept.rounds (change b) k e)
           (ap (settled_in cut.work.round) (sym e) ∙ (sym (a.stands.settled (change b)) ∙ unsettled))
-
-  not_there : (p : Point) → t.given ≤ p.node.gen_ → t.settled p ≡ false
-  not_there p le = a.stands.settled p ∙ ap (settled_in cut.work.round) (dead_rowless cut.arena cut.work p a.kept (by (row_at cut.arena p.node) refl))
-    where
-      by : (x : Option Row) → row_at cut.arena p.node ≡ x → row_at cut.arena p.node ≡ None
-      by None e = e
-      by (Some r) e =
-          let g : Given t.given p.node = a.given.names.live p.node r (ap (λ (G : Graph). G.row p.node) a.stands.graph ∙ e) in
-          absurd (omega (arith, g, le))
 
   module _ (after : Counts) (calls : after.calls ≡ counts.calls) (adds : RoseBy counts.adds (grown.arena.given - died.arena.given) after.adds) where
     pub no_root : (w : Built) (m : NodeId) → (held_at grown.arena grown.work).built b ≡ Some w → w.root ≡ Some m → Given grown.arena.given m

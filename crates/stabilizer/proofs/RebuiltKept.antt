@@ -56,10 +56,6 @@ settled_when : (now : Outcome) (round : ℕ) (x : Option Progress) (k : Progress
 settled_when now round None k e = absurd (none-some k e)
 settled_when now round (Some j) k e = sym (ap (λ (y : Progress). y.settled) (same_Some _ k e))
 
-shows_when : (now : Outcome) (round : ℕ) (x : Option Progress) (k : Progress) → option_map (with_outcome now round) x ≡ Some k → k.outcome ≡ Some now
-shows_when now round None k e = absurd (none-some k e)
-shows_when now round (Some j) k e = sym (ap (λ (y : Progress). y.outcome) (same_Some _ k e))
-
 module _ (arena : Arena) (old new : Work) (n : NodeId) (now : Outcome) (root : Option NodeId) (kept : IsKept arena old)
     (run : IsRebuilt old new n now root) (there : Holds old.rows (change n)) (step : IsInStep new.graph) (pairs : new.pairs ≡ old.pairs)
     (scoped : new.scoped ≡ old.scoped) (row : Row) (live : row_at arena n ≡ Some row) (left : NodeId) (f : FnRef) (captures : List NodeId)

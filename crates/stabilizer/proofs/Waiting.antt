@@ -238,10 +238,6 @@ module _ (arena : Arena) (taken mid : Work) (todo : Vec Point Global) (n : NodeI
   pub loose_roots : KeepsRoots taken.graph.roots mid.graph.roots
   loose_roots a = d.sweep.roots a ∙ ap (λ (x : Roots). root_times x a) roots_mid
 
-  pub loose_need : (a : Point) → Needed mid.graph a → Needed taken.graph a
-  loose_need a need = needed_more mid.graph taken.graph (λ x root. let e = loose_roots x in omega (arith, e, root))
-      (λ x y reads. let f = loose_fewer x y in omega (arith, f, reads)) a need
-
   -- what was there is, but for what is needed no more and has no row
   pub loose_heights : (a : Point) → (at mid.graph.heights a ≡ at taken.graph.heights a)
       ⊎ ((is_some (at mid.rows a) ≡ false) × (at mid.graph.heights a ≡ None))

@@ -119,12 +119,6 @@ pub one_point_built : (F : Functions) (G : Graph) (n : NodeId) (def : Def) (o : 
 one_point_built F G n (graph.Bind l f caps) o one = absurd (none-some l (sym one))
 one_point_built F G n _ o one = tt
 
--- what is no bind needn't be built
-pub unbound_built : (F : Functions) (G : Graph) (n : NodeId) (def : Def) (o : Outcome)
-    → ((l : NodeId) (f : FnRef) (captures : List NodeId) → def ≡ graph.Bind l f captures → ⊥) → IsBuilt F G n def o
-unbound_built F G n (graph.Bind l f caps) o unbound = absurd (unbound l f caps refl)
-unbound_built F G n _ o unbound = tt
-
 -- ---- agreement
 
 module _ (F : Functions) (before arena : Arena) (held held' : Holdings) (out out' : Point → Option Outcome) (p : Point) (r : Row)

@@ -154,7 +154,3 @@ module _ (old : Work) (q : Point) (step_is : IsInStep old.graph) (dead : at old.
       → IsWoken old (record old { todo = todo }) q
   ghost_woken died todo more = woken_with todo (λ h. more) (λ none. absurd (let e = ap is_some none in let d = died in cc))
       (λ p a. subst (Among p) (sym more) (among_before p q old.todo.items a))
-
-  -- of another: nothing is to be done
-  pub leaf_woken : died_at old q.node ≡ None → IsWoken old old q
-  leaf_woken none = woken_with old.todo (λ h. absurd (elim h [ inl row ↦ no_row row | inr died ↦ let e = ap is_some none in cc ])) (λ n. refl) (λ p a. a)

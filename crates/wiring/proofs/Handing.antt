@@ -34,13 +34,6 @@ use Rattle.wiring.proofs.Unlinked.{raised_unlinked}
 
 -- ---- what a point reads
 
--- a point with a row is one of a live node
-pub never_dead : (arena : Arena) (work : Work) (p : Point) → IsKept arena work → Holds work.rows p → row_at arena p.node ≡ None → ⊥
-never_dead arena work p kept there dead =
-    let live : has_part (row_at arena p.node) p.part ≡ true = sym (kept.rows p) ∙ there in
-    let gone = ap (λ (x : Option Row). has_part x p.part) dead in
-    cc
-
 -- and of a change the node has a subject
 pub never_alone : (arena : Arena) (work : Work) (p : Point) (r : Row) → IsKept arena work → Holds work.rows p → row_at arena p.node ≡ Some r → p.part ≡ Change
     → subject_of r.def ≡ None → ⊥

@@ -135,9 +135,6 @@ module _ (arena : Arena) (old mid : Work) (keeps : KeepsSpared arena old mid) (r
     | inr fell ↦ absurd (gated_none (at old.rows p) (inr (ap stage_in (sym fell) ∙ full)))
   ]
 
-  pub spared_then : (new : Work) → KeepsSpared arena mid new → KeepsSpared arena old new
-  spared_then new next p spared = falls_then old mid new p (keeps p spared) (next p (still_spared p spared))
-
   pub hand_spared : IsInStep mid.graph → (held : Option Hand) → HandIsSpared arena old held → HandIsSpared arena mid (hand_now old mid held)
   hand_spared in_step None h = tt
   hand_spared in_step (Some x) h = by (is_still old mid x.point) refl

@@ -1,8 +1,6 @@
 -- The rows and places of a node's points, and the nodes of two points that are listed.
-use Rattle.std.proofs.Common.{◌≡◌, ◌≢◌, ◌⊎◌, inl, inr, ℕ, ◌<◌, nat_lt, Bool, true, false, cond, arith, ◌++◌, List, [], ◌∷◌, Option, None, Some, refl, sym, ap, subst, ◌∙◌}
-use Rattle.std.specs.List.{filter}
+use Rattle.std.proofs.Common.{◌≡◌, ◌≢◌, ◌⊎◌, inl, inr, ◌++◌, List, [], ◌∷◌, Option, None, Some, refl, sym, ap, subst, ◌∙◌}
 use Rattle.std.specs.Prelude.{is_some, IsSome, option_map}
-use Rattle.std.proofs.lemmas.Bool.Decides.{nat_tests}
 use Rattle.std.proofs.lemmas.Option.{none-some}
 use Rattle.inc_value.specs.declared.node.NodeId.{NodeId}
 use Rattle.inc_value.specs.declared.node.Part.{Part}
@@ -172,33 +170,3 @@ both_gone old mid new n first then = record {
     now : (part : Part) → at new (record { node = n; part = part }) ≡ None
     now Main = then.others (main n) (λ e. change_other n n (sym e)) ∙ first.changed
     now Change = then.changed
-
--- a node whose id was given before, as a test
-abbrev pub is_older : ℕ → NodeId → Bool
-is_older count n = nat_lt n.gen_ count
-
-pub among_older : (count : ℕ) (n : NodeId) (ns : List NodeId) → n.gen_ < count → Among n ns → Among n (filter (is_older count) ns)
-among_older count n [] older h = absurd h
-among_older count n (m ∷ ms) older h = by_test (λ a. among_older count n ms older a) (is_older count m) refl h
-  where
-    by_test : (Among n ms → Among n (filter (is_older count) ms)) → (b : Bool) → is_older count m ≡ b → Among n (m ∷ ms)
-        → Among n (cond b (m ∷ filter (is_older count) ms) (filter (is_older count) ms))
-    by_test rest true e (inl is) = inl is
-    by_test rest true e (inr a) = inr (rest a)
-    by_test rest false e (inl is) =
-        let f : n.gen_ ≡ m.gen_ = ap (λ (x : NodeId). x.gen_) is in
-        absurd (grind (arith, nat_tests))
-    by_test rest false e (inr a) = rest a
-
--- what is left of a list by the count was given before it
-pub left_is_older : (count : ℕ) (n : NodeId) (ns : List NodeId) → Among n (filter (is_older count) ns) → n.gen_ < count
-left_is_older count n [] h = absurd h
-left_is_older count n (m ∷ ms) h = by_test (left_is_older count n ms) (is_older count m) refl h
-  where
-    by_test : (Among n (filter (is_older count) ms) → n.gen_ < count) → (b : Bool) → is_older count m ≡ b
-        → Among n (cond b (m ∷ filter (is_older count) ms) (filter (is_older count) ms)) → n.gen_ < count
-    by_test rest true e (inl is) =
-        let f : n.gen_ ≡ m.gen_ = ap (λ (x : NodeId). x.gen_) is in
-        grind (arith, nat_tests)
-    by_test rest true e (inr a) = rest a
-    by_test rest false e a = rest a

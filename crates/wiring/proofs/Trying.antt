@@ -58,8 +58,6 @@ target_row arena old q k target = elim target.there [
 -- ---- a link was refused
 
 module _ (old new : Work) (l : IsLevelled old new) where
-  pub levelled_places : KeepsPlaces old new
-  levelled_places = record { rows = λ p. ap is_some (l.rows p); roots = l.roots; deaths = l.round.deaths; round = l.round.round }
 
   levelled_needs : (p : Point) → Needed old.graph p → Needed new.graph p
   levelled_needs p n = needed_more old.graph new.graph (λ a r. let e = l.roots a in omega (arith, e, r)) (λ a b x. let e = l.links a b in omega (arith, e, x)) p n
