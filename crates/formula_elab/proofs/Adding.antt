@@ -111,24 +111,10 @@ pub record AreBeingAdded (made : List Made) (lines : List OpenLine) (i : ℕ) (o
   pub rest : (typed : List TypedLine) → AreAddable made lines old typed
       → (rest : List TypedLine) × AreAddable made (drop i lines) d rest × (old.lines ++ typed ≡ d.lines ++ rest)
 
-pub none_added : (made : List Made) (xs : List OpenLine) (d : functions.Draft) → Every (LineNeedsMade made) xs
-    → ((typed : List TypedLine) × AreAddable made xs d typed) → size_of d + sum_by open_size xs < 2 ^ 64 → AreBeingAdded made xs 0 d d
-none_added made xs d needs there few = record {
-  sig = refl;
-  listed = refl;
-  needs = needs;
-  few = few;
-  there = there;
-  rest = λ typed h. (typed, h, refl);
-}
-
 module _ (made : List Made) (xs : List OpenLine) (i : ℕ) (old d : functions.Draft) (x : OpenLine) (within : i < length xs)
     (is : x ≡ get_or xs i x) (h : AreBeingAdded made xs i old d) where
   next : drop i xs ≡ x ∷ drop (i + 1) xs
   next = drop_more xs i x within ∙ ap (λ z. z ∷ drop (i + 1) xs) (sym is)
-
-  pub needs_next : LineNeedsMade made x
-  needs_next = (subst (λ zs. Every (LineNeedsMade made) zs) next h.needs).0
 
   sum_next : sum_by open_size (drop i xs) ≡ open_size x + sum_by open_size (drop (i + 1) xs)
   sum_next = sum_by-drop_more open_size xs i x within ∙ ap (λ z. open_size z + sum_by open_size (drop (i + 1) xs)) (sym is)

@@ -4,7 +4,6 @@ use Rattle.std.proofs.lemmas.Option.{get_or_from_slice_get}
 use Rattle.std.specs.List.{slice_get}
 use Rattle.inc_value.specs.Choice.{Among}
 use Rattle.inc_value.specs.Ty.{base_of, type_of_base}
-use Rattle.inc_value.specs.Value as engine
 use Rattle.inc_value.specs.declared.function.FnRef.{FnRef}
 use Rattle.inc_value.specs.declared.node.NodeId.{NodeId}
 use Rattle.inc_value.specs.declared.ty.Base.{Base}
@@ -57,12 +56,6 @@ module _ (known : FnRef → Bool) (names : Names) (targets : AreTypedAsTargets n
   formula_type bounds f ty fits = absurd fits
 
 -- ---- values
-
-graph_type : (nodes : ℕ → NodeId) (v : Value) → engine.type_of (graph_value nodes v) ≡ value.type_of v
-graph_type nodes (value.Int z) = refl
-graph_type nodes (value.Bool b) = refl
-graph_type nodes (value.Text bytes) = refl
-graph_type nodes (Reference target b) = refl
 
 -- a value of the type, whose node is listed, is of it in the graph
 pub value_has : (nodes : ℕ → NodeId) (p : Page) (v : Value) (ty : Ty) (listed : List Listed) → value.type_of v ≡ ty

@@ -82,9 +82,3 @@ module _ (nodes : ℕ → NodeId) (tys : ℕ → Ty) where
 
 pub one_line_each : OneLineEach
 one_line_each nodes tys bounds start p f is_laid = line_each nodes tys bounds start p f is_laid
-
--- so for formulas one after the other
-pub one_line_each_of_all : (nodes : ℕ → NodeId) (tys : ℕ → Ty) (bounds : List Ty) (start : ℕ) (p : Page) (fs : Formulas)
-    → AreLaidOut (length bounds) fs
-    → size_of (written_each nodes tys bounds start p fs).page ≡ size_of p + places_in_all fs
-one_line_each_of_all nodes tys bounds start p fs is_laid = line_each_of_all nodes tys bounds start p fs is_laid

@@ -54,8 +54,3 @@ function_made (made.Node n) = no_function
 -- what was made as the i-th
 abbrev pub made_at : List Made → ℕ → Made
 made_at row i = slice_index_or row i (made.Node no_node)
-
--- what is made of what is to be made is of its kind
-abbrev pub IsOfKind : Make → Made → Type 0
-IsOfKind (Right body) m = IsFunction m
-IsOfKind (Node def ty) m = IsNode m

@@ -6,7 +6,6 @@ use Rattle.inc_value.specs.declared.node.Point.{Point}
 use Rattle.point_map.specs.Rows.{Rows, at, Holds, KeepsRows}
 use Rattle.link_table.specs.Links.{Links, Reads, KeepsLinks, OneLinkMore}
 use Rattle.height_order.specs.declared.lifts.Lift.{Lift}
-use Rattle.height_order.specs.declared.heights.LinkFault.{LinkFault}
 use Rattle.height_order.specs.declared.heights.LinkFault.TheVariants.{Path, Over, Memory}
 use Rattle.height_order.specs.Chains.{ReadsWith, IsChain, IsPath, Leads}
 use Rattle.height_order.specs.Levels.{Web, level, AllLow, Ends, IsSound, levelled, KeepsPoints, IsBelow, IsExactBelow, Tells, bound, AreLevels, AddsBelow}
@@ -135,11 +134,6 @@ module _ {A : Type 0} (old : Web) (p q : Point) (before : List Point) where
     points = points;
     moved = moved;
   }
-
--- between calls, once a link was asked for
-pub answer_sound : {A : Type 0} (old new : Web) (p q : Point) (before after : List Point) (r : Result A LinkFault) → Ends new.heights new.links
-    → IsLinkAnswer old new p q before after r → IsSound new.heights new.links
-answer_sound old new p q before after r ends so = record { ends = ends; rises = so.rises; low = so.low }
 
 -- what is led to over the links with the new one, by a point that is to be lifted, is near
 pub fitted_near : (heights : Rows ℕ) (links more : Links) (p q : Point) (lifts : Rows Lift) → IsSound heights links → IsClimbed heights links p q lifts

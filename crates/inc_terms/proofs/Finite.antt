@@ -47,6 +47,3 @@ module _ {A : Type 0} (R : A → A → Type 0) (N : A → Type 0) (closed : (a b
 -- so it does where every step goes down
 module _ {A : Type 0} (R : A → A → Type 0) (N : A → Type 0) (closed : (a b : A) → N a → R a b → N b)
     (height : A → ℕ) (falls : (a b : A) → N a → R a b → height b < height a) where
-  under : (n : ℕ) (a : A) → height a < n → N a → Ends R a
-  under zero a le na = absurd (omega arith)
-  under (suc n) a le na = ends (λ b r. let f = falls a b na r in under n b (omega arith) (closed a b na r))

@@ -201,24 +201,3 @@ scope_stands F G b r l f caps w row def st built left =
     let second = at_depth F G left.0 d (Of (Ref l)) w.outcome (omega arith) left.1 in
     let same : same_outcome w.outcome w.outcome ≡ true = (outcome_decides w.outcome w.outcome).1 refl in
     (suc d, rw (row, first, def, second, built, same) refl)
-
--- what a bind gives is what the term gives that its function has at the left's value
-pub bind_gives : (F : Functions) (G : Graph) (b : NodeId) (r : Row) (l : NodeId) (f : FnRef) (caps : List NodeId) (v : Value) (o : Outcome)
-    → G.row b ≡ Some r → r.def ≡ graph.Bind l f caps → Stands F G r.scope → NodeGives F G l (Val v)
-    → Gives F G (Of (put (refs caps) (F.term f v))) o → NodeGives F G b o
-unfolding answer
-bind_gives F G b r l f caps v o row def st left body =
-    let d : ℕ = st.0 + left.0 + body.0 in
-    let first = at_depth F G st.0 (suc d) (Around r.scope) (Val (value.Bool true)) (omega arith) st.1 in
-    let second = at_depth F G left.0 d (Of (Ref l)) (Val v) (omega arith) left.1 in
-    let third = at_depth F G body.0 d (Of (put (refs caps) (F.term f v))) o (omega arith) body.1 in
-    (suc (suc d), rw (row, first, def, second, third) refl)
-
--- a built bind gives what its root gives
-pub root_gives : (F : Functions) (G : Graph) (b : NodeId) (r : Row) (l : NodeId) (f : FnRef) (caps : List NodeId)
-    (w : Built) (v : Value) (root : NodeId) (o : Outcome)
-    → G.row b ≡ Some r → r.def ≡ graph.Bind l f caps → Stands F G r.scope → G.built b ≡ Some w → w.outcome ≡ Val v → NodeGives F G l (Val v)
-    → Unfolds G (Some b) caps root (F.term f v) → NodeGives F G root o → NodeGives F G b o
-root_gives F G b r l f caps w v root o row def st built is left unf g =
-    let inside : Stands F G (Some b) = scope_stands F G b r l f caps w row def st built (rw is left) in
-    bind_gives F G b r l f caps v o row def st left (unfolds_gives F G (Some b) caps inside root (F.term f v) unf o g)

@@ -10,7 +10,7 @@ use Rattle.std.proofs.lemmas.List.{get_or_past, length-map}
 use Rattle.index_lists.specs.declared.link.Link.{Link}
 use Rattle.index_lists.specs.declared.link.Ends.{Ends}
 use Rattle.index_lists.specs.Links.{Leads, rows_from}
-use Rattle.index_lists.specs.Lists.{Among, NoRepeats, places, Has, links_at, no_ends, ends_at, IsLinked, rows_of}
+use Rattle.index_lists.specs.Lists.{Among, NoRepeats, places, links_at, no_ends, ends_at, IsLinked, rows_of}
 use Rattle.index_lists.proofs.Leading.{among_link}
 
 among_any : (ks : List ℕ) (k : ℕ) → list_any (eqb k) ks ≡ true → Among ks k
@@ -87,9 +87,3 @@ module _ {R : Type 0} where
       ap (λ d. slice_index_or (rows_of ends slots) list d) (sym (rows_none (links_at slots) (length slots)))
       ∙ get_or-map (λ e. rows_from (links_at slots) (length slots) e.first) ends list no_ends
       ∙ seen ends slots links list (length slots) (omega arith)
-
-  -- a row that is seen has a link
-  pub has_seen : (ends : List Ends) (slots : List (Option (Link R))) (links : IsLinked ends (links_at slots))
-      (list place : ℕ) (row : R)
-      → Has (slice_index_or (rows_of ends slots) list []) place row → Has (links.rows list) place row
-  has_seen ends slots links list place row h = subst (λ es. Has es place row) (seen_at ends slots links list) h

@@ -14,11 +14,6 @@ use Rattle.line_parser.specs.declared.tree.Tree as code
 
 -- ---- what is expected, as it is looked for
 
-pub sign_eaten : {A : Type 0} (byte : ℕ) (tokens : List Token) (next : List Token → Read A)
-    → expect (is_sign byte) tokens next ≡ (if begins_with byte tokens then next (drop 1 tokens) else None)
-sign_eaten byte [] next = refl
-sign_eaten byte (t ∷ rest) next = refl
-
 pub word_eaten : {A : Type 0} (w : List ℕ) (tokens : List Token) (next : List Token → Read A)
     → expect (is_word w) tokens next ≡ (if begins_with_word w tokens then next (drop 1 tokens) else None)
 word_eaten w [] next = refl

@@ -10,7 +10,7 @@ use Rattle.link_table.specs.declared.ends.End.{End}
 use Rattle.link_table.specs.declared.ends.EndLists.{EndLists}
 use Rattle.link_table.specs.Links.{is_point}
 use Rattle.link_table.specs.Ends.{end, ends_at, end_at, ends_with, EndIsSet, OneEndMore, OneEndMoreWith, KeepsPoints}
-use Rattle.link_table.proofs.Lists.{get_set_same, get_set_other, get_append_last, get_append_other, length_more, sum_of_map, other_point}
+use Rattle.link_table.proofs.Lists.{get_set_same, get_set_other, get_append_last, get_append_other, sum_of_map, other_point}
 
 -- whether the end is of a link with the point, as a number
 abbrev pub hits : Point → End → ℕ
@@ -67,9 +67,6 @@ module _ (fewer more : EndLists) (p : Point) (e : End) (m : OneEndMore fewer mor
     | inl same ↦ rw same (ap (λ l. slice_get l k) m.last ∙ get_append_other (ends_at fewer p) e k (other same))
     | inr differs ↦ ap (λ l. slice_get l k) (m.others x differs)
   ]
-
-  pub put_length : length (ends_at more p) ≡ length (ends_at fewer p) + 1
-  put_length = ap length m.last ∙ length_more (ends_at fewer p) e
 
   put_counts : (y : Point) → ends_with (ends_at more p) y ≡ ends_with (ends_at fewer p) y + hits y e
   put_counts y =

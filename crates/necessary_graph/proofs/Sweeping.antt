@@ -9,7 +9,6 @@ use Rattle.point_map.specs.Rows.{at}
 use Rattle.point_map.proofs.Places.{point_cases}
 use Rattle.link_table.specs.Links.{link, times, Reads, IsRead, KeepsLinks, OneLinkMore}
 use Rattle.necessity.specs.Need.{KeepsRoots}
-use Rattle.height_order.specs.Levels.{Rises}
 use Rattle.necessary_graph.specs.Part.{NecessaryPart, Needed}
 use Rattle.necessary_graph.specs.Sweep.{IsThinned, IsSwept, IsBare, IsHeld}
 use Rattle.necessary_graph.proofs.Reaching.{reaches_on, leads_more, thinned_up, thinned_down, thinned_then}
@@ -157,11 +156,6 @@ module _ (leaf : Point → Bool) (s0 s t u : NecessaryPart) (p q : Point) (unnee
 
   pub more_swept : IsSwept leaf q t u → IsHeld u.links u.roots q ⊎ IsBare leaf u q → IsSwept leaf p s0 u
   more_swept w kid = swept_then leaf p s0 s u p here so_far (link_swept leaf s t u p q unneeded_still off w kid)
-
--- fewer links rise too
-pub rises_still : (s t : NecessaryPart) (height : Point → ℕ) → Rises (Reads s.links) height → ((a b : Point) → times t.links a b ≤ times s.links a b)
-    → Rises (Reads t.links) height
-rises_still s t height rises fewer a b r = rises a b (omega (arith, fewer a b, r))
 
 -- what was out of the heap stays out
 pub out_still : (leaf : Point → Bool) (first : Point) (t u : NecessaryPart) (p : Point) → IsSwept leaf first t u → at t.heap p ≡ None → at u.heap p ≡ None

@@ -1,28 +1,15 @@
 -- Readers of a point come into the heap.
-use Rattle.std.proofs.Common.{◌≡◌, ◌⊎◌, inl, inr, ℕ, Bool, true, false, Some, [], ◌∷◌, List, refl, sym, ap, subst, ◌∙◌, arith}
-use Rattle.std.specs.Prelude.{Option, None, is_some}
+use Rattle.std.proofs.Common.{◌≡◌, ◌⊎◌, inl, inr, ℕ, Bool, true, false, Some, ◌∷◌, List, refl, sym, ap, subst, ◌∙◌, arith}
 use Rattle.std.proofs.lemmas.Bool.{cases_lt}
 use Rattle.inc_value.specs.declared.node.Point.{Point}
 use Rattle.point_map.specs.Rows.{Rows, at, Changes}
 use Rattle.point_map.proofs.Places.{point_cases}
 use Rattle.link_table.specs.Links.{Links, Reads, AreReaders, times}
-use Rattle.height_order.proofs.Covering.{Covers, covers_next, covers_end, among_readers, occurs_first}
+use Rattle.height_order.proofs.Covering.{Covers, covers_next, among_readers, occurs_first}
 use Rattle.height_order.specs.Levels.{level}
 use Rattle.necessary_graph.specs.Part.{NecessaryPart, Needed, IsInStep}
 use Rattle.necessary_graph.specs.Readers.{HasHeights, HasReaders}
 use Rattle.necessary_graph.proofs.Standing.{has_level, put_in_step, heap_in_step}
-
--- what is in the heap stands there as its height says
-pub held_height : (x y : Option ℕ) → ((h : ℕ) → x ≡ Some h → y ≡ Some h) → is_some x ≡ true → x ≡ y
-held_height None y has e = absurd (cc)
-held_height (Some h) y has e = sym (has h refl)
-
--- so it is after a point is put in at its height
-pub heights_put : (heights old new : Rows ℕ) (p : Point) → HasHeights heights old → Changes old new p (at heights p) → HasHeights heights new
-heights_put heights old new p has c a h e = elim (point_cases a p) [
-  | inl same ↦ ap (at heights) same ∙ (sym c.changed ∙ (ap (at new) (sym same) ∙ e))
-  | inr other ↦ has a h (sym (c.others a other) ∙ e)
-]
 
 -- a point is passed over, or stands in the heap at its height
 abbrev pub IsDone : (skipped : Point → Bool) (heights heap : Rows ℕ) → Point → Type 0
@@ -72,16 +59,6 @@ module _ (heights : Rows ℕ) (links : Links) (q : Point) (skipped : Point → B
           | inl same ↦ inr (ap (at new) same ∙ (c.changed ∙ ap (at heights) (sym same)))
           | inr other ↦ inr (c.others x other ∙ e)
         ]
-
-  -- none is left
-  pub telling_last : (new : Rows ℕ) → IsTelling heights links q skipped old new [] → HasReaders heights links q skipped old new
-  telling_last new so = record {
-    put = λ p r kept. elim (covers_end (λ (x : Point). Reads links x q) (IsDone skipped heights new) so.covers p r) [
-      | inl t ↦ absurd (let e = sym kept ∙ t in cc)
-      | inr e ↦ e
-    ];
-    others = so.others;
-  }
 
 -- ---- the whole graph
 

@@ -1,6 +1,6 @@
 -- What is reached from the roots is what the counts have as needed.
-use Rattle.std.proofs.Common.{◌≡◌, ◌∙◌, ◌⊎◌, inl, inr, ℕ, zero, suc, ◌<◌, ◌≤◌, true, List, [], ◌∷◌, length, refl, sym, ap, arith}
-use Rattle.std.specs.Prelude.{Some, None, count_by, nat_lt, unwrap_or, option_map, map, Contains, remove, slice_index_or, ◌↔◌}
+use Rattle.std.proofs.Common.{◌≡◌, ◌∙◌, ◌⊎◌, inl, inr, ℕ, zero, suc, ◌<◌, ◌≤◌, true, List, [], ◌∷◌, length, refl, sym, arith}
+use Rattle.std.specs.Prelude.{Some, None, nat_lt, unwrap_or, option_map, map, Contains, remove, slice_index_or, ◌↔◌}
 use Rattle.std.proofs.lemmas.Bool.Decides.{nat_tests}
 use Rattle.std.proofs.lemmas.List.Sums.{sum_by-remove}
 use Rattle.std.proofs.lemmas.Grind.{common_steps}
@@ -168,7 +168,3 @@ module _ (old new : Links) (kept : KeepsLinks old new) where
 pub leads_to_itself : (l : Links) (q p : Point) → ((x : Point) → times l q x ≡ 0) → Reaches (Reads l) q p → q ≡ p
 leads_to_itself l q p none here = refl
 leads_to_itself l q p none (step {b = x} r rest) = absurd (omega (arith, none x, r))
-
--- where there are no links, none is counted
-pub none_counted : (l : Links) → l.all ≡ [] → (p q : Point) → times l p q ≡ 0
-none_counted l none p q = ap (count_by (same_link p q)) none

@@ -1,5 +1,5 @@
 -- How many of the nodes in a list are live, and how many are counted dead.
-use Rattle.std.proofs.Common.{◌≡◌, ◌≢◌, ◌∙◌, inl, inr, ℕ, suc, zero, ◌+◌, ◌-◌, ◌*◌, ◌^◌, ◌<◌, ◌≤◌, ltb, Bool, true, false, cond, List, [], ◌∷◌, length, Some, IsSome, is_some, slice_get, refl, sym, ap, subst, arith}
+use Rattle.std.proofs.Common.{◌≡◌, ◌∙◌, inl, inr, ℕ, suc, zero, ◌+◌, ◌-◌, ◌*◌, ◌^◌, ◌<◌, ◌≤◌, ltb, Bool, true, false, cond, List, [], ◌∷◌, length, Some, IsSome, is_some, slice_get, refl, sym, ap, subst, arith}
 use Rattle.std.specs.List.{filter, count_by}
 use Rattle.std.proofs.lemmas.Bool.{cond_both, ltb-true, lt-ltb}
 use Rattle.std.proofs.lemmas.Bool.Decides.{leb_tells}
@@ -64,45 +64,6 @@ fewer_than f g p (x ∷ xs) less was now (inr i) = by_two (g x) refl (f x) refl 
     by_two false e false e' rest = let k = count_no g x xs e in let k' = count_no f x xs e' in omega (arith, k, k', rest)
     by_two true e false e' rest = absurd (let k = less x e in cc)
 
--- a list without one of its elements, once
-pub record Without {A : Type 0} (f : A → Bool) (x : A) (xs : List A) : Type 0 where
-  pub rest : List A
-  pub fewer : count_by f xs ≡ 1 + count_by f rest
-  pub others : (y : A) → y ≢ x → Among y xs → Among y rest
-
-without : {A : Type 0} (f : A → Bool) (x : A) (xs : List A) → f x ≡ true → Among x xs → Without f x xs
-without f x [] t i = absurd i
-without f x (y ∷ ys) t (inl e) = record {
-  rest = ys;
-  fewer = count_yes f y ys (subst (λ z. f z ≡ true) e t);
-  others = λ z d i. elim i [ inl same ↦ absurd (d (same ∙ sym e)) | inr j ↦ j ];
-}
-without f x (y ∷ ys) t (inr i) =
-    let w = without f x ys t i in
-    record {
-      rest = y ∷ w.rest;
-      fewer = by_test (f y) refl w.rest w.fewer;
-      others = λ z d j. elim j [ inl same ↦ inl same | inr k ↦ inr (w.others z d k) ];
-    }
-  where
-    by_test : (b : Bool) → f y ≡ b → (zs : List _) → count_by f ys ≡ 1 + count_by f zs → count_by f (y ∷ ys) ≡ 1 + count_by f (y ∷ zs)
-    by_test true e zs k = let u = count_yes f y ys e in let v = count_yes f y zs e in omega (arith, k, u, v)
-    by_test false e zs k = let u = count_no f y ys e in let v = count_no f y zs e in omega (arith, k, u, v)
-
--- so many different ones that pass are in the list, so as many at least pass in it
-pub count_different : {A : Type 0} (f : A → Bool) (ds xs : List A) → NoRepeats ds → ((d : A) → Among d ds → Among d xs × (f d ≡ true))
-    → length ds ≤ count_by f xs
-count_different f [] xs once listed = omega arith
-count_different f (d ∷ ds) xs once listed =
-    let first = listed d (inl refl) in
-    let w = without f d xs first.1 first.0 in
-    let rest = count_different f ds w.rest once.1 (λ e i. (
-      w.others e (λ same. once.0 (subst (λ z. Among z ds) same i)) (listed e (inr i)).0,
-      (listed e (inr i)).1,
-    )) in
-    let k = w.fewer in
-    omega (arith, k, rest)
-
 -- of some of them no more pass
 filtered_fewer : {A : Type 0} (f p : A → Bool) (xs : List A) → count_by f (filter p xs) ≤ count_by f xs
 filtered_fewer f p [] = omega arith
@@ -118,21 +79,6 @@ filtered_fewer f p (x ∷ xs) =
 -- where none is counted dead, no more are counted dead than there are dead ones
 pub none_counted : (a : Arena) (l : Listed) → l.dead ≡ 0 → CountsLive a l
 none_counted a l e = let few = count_by-le-length (λ n. is_some (row_at a n)) l.nodes in omega (arith, few, e)
-
--- the live nodes in the list are no more than those that aren't counted dead
-pub live_most : (a : Arena) (l : Listed) → CountsLive a l → live_count a l.nodes ≤ most_live l
-live_most a l counts = omega (arith, counts)
-
--- so many different live nodes that are listed are no more than those that aren't counted dead
-pub live_different : (a : Arena) (l : Listed) (ns : List NodeId) → CountsLive a l → NoRepeats ns
-    → ((n : NodeId) → Among n ns → Among n l.nodes × IsLive a n) → length ns ≤ most_live l
-live_different a l ns counts once listed =
-    let few = count_different (λ n. is_some (row_at a n)) ns l.nodes once listed in omega (arith, few, counts)
-
--- where no other nodes of the list are live, no more are counted dead than there are dead ones
-pub counts_still : (a b : Arena) (l : Listed) → ((n : NodeId) → Among n l.nodes → IsLive b n → IsLive a n) → CountsLive a l → CountsLive b l
-counts_still a b l less counts =
-    let few = no_more (λ n. is_some (row_at a n)) (λ n. is_some (row_at b n)) l.nodes less in omega (arith, few, counts)
 
 -- a node of the list dies, so one fewer at least is live
 pub one_died : (a b : Arena) (n : NodeId) (ns : List NodeId) → Dies a b n ns → live_count b ns + 1 ≤ live_count a ns

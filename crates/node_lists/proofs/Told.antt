@@ -1,11 +1,11 @@
 -- The nodes that died are told: each once, and a scope at the main of each.
-use Rattle.std.proofs.Common.{◌≡◌, ◌⊎◌, inl, inr, List, [], ◌∷◌, ◌++◌, map, Option, None, Some, IsSome, refl, sym, ap, subst}
+use Rattle.std.proofs.Common.{◌≡◌, ◌⊎◌, inl, inr, List, [], ◌∷◌, ◌++◌, map, None, Some, IsSome, refl, sym, ap, subst}
 use Rattle.inc_value.specs.Choice.{Among, NoRepeats}
 use Rattle.inc_value.specs.declared.node.NodeId.{NodeId}
 use Rattle.inc_value.specs.declared.node.Point.{Point}
 use Rattle.inc_terms.specs.Depend.{main}
 use Rattle.inc_terms.proofs.Plan.{among_left, among_right, among_parts, among_map}
-use Rattle.point_map.specs.Rows.{Rows, at, Holds, Changes, KeepsRows}
+use Rattle.point_map.specs.Rows.{Rows, at, Holds, Changes}
 use Rattle.point_map.proofs.Places.{point_cases}
 use Rattle.node_lists.specs.Deaths.{IsTold}
 
@@ -48,29 +48,6 @@ main_less : (p : Point) (ns : List NodeId) (n : NodeId) → Among p (map main (n
 main_less p [] n h = elim h [ inl e ↦ inr e | inr i ↦ absurd i ]
 main_less p (x ∷ xs) n (inl e) = inl (inl e)
 main_less p (x ∷ xs) n (inr h) = elim (main_less p xs n h) [ inl i ↦ inl (inr i) | inr e ↦ inr e ]
-
--- where none died, no point has a scope
-pub none_told : (s : Rows NodeId) → IsTold [] s → (p : Point) → at s p ≡ None
-none_told s told p = go (at s p) refl
-  where
-    go : (o : Option NodeId) → at s p ≡ o → at s p ≡ None
-    go None e = e
-    go (Some b) e = absurd ((told.rows p).0 (subst IsSome (sym e) refl))
-
-pub told_none : (s : Rows NodeId) → ((p : Point) → at s p ≡ None) → IsTold [] s
-told_none s none = record {
-  once = tt;
-  rows = λ p. (λ h. let e = subst IsSome (none p) h in absurd (cc), λ a. absurd a);
-}
-
-pub told_same : (ns : List NodeId) (s s' : Rows NodeId) → KeepsRows s s' → IsTold ns s → IsTold ns s'
-told_same ns s s' keeps told = record {
-  once = told.once;
-  rows = λ p. (
-    λ h. (told.rows p).0 (subst IsSome (keeps p) h),
-    λ a. subst IsSome (sym (keeps p)) ((told.rows p).1 a),
-  );
-}
 
 -- a node has a scope exactly where it died
 pub told_node : (ns : List NodeId) (s : Rows NodeId) → IsTold ns s → (n : NodeId)

@@ -115,13 +115,6 @@ module _ {R : Type 0} where
       map-set (option_map kept_of) slots i (Some (record { bucket = l.bucket; point = l.point; next = l.next; row = row }))
       ∙ ap (λ e. slice_set (kept_in slots) i (option_map (kept_with row) e)) (sym (seen_at slots i ∙ ap (option_map kept_of) there))
 
-  -- where no point is kept nothing is written
-  pub unwritten : (kept : List (Option (Kept R))) (i : ℕ) (row : R) → slice_index_or kept i None ≡ None
-      → slice_set kept i (option_map (kept_with row) (slice_index_or kept i None)) ≡ kept
-  unwritten [] i row none = refl
-  unwritten (e ∷ rest) zero row none = ap (λ x. x ∷ rest) (ap (option_map (kept_with row)) none ∙ sym none)
-  unwritten (e ∷ rest) (suc i) row none = ap (λ ks. e ∷ ks) (unwritten rest i row none)
-
   abbrev pub point_at : List (Option (Link R)) → ℕ → Option Point
   point_at slots k = option_map (λ l. l.point) (slice_index_or slots k None)
 

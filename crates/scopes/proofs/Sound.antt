@@ -1,6 +1,6 @@
 -- The scopes' numbers and lists, through each change.
 use Rattle.std.proofs.Common.{◌≡◌, ◌≢◌, ◌∙◌, ◌⊎◌, ℕ, suc, zero, ◌<◌, ◌≤◌, List, [], ◌∷◌, ◌++◌, length, refl, ap, sym, subst, inl, inr, arith, slice_index_or, replicate, Option, Some, None}
-use Rattle.std.specs.Prelude.{flat_map, is_some, false}
+use Rattle.std.specs.Prelude.{flat_map}
 use Rattle.std.proofs.lemmas.Bool.{cases_eq}
 use Rattle.inc_value.specs.declared.node.NodeId.{NodeId}
 use Rattle.index_lists.specs.Lists.{Lists, list_at, Has}
@@ -122,21 +122,6 @@ module _ (v w : Lists Member) (own own' : NodeId → Option ℕ) (name name' : �
     );
   }
 
--- a scope without a number has no nodes
-pub released_none : (v : Lists Member) (own : NodeId → Option ℕ) (name : ℕ → Option NodeId) (scope : NodeId)
-    → IsByNumber v own name → own scope ≡ None
-    → Releases v v scope
-released_none v own name scope sound none = record {
-  out = λ j p r. (λ h. (h, λ e. not_some j (sym none ∙ ap own (sym e) ∙ sound.placed j p r h)), λ h. h.0);
-  killed = λ p r. (
-    λ h. inl h,
-    λ h. elim h [
-      | inl a ↦ a
-      | inr b ↦ absurd (not_some b.0 (sym none ∙ ap own (sym b.2) ∙ sound.placed b.0 p r b.1))
-    ],
-  );
-}
-
 -- more lists, all empty
 wide_at : (lists : List (List (ℕ × Member))) (n o : ℕ) → slice_index_or
     (lists ++ replicate n []) o [] ≡ slice_index_or lists o []
@@ -172,15 +157,6 @@ module _ (v w : Lists Member) (own own' : NodeId → Option ℕ) (name name' : �
   same_has : (o p : ℕ) (r : Member) → Has (list_at w o) p r → Has (list_at v o) p r
   same_has o p r h = subst (λ es. Has es p r) (same o) h
 
-  pub kept_sound : ((s : NodeId) → own' s ≡ own s) → ((j : ℕ) → name' j ≡ name j) → IsByNumber w own' name'
-  kept_sound owns names = record {
-    numbered = λ s j h. owns s ∙ sound.numbered s j (sym (names j) ∙ h);
-    named = λ s j h. names j ∙ sound.named s j (sym (owns s) ∙ h);
-    wide = λ s j h. (let l = sound.wide s j (sym (owns s) ∙ h) in omega (arith, l, more));
-    placed = λ j p r h. owns r.scope ∙ sound.placed j p r (same_has (suc j) p r h);
-    once = λ i j p q r s h g e. sound.once i j p q r s (same_has i p r h) (same_has j q s g) e;
-  }
-
   pub numbered_sound : (scope : NodeId) (k : ℕ) → own scope ≡ None → name k ≡ None → own' scope ≡ Some k
       → name' k ≡ Some scope
       → ((s : NodeId) → s ≢ scope → own' s ≡ own s) → ((j : ℕ) → j ≢ k → name' j ≡ name j) → suc k < length w.lists
@@ -210,7 +186,3 @@ module _ (v w : Lists Member) (own own' : NodeId → Option ℕ) (name name' : �
         owns r.scope (λ e. not_some j (sym none ∙ ap own (sym e) ∙ old)) ∙ old;
     once = λ i j p q r s h g e. sound.once i j p q r s (same_has i p r h) (same_has j q s g) e;
   }
-
-pub none_of : {A : Type 0} (o : Option A) → is_some o ≡ false → o ≡ None
-none_of None h = refl
-none_of (Some a) h = absurd (let e = h in cc)

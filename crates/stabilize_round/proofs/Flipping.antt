@@ -78,10 +78,6 @@ pub test_is : before.graph.row test ≡ Some test_row
 unfolding at_node
 test_is = refl
 
-pub left_is : before.graph.row left ≡ Some left_row
-unfolding at_node
-left_is = refl
-
 pub right_is : before.graph.row right ≡ Some right_row
 unfolding at_node
 right_is = refl

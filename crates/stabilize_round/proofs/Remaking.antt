@@ -391,10 +391,6 @@ pub stage_m : s3.stage M ≡ Static
 unfolding at_point
 stage_m = refl
 
-pub unneeded_n : needed3 N ≡ false
-unfolding at_point
-unneeded_n = refl
-
 pub unneeded_old : (p : Point) → old ≡ p.node → needed3 p ≡ true → ⊥
 unneeded_old p is h = elim (needed3_case p h) [
   | inl e ↦ let x : old ≡ subject = is ∙ ap (λ (y : Point). y.node) (sym e) in let s = ap (λ (y : NodeId). y.slot) x in cc

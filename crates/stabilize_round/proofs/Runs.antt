@@ -59,9 +59,6 @@ pub record Makes (F : Functions) (z : Start) (s t : State) : Type 0 where
 still : (s u t : State) → t ≡ u → Still s u → Still s t
 still s u t e h = subst (λ (x : State). Still s x) (sym e) h
 
-alike : (s : State) → Still s s
-alike s = record { graph = refl; given = refl; builds = refl; adds = refl; died = refl }
-
 abbrev pub Kind : (F : Functions) (z : Start) (s t : State) → List NodeId → Type 0
 Kind F z s t binds = (Still s t × (binds ≡ [])) ⊎ ((k : Makes F z s t) × (binds ≡ k.bind ∷ []))
 

@@ -33,8 +33,8 @@ use Rattle.script_model.proofs.Places.{same_values}
 use Rattle.script_model.proofs.TypedCalls.{part_is}
 use Rattle.transfer.specs.Both.{Both, graph_value, graph_outcome}
 use Rattle.transfer.specs.Shows.{Mode, Built, Binding, Opens, graph_step, Shows, ShowsAll, Declares, Lost, Fits}
-use Rattle.transfer.specs.Items.{part_node, root_at, node_at, around, scope_at, IsChoice, GrabsBind, RootsHave}
-use Rattle.transfer.proofs.Places.{if_subject, join_subject, binding, map_parts, fold_parts, part_above, then_some, plain_map, plain_fold, plain_if, plain_join, plain_bind, opened, place_shows}
+use Rattle.transfer.specs.Items.{part_node, root_at, node_at, around, scope_at, GrabsBind, RootsHave}
+use Rattle.transfer.proofs.Places.{binding, map_parts, fold_parts, part_above, then_some, plain_map, plain_fold, plain_if, plain_join, plain_bind, opened, place_shows}
 use Rattle.transfer.proofs.Carriers.{name_or, place_agrees}
 use Rattle.transfer.specs.Cycles.{IsForm}
 use Rattle.transfer.proofs.Agreement.{live_facts}
@@ -668,23 +668,6 @@ module _ (x : Both) (fits : Fits x) (grabs : GrabsBind x.state) (died : NodeId �
   needed_has begin i (root, is, more) =
       let name = root_named x.state root is in
       reached_has root i (root, is, here) (rw name.1 (begin name.0 (rw name.1 at is))) more
-
-  -- a choice that has its node has its change
-  pub choice_has : (owner : ℕ) (path : List Edge) (f : Formula) (n : NodeId) → formula_at x.state owner path ≡ Some f
-      → node_at x owner path ≡ Some n → IsChoice (Some f) → Y (main n) → Y (change n)
-  choice_has owner path (If test a b) n f_is at choice y = go (place_shows x fits owner path n (If test a b) f_is at)
-    where
-      go : Shows x (Built (scope_at x owner path)) (around x owner path) (term.Ref n) (If test a b) → Y (change n)
-      go (p, q, s, op, st, sa, sb) =
-          let o = opened x.graph (scope_at x owner path) n (term.If p q s) op in
-          let k = plain_if o.0.def p q s o.3 in to_change n k.0 o.0 o.1 y (if_subject o.0.def k.0 k.1 k.2 k.3)
-  choice_has owner path (Join child) n f_is at choice y = go (place_shows x fits owner path n (Join child) f_is at)
-    where
-      go : Shows x (Built (scope_at x owner path)) (around x owner path) (term.Ref n) (Join child) → Y (change n)
-      go (p, op, sc) =
-          let o = opened x.graph (scope_at x owner path) n (term.Join p) op in
-          let k = plain_join o.0.def p o.3 in to_change n k.0 o.0 o.1 y (join_subject o.0.def k.0 k.1)
-  choice_has owner path f n f_is at choice y = absurd choice
 
 -- so where every needed point is right, whatever is needed has its points among the needed ones
 pub needed_has_points : (x : Both) (fits : Fits x) (grabs : GrabsBind x.state) (died : NodeId → Option NodeId)

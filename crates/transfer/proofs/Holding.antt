@@ -1,5 +1,5 @@
 -- What was held over the graph is covered by what was held of the script.
-use Rattle.std.proofs.Common.{◌≡◌, ◌⊎◌, inl, inr, ℕ, zero, suc, List, [], ◌∷◌, Option, None, Some, refl, sym, ap, subst, ◌∙◌, slice_get}
+use Rattle.std.proofs.Common.{◌≡◌, inl, inr, ℕ, zero, suc, List, [], ◌∷◌, Option, Some, refl, sym, ap, subst, ◌∙◌, slice_get}
 use Rattle.inc_value.specs.declared.node.NodeId.{NodeId}
 use Rattle.inc_value.specs.declared.node.Point.{Point}
 use Rattle.inc_value.specs.declared.outcome.Outcome.TheVariants as outcome
@@ -14,14 +14,14 @@ use Rattle.inc_terms.specs.Same.{same_outcome}
 use Rattle.inc_terms.specs.Term as term
 use Rattle.inc_terms.proofs.Local.{reach_more}
 use Rattle.inc_terms.proofs.Same.{outcome_decides}
-use Rattle.script_model.specs.Formula.{Formula, Entry, State, entry_at, Name, Bound, If, Join, Bind}
+use Rattle.script_model.specs.Formula.{Formula, State, Name, Bound, If, Join, Bind}
 use Rattle.script_model.specs.Need.{Edge, Argument, Test, Then, Else, Child, Left, Inside, Item, Named, Place, environment, bind_around, part_at, formula_at, Held, StillStands}
 use Rattle.script_model.specs.Valid.{Valid, KeepToTypes}
 use Rattle.script_model.specs.Values.{Value}
 use Rattle.script_model.proofs.Places.{needed_stands}
 use Rattle.transfer.specs.Both.{Both, graph_value}
 use Rattle.transfer.specs.Shows.{Built, Binding, Shows, plain, Fits}
-use Rattle.transfer.specs.Items.{part_node, root_at, node_at, around, scope_at, IsChoice, Covers, by_main, by_choice, by_left, by_variable, Closed, GhostsCovered, GrabsBind, HeldAre, FormulasStay}
+use Rattle.transfer.specs.Items.{part_node, root_at, node_at, around, scope_at, IsChoice, Covers, by_main, by_choice, by_left, by_variable, Closed, GhostsCovered, GrabsBind, HeldAre}
 use Rattle.transfer.specs.Keeping.{RowsStay, NodesApart}
 use Rattle.transfer.specs.Holding.{ScopesStay, Later, HoldersAre, LinksDepend}
 use Rattle.transfer.proofs.Carriers.{name_or, part_in, outer_stands}
@@ -33,21 +33,6 @@ use Rattle.transfer.proofs.Stepping.{bound_or, reached_covered}
 use Rattle.transfer.proofs.Typed.{valid_grabs}
 
 -- ---- later pairs
-
--- rows stay, and binds are built as they were
-pub scopes_kept : (G G' : Graph) → RowsStay G G' → ((b : NodeId) (r : Row) → G.row b ≡ Some r → G'.built b ≡ G.built b)
-    → ((n : NodeId) (r : Row) (b : NodeId) → G.row n ≡ Some r → r.scope ≡ Some b → (q : Row) × (G.row b ≡ Some q))
-    → ScopesStay G G'
-scopes_kept G G' rows built scoped =
-    record {
-      rows = λ n r u row def. inl (rows n r u row def);
-      tops = λ n r u row def scope. rows n r u row def;
-      within = λ n b r q u row def scope live same. rows n r u row def;
-      scopes = λ n b r q u row def scope live.
-          let s = scoped n r b row scope in ap outcome_of (built b s.0 s.1);
-      roots = λ b r q w w' row live is is' same.
-          let e = built b r row in let some : Some w' ≡ Some w = sym is' ∙ e ∙ is in cc;
-    }
 
 -- so before what scopes keep, as commands are before a call
 pub scopes_then : (G G' G'' : Graph) → RowsStay G G' → ((b : NodeId) (r : Row) → G.row b ≡ Some r → G'.built b ≡ G.built b)
@@ -68,39 +53,6 @@ scopes_then G G' G'' rows built scoped lives later =
       roots = λ b r q w w' row live is is' same.
           let s = lives b r row w is in
           later.roots b s.0 q w w' s.1 live (built b r row ∙ is) is' same;
-    }
-
--- a pair is later than itself
-pub later_self : (x : Both)
-    → ((n : NodeId) (r : Row) (b : NodeId) → x.graph.row n ≡ Some r → r.scope ≡ Some b → (q : Row) × (x.graph.row b ≡ Some q))
-    → Later x x
-later_self x scoped =
-    record {
-      meanings = refl;
-      formulas = λ owner path f is. is;
-      targets = λ k e is. (e, is, refl);
-      names = λ k. inl refl;
-      wholes = λ owner n at. at;
-      scopes = scopes_kept x.graph x.graph (λ n r u row def. row) (λ b r row. refl) scoped;
-    }
-
--- a step on from a later pair
-pub later_on : (x then next : Both) → Later x then → next.meanings ≡ then.meanings
-    → FormulasStay then.state next.state
-    → ((k : ℕ) (e : Entry) → entry_at then.state k ≡ Some e
-    → (d : Entry) × (entry_at next.state k ≡ Some d) × (d.target ≡ e.target))
-    → ((k : ℕ) → (next.nodes k ≡ x.nodes k) ⊎ ((entry_at x.state k ≡ None) × (next.graph.row (x.nodes k) ≡ None)))
-    → ((owner : ℕ) (n : NodeId) → node_at then owner [] ≡ Some n → node_at next owner [] ≡ Some n)
-    → ScopesStay x.graph next.graph → Later x next
-later_on x then next later meanings formulas targets names wholes scopes =
-    record {
-      meanings = meanings ∙ later.meanings;
-      formulas = λ owner path f is. formulas owner path f (later.formulas owner path f is);
-      targets = λ k e is.
-          let d = later.targets k e is in let c = targets k d.0 d.1 in (c.0, c.1, c.2 ∙ d.2);
-      names = names;
-      wholes = λ owner n at. wholes owner n (later.wholes owner n at);
-      scopes = scopes;
     }
 
 -- ---- what was held

@@ -11,7 +11,6 @@ pub mod Having
 pub mod Worked
 pub mod Present
 pub mod Meanings
-pub mod Fitting
 pub mod Ghosts
 pub mod Mentions
 pub mod Frame

@@ -1,8 +1,8 @@
 -- What names and references a formula mentions.
-use Rattle.std.proofs.Common.{ℕ, true, false, Option, None, Some}
+use Rattle.std.proofs.Common.{ℕ}
 use Rattle.inc_value.specs.Choice.{Every as Each}
 use Rattle.script_model.specs.Values.{Value, Reference}
-use Rattle.script_model.specs.Formula.{Formula, Formulas, TimedValue, Body, Literal, Name, Bound, Apply, Fold, If, Join, Bind, At, Steps, Now, End, More, Variable, Computed, Freeze, After, Every, Expert, Grab}
+use Rattle.script_model.specs.Formula.{Formula, Formulas, TimedValue, Literal, Name, Bound, Apply, Fold, If, Join, Bind, At, Steps, Now, End, More}
 
 -- a reference is to a name of the set
 abbrev pub ValueMentions : (ℕ → Type 0) → Value → Type 0
@@ -28,20 +28,3 @@ abbrev mutual
   pub AllMention : (ℕ → Type 0) → Formulas → Type 0
   AllMention P End = Unit {0}
   AllMention P (More f fs) = Mentions P f × AllMention P fs
-
--- the value that a freeze keeps, if it keeps one
-abbrev pub KeptMentions : (ℕ → Type 0) → Option Value → Type 0
-KeptMentions P None = Unit {0}
-KeptMentions P (Some v) = ValueMentions P v
-
--- so in what is declared
-abbrev pub BodyMentions : (ℕ → Type 0) → Option Body → Type 0
-BodyMentions P None = Unit {0}
-BodyMentions P (Some (Variable v)) = ValueMentions P v
-BodyMentions P (Some (Computed f kept)) = Mentions P f
-BodyMentions P (Some (Freeze child predicate frozen)) = Mentions P child × KeptMentions P frozen
-BodyMentions P (Some (After t)) = Unit {0}
-BodyMentions P (Some (Every base span)) = Unit {0}
-BodyMentions P (Some (Expert f first links stale)) = ValueMentions P first × Each P links
-BodyMentions P (Some (Grab bind v false)) = Unit {0}
-BodyMentions P (Some (Grab bind v true)) = P bind × ValueMentions P v

@@ -1,5 +1,5 @@
 -- A scope stands where the lefts of the binds round it give the place's values, and the other way round.
-use Rattle.std.proofs.Common.{◌≡◌, ℕ, zero, suc, true, false, List, [], ◌∷◌, Option, None, Some, refl, sym, ap, ◌∙◌, cond}
+use Rattle.std.proofs.Common.{◌≡◌, ℕ, zero, suc, true, false, List, [], ◌∷◌, Option, None, Some, refl, sym, ◌∙◌, cond}
 use Rattle.std.specs.Prelude as std
 use Rattle.inc_value.specs.declared.function.FnRef.{FnRef}
 use Rattle.inc_value.specs.declared.node.NodeId.{NodeId}
@@ -8,26 +8,22 @@ use Rattle.inc_value.specs.declared.outcome.Outcome.TheVariants as outcome
 use Rattle.inc_value.specs.declared.value.Value.TheVariants as held
 use Rattle.inc_value.specs.Choice.{and_then}
 use Rattle.inc_terms.specs.Evaluate as engine
-use Rattle.inc_terms.specs.Evaluate.{answer, Gives, NodeGives, Stands, Of, Around}
+use Rattle.inc_terms.specs.Evaluate.{answer, Gives, Stands, Of, Around}
 use Rattle.inc_terms.specs.Graph as graph
-use Rattle.inc_terms.specs.Graph.{Row, present_def}
+use Rattle.inc_terms.specs.Graph.{Row}
 use Rattle.inc_terms.specs.Same.{same_outcome}
 use Rattle.inc_terms.specs.Term as term
-use Rattle.inc_terms.proofs.Evaluation.{one_outcome}
 use Rattle.inc_terms.proofs.Same.{outcome_decides}
 use Rattle.script_model.specs.Values.{Value, Outcome, Val}
-use Rattle.script_model.specs.Formula.{Formula, Bind, Bound}
+use Rattle.script_model.specs.Formula.{Formula, Bind}
 use Rattle.script_model.specs.Need.{Edge, Argument, Test, Then, Else, Child, Left, Inside, Place, part_at, formula_at, ItemGives, StillStands}
-use Rattle.script_model.proofs.Places.{item_gives_one}
 use Rattle.script_model.proofs.TypedCalls.{part_is}
-use Rattle.transfer.specs.Both.{Both, graph_value, graph_outcome}
+use Rattle.transfer.specs.Both.{Both, graph_value}
 use Rattle.transfer.specs.Shows.{Built, Shows, Fits}
 use Rattle.transfer.specs.Items.{part_node, root_at, node_at, around, scope_at, ApartAt}
-use Rattle.transfer.proofs.Places.{stands_none, part_above, then_some, if_true, opened, plain_bind, place_shows}
+use Rattle.transfer.proofs.Places.{part_above, then_some, if_true, opened, plain_bind, place_shows}
 use Rattle.transfer.proofs.Carriers.{place_agrees, outer_stands}
-use Rattle.transfer.specs.Cycles.{IsForm}
 use Rattle.transfer.proofs.Says.{value_alone}
-use Rattle.transfer.proofs.Stepping.{row_scope}
 
 module _ (x : Both) (fits : Fits x) where
   -- a bind round a place, by its row, and what it is built for
@@ -81,102 +77,6 @@ module _ (x : Both) (fits : Fits x) where
   round_parts owner path v b w a (zero, e) = absurd (cc)
   round_parts owner path v b (r, l, h, caps, w, left, row, scope, def, built, for, at, f_is) a (suc d, e) =
       (d, rw (row, scope, def, built) at e)
-
-  -- a scope that has an outcome stands where the lefts give the values
-  pub present_stands : (owner : ℕ) (path : List Edge) (f : Formula) (n : NodeId)
-      → formula_at x.state owner path ≡ Some f → node_at x owner path ≡ Some n
-      → StillStands x.meanings x.state (Place owner path)
-      → (a : GraphOutcome) → Gives x.functions x.graph (Around (scope_at x owner path)) a
-      → a ≡ outcome.Val (held.Bool true)
-  present_stands owner [] f n f_is at stands a gives =
-      one_outcome x.functions x.graph (Around None) a (outcome.Val (held.Bool true)) gives (stands_none x)
-  present_stands owner (Inside v ∷ path) f n f_is at stands a gives =
-      let above = part_above x.state owner path (Inside v) f f_is in
-      let node = then_some (node_at x owner path) (λ b. and_then (x.graph.built b) (root_at x.nodes v)) n at in
-      let w = rounds_at owner path v f above.0 node.0 n above.1 above.2 node.1 node.2 in
-      let p = round_parts owner path v node.0 w a (rw node.1 at gives) in
-      by_outer w p.0 (answer x.functions x.graph p.0 (Around (scope_at x owner path))) refl p.1
-      (λ a g. present_stands owner path above.0 node.0 above.1 node.1 stands.1 a g)
-    where
-      by_left : {b : NodeId} (w : Rounds owner path v b) (d : ℕ) (o : Option GraphOutcome)
-          → answer x.functions x.graph d (Of (term.Ref w.1)) ≡ o → and_then o (engine.as_built (Some w.4)) ≡ Some a
-          → Stands x.functions x.graph (scope_at x owner path) → a ≡ outcome.Val (held.Bool true)
-      by_left w d None is e outer = absurd (cc)
-      by_left (r, l, h, caps, w, left, row, scope, def, built, for, l_at, l_is) d (Some o) is e outer =
-          let g = place_agrees x fits owner (Left ∷ path) left l o l_is l_at outer (d, is) in
-          let same = item_gives_one x.meanings x.state (Place owner (Left ∷ path)) g.0 (Val v) g.2 stands.0 in
-          let left_is : o ≡ w.outcome = g.1 ∙ ap (graph_outcome x.nodes) same ∙ sym for in
-          let test : same_outcome o w.outcome ≡ true = (outcome_decides o w.outcome).1 left_is in
-          let e' = rw test at e in cc
-
-      by_outer : {b : NodeId} (w : Rounds owner path v b) (d : ℕ) (o : Option GraphOutcome)
-          → answer x.functions x.graph d (Around (scope_at x owner path)) ≡ o
-          → engine.with_value o (λ t. and_then (answer x.functions x.graph d (Of (term.Ref w.1)))
-          (engine.as_built (Some w.4))) ≡ Some a
-          → ((a : GraphOutcome) → Gives x.functions x.graph (Around (scope_at x owner path)) a
-          → a ≡ outcome.Val (held.Bool true)) → a ≡ outcome.Val (held.Bool true)
-      by_outer w d None is e outer = absurd (cc)
-      by_outer w d (Some outcome.Invalid) is e outer = absurd (let never = outer outcome.Invalid (d, is) in cc)
-      by_outer w d (Some (outcome.Val t)) is e outer =
-          let yes_it_does = outer (outcome.Val t) (d, is) in
-          by_left w d (answer x.functions x.graph d (Of (term.Ref w.1))) refl e
-          (d, rw yes_it_does at is)
-  present_stands owner (Argument k ∷ path) f n f_is at stands a gives =
-      let above = part_above x.state owner path (Argument k) f f_is in
-      let node = then_some (node_at x owner path)
-      (λ b. and_then (x.graph.row b) (λ r. part_node r.def (Argument k))) n at in
-      present_stands owner path above.0 node.0 above.1 node.1 stands a gives
-  present_stands owner (Test ∷ path) f n f_is at stands a gives =
-      let above = part_above x.state owner path Test f f_is in
-      let node = then_some (node_at x owner path) (λ b. and_then (x.graph.row b) (λ r. part_node r.def Test)) n at in
-      present_stands owner path above.0 node.0 above.1 node.1 stands a gives
-  present_stands owner (Then ∷ path) f n f_is at stands a gives =
-      let above = part_above x.state owner path Then f f_is in
-      let node = then_some (node_at x owner path) (λ b. and_then (x.graph.row b) (λ r. part_node r.def Then)) n at in
-      present_stands owner path above.0 node.0 above.1 node.1 stands a gives
-  present_stands owner (Else ∷ path) f n f_is at stands a gives =
-      let above = part_above x.state owner path Else f f_is in
-      let node = then_some (node_at x owner path) (λ b. and_then (x.graph.row b) (λ r. part_node r.def Else)) n at in
-      present_stands owner path above.0 node.0 above.1 node.1 stands a gives
-  present_stands owner (Child ∷ path) f n f_is at stands a gives =
-      let above = part_above x.state owner path Child f f_is in
-      let node = then_some (node_at x owner path) (λ b. and_then (x.graph.row b) (λ r. part_node r.def Child)) n at in
-      present_stands owner path above.0 node.0 above.1 node.1 stands a gives
-  present_stands owner (Left ∷ path) f n f_is at stands a gives =
-      let above = part_above x.state owner path Left f f_is in
-      let node = then_some (node_at x owner path) (λ b. and_then (x.graph.row b) (λ r. part_node r.def Left)) n at in
-      present_stands owner path above.0 node.0 above.1 node.1 stands a gives
-
-  -- a node that has an outcome has one of its scope
-  pub round_answers : (n : NodeId) (r : Row) (o : GraphOutcome) → x.graph.row n ≡ Some r
-      → NodeGives x.functions x.graph n o → (a : GraphOutcome) × Gives x.functions x.graph (Around r.scope) a
-  unfolding answer
-  round_answers n r o row (zero, e) = absurd (cc)
-  round_answers n r o row (suc d, e) = go (answer x.functions x.graph d (Around r.scope)) refl (rw row at e)
-    where
-      go : (a : Option GraphOutcome) → answer x.functions x.graph d (Around r.scope) ≡ a
-          → engine.with_value a (λ t. answer x.functions x.graph d (Of (present_def x.graph n r.def))) ≡ Some o
-          → (a : GraphOutcome) × Gives x.functions x.graph (Around r.scope) a
-      go None is e = absurd (cc)
-      go (Some a) is e = (a, (d, is))
-
-  -- where the lefts of the binds round a place still give its values, what its node gives the place gives
-  pub present_agrees : (owner : ℕ) (path : List Edge) (f : Formula) (n : NodeId) (r : Row) (o : GraphOutcome)
-      → formula_at x.state owner path ≡ Some f → node_at x owner path ≡ Some n → IsForm f
-      → ((k : ℕ) → f ≡ Bound k → ⊥) → x.graph.row n ≡ Some r → StillStands x.meanings x.state (Place owner path)
-      → NodeGives x.functions x.graph n o
-      → (p : Outcome) × (o ≡ graph_outcome x.nodes p) × ItemGives x.meanings x.state (Place owner path) p
-  present_agrees owner path f n r o f_is at form free row stands gives =
-      let a = round_answers n r o row gives in go a.0 a.1
-    where
-      go : (a : GraphOutcome) → Gives x.functions x.graph (Around r.scope) a
-          → (p : Outcome) × (o ≡ graph_outcome x.nodes p) × ItemGives x.meanings x.state (Place owner path) p
-      go a g =
-          let scope = row_scope x (scope_at x owner path) (around x owner path) n f r form free row
-          (place_shows x fits owner path n f f_is at) in
-          let round = rw scope at g in
-          let holds = present_stands owner path f n f_is at stands a round in
-          place_agrees x fits owner path f n o f_is at (rw holds at round) gives
 
   -- a place whose scope stands is one whose environment is present
   pub stands_present : (owner : ℕ) (path : List Edge) (f : Formula) (n : NodeId)

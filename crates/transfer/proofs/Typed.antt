@@ -1,21 +1,19 @@
 -- What a valid state has by its types.
-use Rattle.std.proofs.Common.{◌≡◌, ℕ, zero, suc, ◌+◌, ◌-◌, ◌<◌, ◌/◌, pos, ◌-ℤ◌, true, false, List, [], ◌∷◌, length, Option, None, Some, refl, sym, ◌∙◌, ap, arith}
-use Rattle.std.proofs.Math.IntN.{+ℤ-neg_ℤ_cancel}
+use Rattle.std.proofs.Common.{◌≡◌, ℕ, zero, suc, ◌<◌, true, List, [], ◌∷◌, length, Option, None, Some, refl, sym, ◌∙◌, ap, arith}
 use Rattle.std.proofs.lemmas.Option.{slice_get_within}
-use Rattle.std.specs.Int.Signed.{quot_z}
 use Rattle.inc_value.specs.declared.function.FnRef.{FnRef}
 use Rattle.inc_value.specs.declared.ty.Ty.{Ty}
 use Rattle.inc_value.specs.Choice.{and_then, Every as Each}
 use Rattle.script_model.specs.Check.{target_of_body}
 use Rattle.script_model.specs.Values.{Value, Int, Bool, Text, Reference, Val}
-use Rattle.script_model.specs.Formula.{Formula, Formulas, TimedValue, Kept, Body, Entry, State, Meanings, entry_at, body_at, bind_at, bind_of, formula_of_body, Literal, Name, Bound, Apply, Fold, If, Join, Bind, At, Steps, Now, End, More, Variable, Computed, Freeze, After, Every, Expert, Grab}
+use Rattle.script_model.specs.Formula.{Formula, Formulas, TimedValue, Kept, Body, Entry, State, Meanings, entry_at, body_at, bind_at, bind_of, formula_of_body, Literal, Name, Bound, Apply, Fold, If, Join, Bind, At, Steps, Now, End, More, Computed, Freeze, Expert, Grab}
 use Rattle.script_model.specs.Valid.{NameHasType, ValueHasType, StepsHaveType, HasType, ArgumentsHaveTypes, ElementsHaveType, BodyHasType, Valid}
 use Rattle.script_model.specs.Need.{Edge, Argument, Test, Then, Else, Child, Left, Inside, argument_at, part_at, part_of, formula_at}
 use Rattle.script_model.proofs.TypedCalls.{part_stands}
 use Rattle.transfer.specs.Shows.{IsOwn}
 use Rattle.transfer.specs.Items.{GrabsBind}
 use Rattle.transfer.proofs.Places.{then_some}
-use Rattle.transfer.proofs.Mentions.{ValueMentions, Mentions, AllMention, BodyMentions}
+use Rattle.transfer.proofs.Mentions.{ValueMentions, Mentions, AllMention}
 
 -- ---- names and references are of earlier declarations
 
@@ -146,42 +144,6 @@ module _ (F : Meanings) (s : State) (valid : Valid F s) where
       let built : kept.built ≡ Some (Val v) = rw is at (h.built refl) in
       (body_typed b (Computed (Bind left body) kept) is).1.1 (Val v) built
 
-  -- each declaration mentions earlier ones alone
-  pub body_mentions : (P : ℕ → Type 0) → ((k : ℕ) → k < length s.entries → P k) → (k : ℕ) (b : Option Body)
-      → body_at s k ≡ b → BodyMentions P b
-  body_mentions P low k None at = tt
-  body_mentions P low k (Some (Variable v)) at =
-      let h = body_typed k (Variable v) at in value_mentions F s P (length s.entries)
-      (λ j t name. low j name.earlier) v h.0 h.1
-  body_mentions P low k (Some (Computed f kept)) at =
-      let h = body_typed k (Computed f kept) at in
-      typed_mentions F s P k (λ j t name. low j (omega (arith, name.earlier, h.2))) [] f h.0 h.1.0
-  body_mentions P low k (Some (Freeze child p None)) at =
-      let h = body_typed k (Freeze child p None) at in
-      (typed_mentions F s P k (λ j t name. low j (omega (arith, name.earlier, h.2))) [] child h.0 h.1.0, tt)
-  body_mentions P low k (Some (Freeze child p (Some v))) at =
-      let h = body_typed k (Freeze child p (Some v)) at in (
-        typed_mentions F s P k (λ j t name. low j (omega (arith, name.earlier, h.2))) [] child h.0 h.1.0,
-        value_mentions F s P (length s.entries) (λ j t name. low j name.earlier) v h.0 (h.1.4 v refl),
-      )
-  body_mentions P low k (Some (After t)) at = tt
-  body_mentions P low k (Some (Every base span)) at = tt
-  body_mentions P low k (Some (Expert f first links stale)) at =
-      let h = body_typed k (Expert f first links stale) at in (
-        value_mentions F s P (length s.entries) (λ j t name. low j name.earlier) first h.0 h.1.3,
-        links_mention F s P
-            (length s.entries) (λ j t name. low j name.earlier) h.1.0 links h.1.4,
-      )
-  body_mentions P low k (Some (Grab b v false)) at = tt
-  body_mentions P low k (Some (Grab b v true)) at =
-      let h = body_typed k (Grab b v true) at in
-      let bind = valid_grabs k b v at in
-      let typed = grab_typed k b v bind.0 bind.1 bind.2 at bind.3 in (
-        low b (omega (arith, h.1.earlier, h.2)),
-        value_mentions F s P (length s.entries)
-            (λ j t name. low j name.earlier) v typed.0 typed.2,
-      )
-
   -- a declaration that is its own target
   abbrev pub IsOwnName : ℕ → Type 0
   IsOwnName t = (b : Body) × (body_at s t ≡ Some b) × IsOwn (Some b)
@@ -251,13 +213,3 @@ module _ (F : Meanings) (s : State) (valid : Valid F s) where
       let h = body_typed k (Expert g first links stale) is in
       links_mention F s IsOwnName (length s.entries)
       (λ j t name. name_own (length s.entries) j t name) h.1.0 links h.1.4
-
-  -- a span is counted alike on both clocks
-  pub spans_alike : (k base span : ℕ) → body_at s k ≡ Some (Every base span)
-      → quot_z (pos s.now -ℤ pos base) (pos span) ≡ pos ((s.now - base) / span)
-  spans_alike k base span at =
-      let later = (body_typed k (Every base span) at).1.2 in
-      let whole : (s.now - base) + base ≡ s.now = omega (arith, later) in
-      let apart : pos s.now -ℤ pos base ≡ pos (s.now - base) =
-      ap (λ n. pos n -ℤ pos base) (sym whole) ∙ +ℤ-neg_ℤ_cancel (pos (s.now - base)) (pos base) in
-      rw apart refl

@@ -12,7 +12,7 @@ use Rattle.script_model.specs.Formula as script
 use Rattle.script_model.specs.Formula.{Formula, Entry, State, entry_at, body_at, Name, Computed, Bind, Grab}
 use Rattle.script_model.specs.Values.{Value}
 use Rattle.transfer.specs.Both.{Both}
-use Rattle.transfer.specs.Shows.{plain, IsOwn}
+use Rattle.transfer.specs.Shows.{plain}
 
 -- the pair after a command, between two rounds
 abbrev pub left_by : Both → Functions → Graph → State → (ℕ → NodeId) → Both
@@ -51,11 +51,3 @@ abbrev pub GrabsForms : State → Type 0
 GrabsForms s =
     (k b : ℕ) (v : Value) (left : Formula) (t : ℕ) (kept : script.Kept) → body_at s k ≡ Some (Grab b v true)
     → body_at s b ≡ Some (Computed (Bind left (Name t)) kept) → ⊥
-
--- what is declared of a name stays, and so does its node, which has the same if it is the name's own; so has the node
--- of the bind that a live grab is of
-pub record Stays (x then : Both) (k : ℕ) : Type 0 where
-  pub body : body_at then.state k ≡ body_at x.state k
-  pub node : then.nodes k ≡ x.nodes k
-  pub at : IsOwn (body_at x.state k) → SameAt x.graph then.graph (x.nodes k)
-  pub bind : (b : ℕ) (v : Value) → body_at x.state k ≡ Some (Grab b v true) → SameAt x.graph then.graph (x.nodes b)
