@@ -48,6 +48,7 @@ impl Value {
     }
 
     /// Whether both values are of one type and equal.
+    #[inline]
     pub fn same(&self, other: &Value) -> bool
         ensures { IsTrue result ↔ (self.now ≡ other.now) }
     {
