@@ -14,7 +14,7 @@ use Rattle.stabilize_round.specs.Moves.{Quiet, changed, StepChange}
 use Rattle.stabilize_round.specs.Machine.{Move, step_main, step_change, link, link_new, root, root_new, raise, finish, schedule, cut, rebuild}
 use Rattle.stabilize_round.specs.Machine.{level, spend, Moves}
 use Rattle.stabilize_round.specs.Ended.{unsettled}
-use Rattle.stabilize_round.specs.Steps.{Settles, Wires, Spends, Wiring, TakingOff, Wired, plainly, after_refusal}
+use Rattle.stabilize_round.specs.Steps.{Settles, Wires, Spends, Wiring, TakingOff, Wired, plainly, after_refusal, Step}
 use Rattle.stabilize_round.specs.StepLaws.{is_full, is_loose, Falls, StepsFall, unneeded, WiringFalls}
 use Rattle.stabilize_round.proofs.Counts.{no_more, fewer_than}
 use Rattle.stabilize_round.proofs.Points.{same_or_other, at_same, at_other}
@@ -98,12 +98,12 @@ settled_by F z s t p (spend u k e) it = absurd it
 -- ---- what wiring leaves
 
 -- links, stages, need and the worklist apart: nothing is settled, no main loses its links, and what is newly in the worklist is newly needed
-record Kept (s t : State) : Type 0 where
-  retries : t.retries ≡ s.retries
-  settled : (p : Point) → t.settled p ≡ s.settled p
-  needed : (p : Point) → s.needed p ≡ true → t.needed p ≡ true
-  full : (p : Point) → s.needed p ≡ true → s.stage p ≡ Full → t.stage p ≡ Full
-  todo : (p : Point) → t.todo p ≡ true → (s.todo p ≡ true) ⊎ ((s.needed p ≡ false) × (t.needed p ≡ true))
+pub record Kept (s t : State) : Type 0 where
+  pub retries : t.retries ≡ s.retries
+  pub settled : (p : Point) → t.settled p ≡ s.settled p
+  pub needed : (p : Point) → s.needed p ≡ true → t.needed p ≡ true
+  pub full : (p : Point) → s.needed p ≡ true → s.stage p ≡ Full → t.stage p ≡ Full
+  pub todo : (p : Point) → t.todo p ≡ true → (s.todo p ≡ true) ⊎ ((s.needed p ≡ false) × (t.needed p ≡ true))
 
 kept_at : (s u t : State) → t ≡ u → Kept s u → Kept s t
 kept_at s u t e k = subst (λ (x : State). Kept s x) (sym e) k
@@ -178,7 +178,7 @@ kept_on s u t a b = record {
     unneeded_before : (p : Point) → u.needed p ≡ false → s.needed p ≡ false
     unneeded_before p h = elim (bool_cases (s.needed p)) [ inr e ↦ e | inl e ↦ absurd (let x = a.needed p e in cc) ]
 
-wiring_kept : (F : Functions) (z : Start) (s t : State) → Reaches (Wiring F z) s t → Kept s t
+pub wiring_kept : (F : Functions) (z : Start) (s t : State) → Reaches (Wiring F z) s t → Kept s t
 wiring_kept F z s t here = same_kept s
 wiring_kept F z s t (step {b = u} m rest) = kept_on s u t (wire_kept F z s u m.0 m.1) (wiring_kept F z u t rest)
 
@@ -435,12 +435,11 @@ module _ (F : Functions) (z : Start) (s : State) (inv : Invariant F z s) (quiet 
   settles_again (level m e) it = absurd it
   settles_again (spend u k e) it = absurd it
 
-pub steps_fall : StepsFall
-steps_fall F z begun s t entry run k points nodes among among_nodes = by_settled (bool_cases (s.settled k.point))
+-- each step leaves less
+pub step_falls : (F : Functions) (z : Start) (s t : State) → Invariant F z s → (k : Step F z s t) (points : List Point) (nodes : List NodeId)
+    → Among k.point points → Among k.point.node nodes → Falls s t points nodes
+step_falls F z s t inv k points nodes among among_nodes = by_settled (bool_cases (s.settled k.point))
   where
-    inv : Invariant F z s
-    inv = round_keeps F z begun s entry run
-
     moves : Moves F z s t
     moves = step_moves F z s t k
 
@@ -471,3 +470,7 @@ steps_fall F z begun s t entry run k points nodes among among_nodes = by_settled
     by_settled : (s.settled k.point ≡ true) ⊎ (s.settled k.point ≡ false) → Falls s t points nodes
     by_settled (inl was) = by_wired was k.wired
     by_settled (inr was) = first was
+
+pub steps_fall : StepsFall
+steps_fall F z begun s t entry run k points nodes among among_nodes =
+    step_falls F z s t (round_keeps F z begun s entry run) k points nodes among among_nodes

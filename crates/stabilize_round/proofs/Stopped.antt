@@ -246,7 +246,7 @@ cause F z s t u (step {b = v} m rest) stop n r p row dead =
     ]
 
 -- a left that differs after a run did so before it
-differed_run : (F : Functions) (z : Start) (s t : State) → Moves F z s t → (b : NodeId) → Given s.given b → LeftDiffers F t.graph b
+pub differed_run : (F : Functions) (z : Start) (s t : State) → Moves F z s t → (b : NodeId) → Given s.given b → LeftDiffers F t.graph b
     → LeftDiffers F s.graph b
 differed_run F z s t here b p d = d
 differed_run F z s t (step {b = v} m rest) b p d = by_kind (kind_of F z s v m)

@@ -26,7 +26,7 @@ use Rattle.stabilize_round.specs.State.{State, Start}
 use Rattle.stabilize_round.specs.Steps.{Settles, Preparing, Wiring, Wired, Step}
 use Rattle.stabilize_round.proofs.Machine.{moves_keep}
 use Rattle.stabilize_round.proofs.Steps.{joined, wired_moves}
-use Rattle.stabilize_round.proofs.Falling.{moves_retries}
+use Rattle.stabilize_round.proofs.Falling.{moves_retries, wiring_kept}
 use Rattle.node_outcomes.specs.Computing.{has_part, seen}
 use Rattle.node_outcomes.specs.Meaning.{Meaning}
 use Rattle.node_outcomes.specs.Row.{with_stage, with_outcome, stage_in, stage_of, outcome_in}
@@ -54,7 +54,7 @@ use Rattle.stabilizer.specs.Stepping.{ChangeIsTurned, IsTurned, ChangeIsSettled,
 use Rattle.stabilizer.specs.Stepping.{Steps, StepRefused, StepStopsFull, wiring}
 use Rattle.stabilizer.specs.declared.parts.Parts.{Parts}
 use Rattle.stabilizer.proofs.Carrying.{taken_kept}
-use Rattle.stabilizer.proofs.Falling.{wired_cases, wiring_kept, SettlesChange, change_settled}
+use Rattle.stabilizer.proofs.Falling.{wired_cases, SettlesChange, change_settled}
 use Rattle.stabilizer.proofs.Stepping.{is_least, is_quiet, takes_least}
 use Rattle.stabilizer.proofs.TurnedMoves.{turned_moves}
 

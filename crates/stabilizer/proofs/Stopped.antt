@@ -4,7 +4,7 @@ use Rattle.std.proofs.lemmas.Bool.{cases_lt}
 use Rattle.std.proofs.lemmas.Option.{none-some}
 use Rattle.inc_value.specs.declared.node.NodeId.{NodeId}
 use Rattle.inc_value.specs.declared.outcome.Outcome.{Outcome}
-use Rattle.inc_value.specs.Choice.{here, step}
+use Rattle.inc_value.specs.Choice.{here}
 use Rattle.inc_terms.specs.Depend.{change}
 use Rattle.inc_terms.specs.Evaluate.{NodeGives}
 use Rattle.inc_terms.specs.Graph.{Graph, Row}
@@ -18,7 +18,7 @@ use Rattle.stabilize_round.specs.Ids.{AllGiven}
 use Rattle.stabilize_round.specs.Invariant.{Invariant, Rooted, MetNow, from_held}
 use Rattle.stabilize_round.specs.Machine.{Entry, Moves, Stops, as_it_is, unbuilt, unkept, called_more}
 use Rattle.stabilize_round.specs.Rebuilding.{Remade, remade, Rebuild, rebuilds}
-use Rattle.stabilize_round.specs.Runs.{built_by, LeftDiffers, IsBuiltRight}
+use Rattle.stabilize_round.specs.Runs.{LeftDiffers, IsBuiltRight}
 use Rattle.stabilize_round.specs.State.{State, Start}
 use Rattle.stabilize_round.specs.Stopped.{IsLeft, IsBuiltOther}
 use Rattle.stabilize_round.proofs.Entry.{entry_holds}
@@ -26,9 +26,9 @@ use Rattle.stabilize_round.proofs.Machine.{moves_keep}
 use Rattle.stabilize_round.proofs.Points.{node_or_other}
 use Rattle.stabilize_round.proofs.Ready.{ready}
 use Rattle.stabilize_round.proofs.Rebuilding.{met_after}
-use Rattle.stabilize_round.proofs.Runs.{Kind, kind_of, lived, left_given, bind_given, due_differs, differed, later, grows, row_before, run_grows, run_kills}
+use Rattle.stabilize_round.proofs.Runs.{lived, left_given, bind_given, due_differs, later, row_before, run_grows, run_kills}
 use Rattle.stabilize_round.proofs.Runs.{built_stays, refused_keeps}
-use Rattle.stabilize_round.proofs.Stopped.{new_binds_built, stops_leave}
+use Rattle.stabilize_round.proofs.Stopped.{new_binds_built, stops_leave, differed_run}
 use Rattle.stabilizer.proofs.Scoping.{Falls, falls_left, scoped_run, scoped_stopped}
 
 -- ---- who is dead
@@ -120,17 +120,6 @@ pub record BuildsLeft (F : Functions) (z : Start) (s u : State) (refused : Optio
 
 no_bind : {X : Type 0} (b : NodeId) → None ≡ Some b → X
 no_bind b e = absurd (none-some b e)
-
--- a left that differs after a run did so before it
-differed_run : (F : Functions) (z : Start) (s t : State) → Moves F z s t → (b : NodeId) → Given s.given b → LeftDiffers F t.graph b
-    → LeftDiffers F s.graph b
-differed_run F z s t here b p d = d
-differed_run F z s t (step {b = v} m rest) b p d = by_kind (kind_of F z s v m)
-    (differed_run F z v t rest b (later s.given v.given b (grows F z s v (built_by m) (kind_of F z s v m)) p) d)
-  where
-    by_kind : Kind F z s v (built_by m) → LeftDiffers F v.graph b → LeftDiffers F s.graph b
-    by_kind (inl k) h = subst (λ (G : Graph). LeftDiffers F G b) k.0.graph h
-    by_kind (inr k) h = differed F z s v k.0 b p h
 
 -- where moves lead each bind could be built
 pub moves_build : (F : Functions) (z : Start) (s t : State) → Entry F z s → AllGiven F z s → Moves F z s t → BuildsLeft F z s t None
