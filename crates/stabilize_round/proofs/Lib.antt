@@ -30,8 +30,3 @@ pub mod Steps
 pub mod Between
 pub mod Falling
 pub mod Calls
-pub mod Renewing
-pub mod Remaking
-pub mod Flipping
-pub mod Flip
-pub mod Renewal

@@ -18,5 +18,3 @@ pub mod Stopped
 pub mod Steps
 pub mod StepLaws
 pub mod Calls
-pub mod Flip
-pub mod Renewal

@@ -9,9 +9,7 @@ ghost use Rattle.stabilize_round.specs.StepLaws.{RoundIsMoves, RoundEnds, Needed
 ghost use Rattle.stabilize_round.specs.StepLaws.{TakenIsDue, SettledReadsLive, NewLinksConfirmed, StepBuilds};
 ghost use Rattle.stabilize_round.specs.StepLaws.{StepsFall, WiringFalls};
 ghost use Rattle.stabilize_round.specs.Calls.{RoundIsWithinWork, RefusedCalls};
-ghost use Rattle.stabilize_round.specs.Flip.{IfFlips};
 ghost use Rattle.stabilize_round.specs.Composing.{SweepsCompose};
-ghost use Rattle.stabilize_round.specs.Renewal.{BindRenews};
 ghost use Rattle.stabilize_round.specs.Stopped.{GivenStays};
 ghost use Rattle.stabilize_round.specs.Stopped.{StartStays};
 ghost use Rattle.stabilize_round.specs.Stopped.{NewBindsBuilt};
@@ -188,11 +186,6 @@ pub fn refused_calls()
     ensures { RefusedCalls }
 {}
 
-/// An if whose test changed, worked out: its main's link to the left branch is taken off, and it gets the right one.
-pub fn if_flips()
-    ensures { IfFlips }
-{}
-
 /// Sweeping, taking links off and sweeping again leaves what taking them off and sweeping once leaves.
 pub fn sweeps_compose()
     ensures { SweepsCompose }
@@ -201,11 +194,6 @@ pub fn sweeps_compose()
 /// Where all live nodes were given, new ones stand in scopes.
 pub fn new_nodes_stand()
     ensures { NewNodesStand }
-{}
-
-/// A bind whose left changed, worked out: its old root dies, and it is built anew with another.
-pub fn bind_renews()
-    ensures { BindRenews }
 {}
 
 /// All that a round speaks of stays given, also where it stops.
