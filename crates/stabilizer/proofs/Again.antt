@@ -1,5 +1,5 @@
 -- A change that wasn't turned: it is in the heap again, or its bind couldn't be built.
-use Rattle.std.proofs.Common.{◌≡◌, ◌⊎◌, inl, inr, ℕ, true, List, [], Option, None, Some, refl, sym, ap, subst, ◌∙◌, Vec, Global}
+use Rattle.std.proofs.Common.{◌≡◌, ◌⊎◌, inl, inr, true, List, [], Option, None, Some, refl, sym, ap, subst, ◌∙◌, Vec, Global}
 use Rattle.std.specs.Prelude.{Result, Ok, Err, OnOk, IfErr, IfSome, is_some, IsSome}
 use Rattle.std.proofs.lemmas.Option.{none-some}
 use Rattle.inc_value.specs.declared.function.FnRef.{FnRef}
@@ -9,10 +9,8 @@ use Rattle.inc_value.specs.Choice.{Among}
 use Rattle.inc_value.specs.declared.node.Part.TheVariants.{Change}
 use Rattle.inc_terms.specs.Depend.{change, subject_of}
 use Rattle.inc_terms.specs.Graph.{Row}
-use Rattle.point_map.specs.Rows.{Rows, at, Holds}
-use Rattle.link_table.specs.Links.{Links, times}
-use Rattle.height_order.specs.Levels.{level}
-use Rattle.necessity.specs.Need.{Roots, root_times, KeepsRoots}
+use Rattle.point_map.specs.Rows.{at, Holds}
+use Rattle.necessity.specs.Need.{root_times, KeepsRoots}
 use Rattle.necessary_graph.specs.Part.{NecessaryPart, Needed, IsInStep}
 use Rattle.node_arena.specs.Arena.{Arena, row_at}
 use Rattle.node_arena.specs.RightSide.{RightSide}
@@ -22,7 +20,7 @@ use Rattle.stabilize_round.proofs.Points.{same_or_other}
 use Rattle.stabilize_round.specs.State.{State}
 use Rattle.wiring.specs.Kept.{IsKept}
 use Rattle.wiring.specs.Stands.{Stands, Counts}
-use Rattle.wiring.specs.Wiring.{KeepsGraph, IsMarked}
+use Rattle.wiring.specs.Wiring.{IsMarked}
 use Rattle.wiring.specs.declared.refused.Refused.{Refused}
 use Rattle.wiring.specs.declared.refused.Refused.TheVariants.{Memory}
 use Rattle.wiring.specs.declared.work.Work.{Work}
@@ -37,43 +35,9 @@ use Rattle.stabilizer.specs.Rebuilding.{BuildRefused}
 use Rattle.stabilizer.specs.Stepping as stepping
 use Rattle.stabilizer.specs.Stepping.{ChangeIsLeft}
 use Rattle.stabilizer.specs.declared.parts.Parts.{Parts}
-use Rattle.stabilizer.proofs.Changing.{before_stands}
+use Rattle.stabilizer.proofs.Changing.{heap_stands, before_stands}
 use Rattle.stabilizer.proofs.Running.{some_same}
 use Rattle.stabilizer.proofs.Waiting.{with_change, put_back}
-
--- ---- another heap
-
--- the state can't tell where the same is in the heap, and links, roots and heights stay
-module _ (arena : Arena) (old new : Work) (rest : new ≡ record old { graph = new.graph }) (graph : KeepsGraph old.graph new.graph)
-    (heap : (p : Point) → is_some (at new.graph.heap p) ≡ is_some (at old.graph.heap p)) where
-  need_then : (p : Point) → Needed old.graph p → Needed new.graph p
-  need_then p n = need_same old.graph new.graph graph.links graph.roots p n
-
-  need_before : (p : Point) → Needed new.graph p → Needed old.graph p
-  need_before p n = need_same new.graph old.graph (sym graph.links) (sym graph.roots) p n
-
-  pub heap_stands : (s : State) (counts : Counts) → Stands arena old counts None s → Stands arena new counts None s
-  heap_stands s counts st = subst (λ (w : Work). Stands arena w counts None s) (sym rest) (record {
-    graph = st.graph;
-    out = st.out;
-    last = st.last;
-    never = st.never;
-    stale = st.stale;
-    links = λ p q. st.links p q ∙ ap (λ (l : Links). times l p q) (sym graph.links);
-    root = λ p. st.root p ∙ ap (λ (r : Roots). root_times r p) (sym graph.roots);
-    needed = λ p. (λ t. need_then p ((st.needed p).0 t), λ n. (st.needed p).1 (need_before p n));
-    height = λ p n. st.height p (need_before p n) ∙ ap (λ (x : Rows ℕ). level x p) (sym graph.heights);
-    heap = λ p. st.heap p ∙ sym (heap p);
-    settled = st.settled;
-    stage = st.stage;
-    owed = st.owed;
-    todo = st.todo;
-    retries = st.retries;
-    died = st.died;
-    ran = st.ran;
-    counts = st.counts;
-    given = st.given;
-  })
 
 -- ---- the change is in the heap again
 

@@ -1,8 +1,7 @@
 -- A bind is built anew and its change is settled: the machine's moves, and the parts that stand for the state after them.
 use Rattle.std.proofs.Common.{◌≡◌, ◌≢◌, inl, inr, ℕ, ◌-◌, ◌<◌, Bool, true, false, ◌&&◌, List, [], Option, None, Some, refl, sym, ap, subst, ◌∙◌, IsSome}
 use Rattle.std.proofs.Common.{arith}
-use Rattle.std.proofs.lemmas.Grind.{common_steps}
-use Rattle.std.specs.Prelude.{is_some, reverse, option_map, ◌==◌}
+use Rattle.std.specs.Prelude.{is_some, option_map}
 use Rattle.std.proofs.lemmas.Bool.{and_from, and_parts}
 use Rattle.std.proofs.lemmas.Option.{none-some, same_Some}
 use Rattle.inc_value.specs.declared.function.FnRef.{FnRef}
@@ -23,13 +22,9 @@ use Rattle.inc_terms.proofs.Evaluation.{one_outcome}
 use Rattle.inc_terms.proofs.Local.{main_sees}
 use Rattle.inc_terms.proofs.Rebuild.{same_after}
 use Rattle.inc_terms.proofs.Within.{functions_within}
-use Rattle.point_map.specs.Rows.{Rows, at, Holds, Changes}
-use Rattle.link_table.specs.Links.{Links, times}
-use Rattle.height_order.specs.Levels.{level}
-use Rattle.necessity.specs.Need.{Roots, root_times}
+use Rattle.point_map.specs.Rows.{at, Holds, Changes}
 use Rattle.node_arena.specs.Arena.{Arena, row_at}
 use Rattle.node_arena.specs.Graph.{Holdings, graph_of}
-use Rattle.node_lists.specs.Deaths.{Deaths}
 use Rattle.stabilize_round.specs.Counts.{RoseBy}
 use Rattle.stabilize_round.specs.Invariant.{Invariant}
 use Rattle.stabilize_round.specs.Machine as move
@@ -40,20 +35,19 @@ use Rattle.stabilize_round.specs.State as machine
 use Rattle.stabilize_round.specs.State.{State, Start, at_point}
 use Rattle.stabilize_round.proofs.Low.{among_gate, plan_links}
 use Rattle.stabilize_round.proofs.Machine.{move_keeps}
-use Rattle.stabilize_round.proofs.Main.{main_change}
 use Rattle.stabilize_round.proofs.Points.{same_or_other, at_same, at_other}
 use Rattle.stabilize_round.proofs.Ready.{ready}
 use Rattle.node_outcomes.specs.Choosing.{built_by, built_in}
-use Rattle.node_outcomes.specs.Row.{IsRewritten, with_outcome, outcome_in, settled_in, stage_of}
+use Rattle.node_outcomes.specs.Row.{IsRewritten, with_outcome, outcome_in}
 use Rattle.node_outcomes.specs.declared.row.Progress.{Progress}
 use Rattle.wiring.specs.Graph.{held_at, graph_at}
 use Rattle.wiring.specs.Stands.{Stands, Counts, hand}
 use Rattle.wiring.specs.Wiring.{KeepsGraph, IsTurnedIn}
 use Rattle.wiring.specs.declared.work.Work.{Work}
-use Rattle.wiring.proofs.Deciding.{need_same}
 use Rattle.stabilizer.specs.declared.parts.Parts.{Parts}
 use Rattle.stabilizer.proofs.Remade.{IsAnew, rows_after, bind_given, bind_outside, made, anew, anew_due, stage_old}
 use Rattle.stabilizer.proofs.Rebuilt.{bare_state, bare_stands}
+use Rattle.stabilizer.proofs.Running.{LeavesSettled, settled_stands}
 
 -- ---- a change that was settled, where its bind is built for the outcome
 
@@ -86,22 +80,7 @@ static_is machine.Bare e = absurd (cc)
 static_is machine.Gated e = absurd (cc)
 static_is machine.Full e = absurd (cc)
 
-equal : (n : ℕ) → (n == n) ≡ true
-equal n = grind (arith, common_steps)
-
--- a row that was settled so keeps all but its outcome and its round
-run_row : (given : Outcome) (round : ℕ) (x : Option Progress) (k : Progress) → option_map (with_outcome given round) x ≡ Some k
-    → (j : Progress) × (x ≡ Some j) × (k ≡ with_outcome given round j)
-run_row given round None k e = absurd (none-some k e)
-run_row given round (Some j) k e = (j, refl, sym (same_Some _ k e))
-
--- so it is settled
-pub run_settled : (given : Outcome) (round : ℕ) (x : Option Progress) → is_some x ≡ true
-    → settled_in round (option_map (with_outcome given round) x) ≡ true
-run_settled given round None e = absurd (cc)
-run_settled given round (Some row) e = equal round
-
--- and keeps the outcome
+-- a row that was settled so keeps the outcome
 pub run_outcome : (given : Outcome) (round : ℕ) (x : Option Progress) → is_some x ≡ true
     → outcome_in (option_map (with_outcome given round) x) ≡ Some given
 run_outcome given round None e = absurd (cc)
@@ -140,70 +119,23 @@ module _ (s : State) (arena : Arena) (old new : Work) (counts : Counts) (st : St
   abbrev pub next : State
   next = changed (record s { graph = graph_at arena new }) n given todo'
 
-  other_row : (a : Point) (k : Progress) → (change n ≡ a → ⊥) → at new.rows a ≡ Some k → at old.rows a ≡ Some k
-  other_row a k ne e = sym (run.rows.others a (λ h. ne (sym h))) ∙ e
-
-  main_row : (m : NodeId) (k : Progress) → at new.rows (main m) ≡ Some k → at old.rows (main m) ≡ Some k
-  main_row m k e = sym (run.rows.others (main m) (main_change m n)) ∙ e
-
-  before : (k : Progress) → at new.rows (change n) ≡ Some k
-      → (j : Progress) × (at old.rows (change n) ≡ Some j) × (k ≡ with_outcome given old.round j)
-  before k e = run_row given old.round (at old.rows (change n)) k (sym run.rows.changed ∙ e)
-
   -- the parts stand for it, with the main in hand
   pub run_stands : Stands arena new counts (Some (hand (main n) [])) next
-  run_stands = record {
-    graph = refl;
-    out = λ a k e. elim (same_or_other (change n) a) [
-      | inl h ↦ subst (λ (x : Point). at_point (change n) (Some given) s.out x ≡ k.outcome) h
-          (at_same (change n) (Some given) s.out
-          ∙ sym (ap (λ (y : Progress). y.outcome) (before k (subst (λ (x : Point). at new.rows x ≡ Some k) (sym h) e)).2))
-      | inr ne ↦ at_other (change n) (Some given) s.out a ne ∙ st.out a k (other_row a k ne e)
-    ];
-    last = λ m k e. st.last m k (main_row m k e);
-    never = λ m k e. st.never m k (main_row m k e);
-    stale = st.stale;
-    links = λ a b. st.links a b ∙ ap (λ (l : Links). times l a b) (sym run.graph.links);
-    root = λ a. st.root a ∙ ap (λ (r : Roots). root_times r a) (sym run.graph.roots);
-    needed = λ a. (
-      (λ t. need_same old.graph new.graph run.graph.links run.graph.roots a ((st.needed a).0 t)),
-      (λ h. (st.needed a).1 (need_same new.graph old.graph (sym run.graph.links) (sym run.graph.roots) a h)),
-    );
-    height = λ a h. st.height a (need_same new.graph old.graph (sym run.graph.links) (sym run.graph.roots) a h)
-        ∙ ap (λ (m : Rows ℕ). level m a) (sym run.graph.heights);
-    heap = λ a. elim (same_or_other (change n) a) [
-      | inl h ↦ subst (λ (x : Point). at_point (change n) false s.heap x ≡ is_some (at new.graph.heap x)) h
-          (at_same (change n) false s.heap ∙ sym (ap is_some run.heap.changed))
-      | inr ne ↦ at_other (change n) false s.heap a ne ∙ (st.heap a ∙ sym (ap is_some (run.heap.others a (λ h. ne (sym h)))))
-    ];
-    settled = λ a. elim (same_or_other (change n) a) [
-      | inl h ↦ subst (λ (x : Point). at_point (change n) true s.settled x ≡ settled_in new.round (at new.rows x)) h
-          (at_same (change n) true s.settled ∙ sym (ap (settled_in new.round) run.rows.changed
-          ∙ (ap (λ (i : ℕ). settled_in i (option_map (with_outcome given old.round) (at old.rows (change n)))) run.round
-          ∙ run_settled given old.round (at old.rows (change n)) there)))
-      | inr ne ↦ at_other (change n) true s.settled a ne ∙ (st.settled a ∙ sym (ap (λ (i : ℕ). settled_in i (at new.rows a)) run.round
-          ∙ ap (settled_in old.round) (run.rows.others a (λ h. ne (sym h)))))
-    ];
-    stage = λ a k e. elim (same_or_other (change n) a) [
-      | inl h ↦ subst (λ (x : Point). s.stage x ≡ stage_of k.stage) h
-          (let b = before k (subst (λ (x : Point). at new.rows x ≡ Some k) (sym h) e) in
-          st.stage (change n) b.0 b.1 ∙ sym (ap (λ (y : Progress). stage_of y.stage) b.2))
-      | inr ne ↦ st.stage a k (other_row a k ne e)
-    ];
-    owed = λ a. st.owed a ∙ elim (same_or_other (main n) a) [
-      | inl h ↦ subst (λ (x : Point). [] ≡ at_point (main n) [] nothing x) h (sym (at_same (main n) [] nothing))
-      | inr ne ↦ sym (at_other (main n) [] nothing a ne)
-    ];
-    todo = λ a t. elim (same_or_other (main n) a) [
-      | inl h ↦ inr (sym h)
-      | inr ne ↦ absurd (let f = at_other (main n) (s.needed (main n) && is_static (s.stage (main n))) nowhere a ne in cc)
-    ];
-    retries = st.retries ∙ sym run.retries;
-    died = λ m. st.died m ∙ sym (ap (λ (d : Deaths). at d.scopes (main m)) run.deaths);
-    ran = st.ran ∙ ap reverse (sym run.ran);
-    counts = st.counts;
-    given = st.given;
-  }
+  run_stands =
+      let settles : LeavesSettled old new n given = record {
+        rows = run.rows;
+        graph = run.graph;
+        gone = run.heap.changed;
+        heap = λ a ne. ap is_some (run.heap.others a ne);
+        deaths = run.deaths;
+        ran = run.ran;
+        retries = run.retries;
+        round = run.round;
+      } in
+      settled_stands s arena old new counts st n given there settles (graph_at arena new) refl todo' (λ a t. elim (same_or_other (main n) a) [
+        | inl h ↦ inr (sym h)
+        | inr ne ↦ absurd (let f = at_other (main n) (s.needed (main n) && is_static (s.stage (main n))) nowhere a ne in cc)
+      ])
 
   -- what is woken waits for it
   pub only_main : (a : Point) → todo' a ≡ true → (a ≡ main n) × (s.needed (main n) ≡ true) × (s.stage (main n) ≡ machine.Static)

@@ -1,5 +1,5 @@
 -- A main waits again before its node's change is settled. In the machine the change is in the heap still while that is done.
-use Rattle.std.proofs.Common.{◌≡◌, ◌≢◌, ◌⊎◌, inl, inr, ℕ, ◌+◌, ◌<◌, ◌≤◌, ◌++◌, Bool, true, false, List, [], ◌∷◌, map, Option, None, Some, refl, sym, ap, subst}
+use Rattle.std.proofs.Common.{◌≡◌, ◌≢◌, ◌⊎◌, inl, inr, ℕ, ◌+◌, ◌<◌, ◌≤◌, ◌++◌, true, false, List, [], map, Option, None, Some, refl, sym, ap, subst}
 use Rattle.std.proofs.Common.{◌∙◌, arith}
 use Rattle.std.specs.Prelude.{is_some, IsSome, option_map}
 use Rattle.std.proofs.lemmas.Option.{none-some}
@@ -13,15 +13,14 @@ use Rattle.inc_terms.specs.Graph.{Graph, Row}
 use Rattle.inc_terms.specs.Local.{shown}
 use Rattle.inc_terms.specs.Plan.{targets, gate_of}
 use Rattle.inc_terms.specs.Term.{Functions}
-use Rattle.point_map.specs.Rows.{Rows, at, Holds, Changes, same_point}
-use Rattle.point_map.proofs.Places.{same_point_eq, same_point_self}
-use Rattle.link_table.specs.Links.{Links, times, Reads, OneLinkMore}
+use Rattle.point_map.specs.Rows.{at, Holds, Changes}
+use Rattle.link_table.specs.Links.{Links, times, Reads}
 use Rattle.link_table.specs.declared.link.Link.{Link}
 use Rattle.necessity.specs.Need.{Roots, root_times}
 use Rattle.height_order.specs.Levels.{level, or_zero}
 use Rattle.necessary_graph.specs.Part.{NecessaryPart, Needed, IsInStep}
 use Rattle.necessary_graph.specs.Sweep.{Sweep, DropsLeaves, IsUnlinked}
-use Rattle.necessary_graph.proofs.Reaching.{root_needed, read_needed, needed_has, needed_more}
+use Rattle.necessary_graph.proofs.Reaching.{root_needed, read_needed, needed_has}
 use Rattle.necessary_graph.proofs.Standing.{put_in_step}
 use Rattle.node_arena.specs.Arena.{Arena, row_at}
 use Rattle.stabilize_round.specs.Invariant.{Invariant}
@@ -53,6 +52,7 @@ use Rattle.wiring.proofs.Sight.{change_is}
 use Rattle.wiring.proofs.TakingOff.{MayLower, scheduled, row_at_stage, takes, stands_off}
 use Rattle.wiring.proofs.Trying.{rewritten_there}
 use Rattle.stabilizer.proofs.Carrying.{heap_graph, needed_now, needed_before}
+use Rattle.stabilizer.proofs.Waiting.{put, put_changes, same_swept, swept_in_step, fewer_links}
 
 -- of the parts just a change's row, its place in the heap and the worklist are others: it was settled on this outcome, and left the heap
 pub record IsRunOn (old new : Work) (n : NodeId) (given : Outcome) : Type 0 where
@@ -81,84 +81,6 @@ pub record IsMadeReady (F : Functions) (z : Start) (s : State) (arena : Arena) (
   pub needed : (a : Point) → Needed work.graph a → Needed before.graph a
   pub fewer : (a b : Point) → times work.graph.links a b ≤ times before.graph.links a b
   pub gated : (a : Point) → stage_in (at work.rows a) ≡ Some code.Gated → stage_in (at before.rows a) ≡ Some code.Gated
-
--- ---- a point is put into a heap
-
-module _ (h : Rows ℕ) (p : Point) (k : ℕ) where
-  abbrev pub put : Rows ℕ
-  put = record { places = Some (p, k) ∷ h.places; spare = h.spare }
-
-  pub put_changes : Changes h put p (Some k)
-  put_changes = record { changed = (let e = same_point_self p in rw e refl); others = λ q ne. by_test q ne (same_point p q) refl }
-    where
-      by_test : (q : Point) → q ≢ p → (b : Bool) → same_point p q ≡ b → at put q ≡ at h q
-      by_test q ne true e = absurd (ne (sym (same_point_eq p q e)))
-      by_test q ne false e = rw e refl
-
--- ---- what is swept stands
-
--- nothing is taken off
-same_swept : (g : NecessaryPart) → IsInStep g → Sweep g g
-same_swept g in_step = record {
-  roots = λ p. refl;
-  reached = λ p. ((λ n. n), (λ n. n));
-  kept = λ p q n. refl;
-  gone = λ p q r. in_step.readers p q r;
-  fewer = λ p q. omega arith;
-  heap_kept = λ p n. refl;
-  heap = λ p h e. (e, (in_step.heap p h e).1);
-}
-
-module _ (leaf : Point → Bool) (g : NecessaryPart) (links : Links) (new : NecessaryPart) (in_step : IsInStep g)
-    (fewer : (p q : Point) → times links p q ≤ times g.links p q) (sweep : Sweep (record g { links = links }) new) (drops : DropsLeaves leaf g new) where
-  read_before : (p q : Point) → Reads new.links p q → Reads g.links p q
-  read_before p q r = let a = fewer p q in let b = sweep.fewer p q in omega (arith, a, b, r)
-
-  need_before : (p : Point) → Needed (record g { links = links }) p → Needed g p
-  need_before p n = needed_more (record g { links = links }) g (λ a r. r) (λ a b l. let f = fewer a b in omega (arith, f, l)) p n
-
-  -- what is needed keeps its height
-  height_stays : (p : Point) → Needed new p → at new.heights p ≡ at g.heights p
-  height_stays p n = elim (drops.heights p) [ inl e ↦ e | inr d ↦ absurd (d.unneeded n) ]
-
-  level_stays : (p : Point) → Needed new p → level new.heights p ≡ level g.heights p
-  level_stays p n = ap or_zero (height_stays p n)
-
-  reader_needed : (p q : Point) → Reads new.links p q → Needed new p
-  reader_needed p q r = (sweep.reached p).1 (sweep.gone p q r)
-
-  read_too : (p q : Point) → Reads new.links p q → Needed new q
-  read_too p q r = read_needed new p q (reader_needed p q r) r
-
-  low_still : (p : Point) → level new.heights p ≤ 128
-  low_still p = elim (drops.heights p) [
-    | inl e ↦ let l = in_step.low p in let f = ap or_zero e in omega (arith, l, f)
-    | inr d ↦ let f = ap or_zero d.gone in omega (arith, f)
-  ]
-
-  pub swept_in_step : IsInStep new
-  swept_in_step = record {
-    ends = λ p q r. let e = in_step.ends p q (read_before p q r) in
-        (ap is_some (height_stays p (reader_needed p q r)) ∙ e.0, ap is_some (height_stays q (read_too p q r)) ∙ e.1);
-    rises = λ p q r. let h = in_step.rises p q (read_before p q r) in let a = level_stays p (reader_needed p q r) in
-        let b = level_stays q (read_too p q r) in omega (arith, h, a, b);
-    low = low_still;
-    readers = reader_needed;
-    there = λ p n. ap is_some (height_stays p n) ∙ in_step.there p (need_before p ((sweep.reached p).0 n));
-    heap = λ p h e. let b = sweep.heap p h e in
-        (height_stays p ((sweep.reached p).1 b.1) ∙ (in_step.heap p h b.0).0, (sweep.reached p).1 b.1);
-  }
-
--- one link fewer
-pub fewer_links : (fewer more : Links) (p q : Point) → OneLinkMore fewer more p q → (a b : Point) → times fewer a b ≤ times more a b
-fewer_links fewer more p q off a b = elim (same_or_other a p) [
-  | inl e ↦ elim (same_or_other b q) [
-    | inl f ↦ subst (λ (x : Point). times fewer x b ≤ times more x b) (sym e)
-        (subst (λ (y : Point). times fewer p y ≤ times more p y) (sym f) (let raised = off.raised in omega (arith, raised)))
-    | inr ne ↦ let o = off.others a b (λ h. ne (ap (λ (l : Link). l.kid) h)) in omega (arith, o)
-  ]
-  | inr ne ↦ let o = off.others a b (λ h. ne (ap (λ (l : Link). l.reader) h)) in omega (arith, o)
-]
 
 -- ---- a main's links, but for its right side
 
@@ -337,7 +259,7 @@ module _ (arena : Arena) (old mid : Work) (g : NecessaryPart) (n : NodeId) (r : 
     own_needed = read_needed G1 (main n) (change n) main_needed (let e = d.mine (change n) in let o = own_in_plan in omega (arith, e, o))
 
     in_step : IsInStep mid.graph
-    in_step = swept_in_step (rowless mid) g0 d.links mid.graph loose.enqueued.step d.fewer d.sweep d.drops
+    in_step = swept_in_step g0 d.links mid.graph (rowless mid) loose.enqueued.step d.fewer d.sweep d.drops
 
     put_mid : Changes mid.graph.heap last.graph.heap (change n) (Some top)
     put_mid = put_changes mid.graph.heap (change n) top

@@ -48,7 +48,8 @@ use Rattle.stabilizer.specs.Rebuilding.{IsToBuild, BuildsAnew, BuildRefused, as_
 use Rattle.stabilizer.specs.Rooted.{WasBuilt, GetsRoot, GetsNoRoot, no_room, stopped, with_roots}
 use Rattle.stabilizer.specs.Weights.{IsInScope, SidesFit}
 use Rattle.stabilizer.specs.declared.parts.Parts.{Parts}
-use Rattle.stabilizer.proofs.BuiltAnew.{IsRebuilt, HasRoot, run_settled}
+use Rattle.stabilizer.proofs.BuiltAnew.{IsRebuilt, HasRoot}
+use Rattle.stabilizer.proofs.Running.{run_settled}
 use Rattle.stabilizer.proofs.Giving.{none_gives, none_few}
 use Rattle.stabilizer.proofs.MeaningKept.{nothing_meant}
 use Rattle.stabilizer.proofs.RebuildAsks.{dead_fit, dead_given, bind_stays, is_bind_of, is_known, may_build, gives_type, fit_then, built_root, no_root_built}

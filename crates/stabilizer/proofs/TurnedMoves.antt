@@ -3,33 +3,29 @@ use Rattle.height_order.specs.Levels.{level}
 use Rattle.inc_terms.specs.Depend.{main, change, subject_of, change_reads}
 use Rattle.inc_terms.specs.Evaluate.{Stands as ScopeStands}
 use Rattle.inc_terms.specs.Graph as graph
-use Rattle.inc_terms.specs.Graph.{Graph, Row, Def, Built}
+use Rattle.inc_terms.specs.Graph.{Graph, Row, Def}
 use Rattle.inc_terms.specs.Local.{shown, IsBuilt}
 use Rattle.inc_terms.specs.Plan.{gate_of}
 use Rattle.inc_terms.specs.Term.{Functions}
 use Rattle.inc_value.specs.Choice.{Among, Reaches, here, step}
-use Rattle.inc_value.specs.declared.function.FnRef.{FnRef}
 use Rattle.inc_value.specs.declared.node.NodeId.{NodeId}
 use Rattle.inc_value.specs.declared.node.Part.TheVariants.{Change}
 use Rattle.inc_value.specs.declared.node.Point.{Point}
 use Rattle.inc_value.specs.declared.outcome.Outcome.{Outcome}
-use Rattle.link_table.specs.Links.{Links, times, Reads}
+use Rattle.link_table.specs.Links.{Reads}
 use Rattle.necessary_graph.proofs.Standing.{has_level}
 use Rattle.necessary_graph.specs.Part.{NecessaryPart, Needed}
-use Rattle.necessity.specs.Need.{Roots, root_times}
 use Rattle.node_arena.specs.Arena.{Arena, row_at}
-use Rattle.node_arena.specs.Graph.{graph_of}
-use Rattle.node_outcomes.specs.Choosing.{right_in, built_by, built_in}
+use Rattle.node_outcomes.specs.Choosing.{right_in}
 use Rattle.node_outcomes.specs.Computing.{has_part}
 use Rattle.node_outcomes.specs.Meaning.{Meaning}
-use Rattle.node_outcomes.specs.Row.{with_outcome, settled_in, stage_in, stage_of, outcome_in, IsRewritten}
+use Rattle.node_outcomes.specs.Row.{with_outcome, stage_in, stage_of, outcome_in, IsRewritten}
 use Rattle.node_outcomes.specs.declared.row.Progress.{Progress}
 use Rattle.node_outcomes.specs.declared.row.Stage.TheVariants as code
 use Rattle.node_outcomes.specs.declared.row.Stage.{Stage as CodeStage}
-use Rattle.point_map.specs.Rows.{Rows, at, Holds, Changes}
+use Rattle.point_map.specs.Rows.{at, Holds, Changes}
 use Rattle.recompute_heap.specs.Agree.{IsLeast as IsLowest}
 use Rattle.stabilize_round.proofs.Machine.{moves_keep}
-use Rattle.stabilize_round.proofs.Main.{main_change}
 use Rattle.stabilize_round.proofs.Points.{same_or_other, at_same, at_other, node_or_other, node_same, node_other, one_same}
 use Rattle.stabilize_round.proofs.Ready.{ready}
 use Rattle.stabilize_round.proofs.Steps.{off_moves}
@@ -39,54 +35,31 @@ use Rattle.stabilize_round.specs.Machine.{Move}
 use Rattle.stabilize_round.specs.Moves.{Quiet, IsLeast, Awaits, changed, StepChange}
 use Rattle.stabilize_round.specs.State as machine
 use Rattle.stabilize_round.specs.State.{State, Start, Stage, at_point, at_node, count, one, planned, plan_at}
-use Rattle.stabilize_round.specs.Steps.{Settles, TakingOff, TakesOff, Prepares, Preparing}
-use Rattle.stabilizer.proofs.Carrying.{back_kept, heap_graph, needed_now, needed_before}
-use Rattle.stabilizer.proofs.LoosenedMoves.{IsRunOn, IsMadeReady, ready_loose, ready_same, put, put_changes}
-use Rattle.stabilizer.proofs.Settling.{same_number}
+use Rattle.stabilize_round.specs.Steps.{Settles, Preparing}
+use Rattle.stabilizer.proofs.Carrying.{back_kept, heap_graph, needed_now}
+use Rattle.stabilizer.proofs.LoosenedMoves.{IsRunOn, IsMadeReady, ready_loose, ready_same}
 use Rattle.stabilizer.proofs.Stepping.{is_least, is_quiet}
 use Rattle.stabilizer.specs.Dying.{TakesLeast, StandsBefore}
 use Rattle.stabilizer.specs.Kept.{PartsKept}
 use Rattle.stabilizer.specs.Stepping.{ChangeIsTurned}
 use Rattle.stabilizer.specs.declared.parts.Parts.{Parts}
 use Rattle.std.proofs.Common.{◌≡◌, ◌⊎◌, inl, inr, ℕ, ◌+◌, Bool, true, false, cond, ◌&&◌, List, [], Option, None, Some, refl, sym, ap, subst, ◌∙◌, arith, ◌∷◌}
-use Rattle.std.proofs.Math.Path.{fun_ext}
 use Rattle.std.proofs.lemmas.Bool.{and_from, and_parts}
 use Rattle.std.proofs.lemmas.Option.{none-some, same_Some}
-use Rattle.std.specs.Prelude.{is_some, IsSome, reverse, option_map}
+use Rattle.std.specs.Prelude.{is_some, IsSome}
 use Rattle.wiring.proofs.Ghosts.{live_rowed}
-use Rattle.wiring.proofs.Holding.{died_same}
-use Rattle.wiring.proofs.InHand.{nothing}
 use Rattle.wiring.proofs.Sight.{change_is, sees, reads_known, row_is}
-use Rattle.wiring.proofs.Wiring.{looks_stands}
 use Rattle.wiring.specs.Began.{IsRoundOf}
-use Rattle.wiring.specs.Graph.{graph_at, held_at}
+use Rattle.wiring.specs.Graph.{graph_at}
 use Rattle.wiring.specs.Kept.{IsKept}
 use Rattle.wiring.specs.Stands.{Stands, hand, Counts}
 use Rattle.wiring.specs.Turning.{IsLoosened, HasTurned}
-use Rattle.wiring.specs.Wiring.{KeepsRound, IsTurnedIn, WaitsFor, Looks, KeepsGraph}
+use Rattle.wiring.specs.Wiring.{KeepsRound, IsTurnedIn, WaitsFor}
 use Rattle.wiring.specs.declared.work.Work.{Work}
-
--- ---- moves
-
--- what takes links off prepares
-off_prepares : (F : Functions) (z : Start) (p : Point) (s t : State) (m : Move F z s t) → TakesOff m → Prepares p m
-off_prepares F z p s t (move.schedule x e) it = tt
-off_prepares F z p s t (move.cut d w e) it = tt
-off_prepares F z p s t (move.step_main q x e) it = absurd it
-off_prepares F z p s t (move.step_change q x e) it = absurd it
-off_prepares F z p s t (move.link x n e) it = absurd it
-off_prepares F z p s t (move.link_new x n k e) it = absurd it
-off_prepares F z p s t (move.root n e) it = absurd it
-off_prepares F z p s t (move.root_new g n k e) it = absurd it
-off_prepares F z p s t (move.raise x e) it = absurd it
-off_prepares F z p s t (move.finish x e) it = absurd it
-off_prepares F z p s t (move.rebuild r b k e) it = absurd it
-off_prepares F z p s t (move.level x e) it = absurd it
-off_prepares F z p s t (move.spend u k e) it = absurd it
-
-all_prepare : (F : Functions) (z : Start) (p : Point) (s t : State) → Reaches (TakingOff F z) s t → Reaches (Preparing F z p) s t
-all_prepare F z p s t here = here
-all_prepare F z p s t (step {b = u} m rest) = step (m.0, off_prepares F z p s u m.0 m.1) (all_prepare F z p u t rest)
+use Rattle.stabilizer.proofs.Changing.{before_stands}
+use Rattle.stabilizer.proofs.OffMoves.{off_prepares}
+use Rattle.stabilizer.proofs.Running.{graph_run, LeavesSettled, settled_stands}
+use Rattle.stabilizer.proofs.Waiting.{put_changes, with_change}
 
 -- ---- what waits for a change, as a test
 
@@ -192,127 +165,22 @@ module _ (s : State) (n : NodeId) where
 
 -- ---- the parts stand for the state in which the change is settled
 
--- a row that was settled so keeps its stage
-record IsBefore (k row : Progress) (given : Outcome) : Type 0 where
-  outcome : k.outcome ≡ Some given
-  stage : k.stage ≡ row.stage
-
-run_row : (given : Outcome) (round : ℕ) (x : Option Progress) (k : Progress) → option_map (with_outcome given round) x ≡ Some k
-    → (row : Progress) × (x ≡ Some row) × IsBefore k row given
-run_row given round None k e = absurd (none-some k e)
-run_row given round (Some row) k e = (row, refl, record { outcome = ap (λ (x : Progress). x.outcome) (same e); stage = ap (λ (x : Progress). x.stage) (same e) })
-  where
-    same : ◌≡◌ {A = Option Progress} (Some (with_outcome given round row)) (Some k) → k ≡ with_outcome given round row
-    same h = cc
-
-run_settled : (given : Outcome) (round : ℕ) (x : Option Progress) → is_some x ≡ true → settled_in round (option_map (with_outcome given round) x) ≡ true
-run_settled given round None e = absurd (cc)
-run_settled given round (Some row) e = same_number round
-
 module _ (s : State) (arena : Arena) (old new : Work) (counts : Counts) (st : Stands arena old counts None s) (n : NodeId) (given : Outcome)
     (there : Holds old.rows (change n)) (run : IsRunOn old new n given) (same : graph_at arena new ≡ graph_at arena old)
     (listed : (a : Point) → waits s n a ≡ true → Among a new.todo.items ⊎ (a ≡ main n)) where
-  abbrev next : State
-  next = changed s n given (waits s n)
-
-  other_row : (a : Point) (k : Progress) → (change n ≡ a → ⊥) → at new.rows a ≡ Some k → at old.rows a ≡ Some k
-  other_row a k ne e = sym (run.rows.others a (λ h. ne (sym h))) ∙ e
-
-  main_row : (m : NodeId) (k : Progress) → at new.rows (main m) ≡ Some k → at old.rows (main m) ≡ Some k
-  main_row m k e = sym (run.rows.others (main m) (main_change m n)) ∙ e
-
-  before : (k : Progress) → at new.rows (change n) ≡ Some k → (row : Progress) × (at old.rows (change n) ≡ Some row) × IsBefore k row given
-  before k e = run_row given old.round (at old.rows (change n)) k (sym run.rows.changed ∙ e)
-
-  pub run_stands : Stands arena new counts (Some (hand (main n) [])) next
-  run_stands = record {
-    graph = st.graph ∙ sym same;
-    out = λ a k e. elim (same_or_other (change n) a) [
-      | inl h ↦ subst (λ (x : Point). at_point (change n) (Some given) s.out x ≡ k.outcome) h
-          (at_same (change n) (Some given) s.out ∙ sym (before k (subst (λ (x : Point). at new.rows x ≡ Some k) (sym h) e)).2.outcome)
-      | inr ne ↦ at_other (change n) (Some given) s.out a ne ∙ st.out a k (other_row a k ne e)
-    ];
-    last = λ m k e. st.last m k (main_row m k e);
-    never = λ m k e. st.never m k (main_row m k e);
-    stale = st.stale;
-    links = λ a b. st.links a b ∙ ap (λ (l : Links). times l a b) (sym run.graph.links);
-    root = λ a. st.root a ∙ ap (λ (r : Roots). root_times r a) (sym run.graph.roots);
-    needed = λ a. (
-      λ t. needed_now old.graph new.graph run.graph a ((st.needed a).0 t),
-      λ h. (st.needed a).1 (needed_before old.graph new.graph run.graph a h),
-    );
-    height = λ a h. st.height a (needed_before old.graph new.graph run.graph a h) ∙ ap (λ (x : Rows ℕ). level x a) (sym run.graph.heights);
-    heap = λ a. elim (same_or_other (change n) a) [
-      | inl h ↦ subst (λ (x : Point). at_point (change n) false s.heap x ≡ is_some (at new.graph.heap x)) h
-          (at_same (change n) false s.heap ∙ sym (ap is_some run.gone))
-      | inr ne ↦ at_other (change n) false s.heap a ne ∙ (st.heap a ∙ sym (run.heap a (λ h. ne (sym h))))
-    ];
-    settled = λ a. elim (same_or_other (change n) a) [
-      | inl h ↦ subst (λ (x : Point). at_point (change n) true s.settled x ≡ settled_in new.round (at new.rows x)) h
-          (at_same (change n) true s.settled ∙ sym (ap (settled_in new.round) run.rows.changed
-          ∙ (ap (λ (i : ℕ). settled_in i (option_map (with_outcome given old.round) (at old.rows (change n)))) run.round.round
-          ∙ run_settled given old.round (at old.rows (change n)) there)))
-      | inr ne ↦ at_other (change n) true s.settled a ne ∙ (st.settled a ∙ sym (ap (λ (i : ℕ). settled_in i (at new.rows a)) run.round.round
-          ∙ ap (settled_in old.round) (run.rows.others a (λ h. ne (sym h)))))
-    ];
-    stage = λ a k e. elim (same_or_other (change n) a) [
-      | inl h ↦ subst (λ (x : Point). s.stage x ≡ stage_of k.stage) h
-          (let b = before k (subst (λ (x : Point). at new.rows x ≡ Some k) (sym h) e) in st.stage (change n) b.0 b.1 ∙ ap stage_of (sym b.2.stage))
-      | inr ne ↦ st.stage a k (other_row a k ne e)
-    ];
-    owed = λ a. st.owed a ∙ elim (same_or_other (main n) a) [
-      | inl h ↦ subst (λ (x : Point). [] ≡ at_point (main n) [] nothing x) h (sym (at_same (main n) [] nothing))
-      | inr ne ↦ sym (at_other (main n) [] nothing a ne)
-    ];
-    todo = listed;
-    retries = st.retries ∙ sym run.round.retries;
-    died = λ m. st.died m ∙ sym (died_same old new run.round.deaths m);
-    ran = st.ran ∙ ap reverse (sym run.round.ran);
-    counts = st.counts;
-    given = st.given;
-  }
-
--- ---- what a bind is built for stays
-
-def_built : (d : Def) (given : Outcome) (x : Option Outcome) (root : Option NodeId)
-    → ((l : NodeId) (f : FnRef) (captures : List NodeId) → d ≡ graph.Bind l f captures → x ≡ Some given) → built_by d (Some given) root ≡ built_by d x root
-def_built (graph.Bind l f caps) given x root h = ap (λ (y : Option Outcome). built_by (graph.Bind l f caps) y root) (sym (h l f caps refl))
-def_built d given x root h = refl
-
-row_built : (row : Option Row) (given : Outcome) (x : Option Outcome) (root : Option NodeId)
-    → ((r : Row) (l : NodeId) (f : FnRef) (captures : List NodeId) → row ≡ Some r → r.def ≡ graph.Bind l f captures → x ≡ Some given)
-    → built_in row (Some given) root ≡ built_in row x root
-row_built None given x root h = refl
-row_built (Some r) given x root h = def_built r.def given x root (λ l f caps e. h r l f caps refl e)
-
-outcome_run : (given : Outcome) (round : ℕ) (x : Option Progress) → is_some x ≡ true → outcome_in (option_map (with_outcome given round) x) ≡ Some given
-outcome_run given round None e = absurd (cc)
-outcome_run given round (Some k) e = refl
-
--- the graph stays where the change is settled on what its bind is built for, if it is one
-run_graph : (arena : Arena) (old new : Work) (n : NodeId) (given : Outcome) → Holds old.rows (change n) → IsRunOn old new n given
-    → ((r : Row) (l : NodeId) (f : FnRef) (captures : List NodeId) → row_at arena n ≡ Some r → r.def ≡ graph.Bind l f captures
-    → outcome_in (at old.rows (change n)) ≡ Some given) → graph_at arena new ≡ graph_at arena old
-run_graph arena old new n given there run built = ap (λ (b : NodeId → Option Built). graph_of arena (record { built = b })) (fun_ext one_built)
-  where
-    roots_as : (k : NodeId) → at new.roots (change k) ≡ at old.roots (change k)
-    roots_as k = ap (λ (m : Rows NodeId). at m (change k)) run.round.roots
-
-    own_outcome : outcome_in (at new.rows (change n)) ≡ Some given
-    own_outcome = ap outcome_in run.rows.changed ∙ outcome_run given old.round (at old.rows (change n)) there
-
-    mine : (held_at arena new).built n ≡ (held_at arena old).built n
-    mine = ap (λ (x : Option Outcome). built_in (row_at arena n) x (at new.roots (change n))) own_outcome
-        ∙ (ap (λ (m : Option NodeId). built_in (row_at arena n) (Some given) m) (roots_as n)
-        ∙ row_built (row_at arena n) given (outcome_in (at old.rows (change n))) (at old.roots (change n)) built)
-
-    one_built : (k : NodeId) → (held_at arena new).built k ≡ (held_at arena old).built k
-    one_built k = elim (node_or_other n k) [
-      | inl e ↦ subst (λ (x : NodeId). (held_at arena new).built x ≡ (held_at arena old).built x) e mine
-      | inr ne ↦ ap (λ (x : Option Outcome). built_in (row_at arena k) x (at new.roots (change k)))
-          (ap outcome_in (run.rows.others (change k) (λ e. ne (sym (ap (λ (p : Point). p.node) e)))))
-          ∙ ap (λ (m : Option NodeId). built_in (row_at arena k) (outcome_in (at old.rows (change k))) m) (roots_as k)
-    ]
+  pub run_stands : Stands arena new counts (Some (hand (main n) [])) (changed s n given (waits s n))
+  run_stands =
+      let settles : LeavesSettled old new n given = record {
+        rows = run.rows;
+        graph = run.graph;
+        gone = run.gone;
+        heap = run.heap;
+        deaths = run.round.deaths;
+        ran = run.round.ran;
+        retries = run.round.retries;
+        round = run.round.round;
+      } in
+      settled_stands s arena old new counts st n given there settles s.graph (st.graph ∙ sym same) (waits s n) listed
 
 -- ---- a main that was loosened, whatever the worklist
 
@@ -376,7 +244,7 @@ module _ (M : Meaning) (old turned : Parts) (n : NodeId) (counts : Counts) (all 
   top = level g.heights (change n)
 
   abbrev whole : Work
-  whole = record old.work { graph = record g { heap = put g.heap (change n) top } }
+  whole = with_change old.work n
 
   put_in : Changes g.heap whole.graph.heap (change n) (Some top)
   put_in = put_changes g.heap (change n) top
@@ -385,37 +253,8 @@ module _ (M : Meaning) (old turned : Parts) (n : NodeId) (counts : Counts) (all 
   whole_kept = back_kept arena old.work whole.graph refl (change n) kept own_need own_row
       (record { changed = put_in.changed ∙ sym (has_level (at g.heights (change n)) (kept.step.there (change n) own_need)); others = put_in.others })
 
-  same_work : KeepsGraph before.work.graph whole.graph
-  same_work = record {
-    links = ap (λ (x : NecessaryPart). x.links) b.graph;
-    roots = ap (λ (x : NecessaryPart). x.roots) b.graph;
-    heights = ap (λ (x : NecessaryPart). x.heights) b.graph;
-  }
-
-  looks : Looks before.work whole
-  looks = record {
-    rows = λ a. ap (λ (w : Work). at w.rows a) b.rest;
-    links = λ a d. ap (λ (x : NecessaryPart). times x.links a d) b.graph;
-    roots = λ a. ap (λ (x : NecessaryPart). root_times x.roots a) b.graph;
-    needed = λ a. (needed_before before.work.graph whole.graph same_work a, needed_now before.work.graph whole.graph same_work a);
-    levels = λ a. ap (λ (x : NecessaryPart). level x.heights a) b.graph;
-    heap = λ a. elim (same_or_other a (change n)) [
-      | inl e ↦ subst (λ (x : Point). is_some (at whole.graph.heap x) ≡ is_some (at before.work.graph.heap x)) (sym e) (ap is_some put_in.changed ∙ sym b.held)
-      | inr ne ↦ ap is_some (put_in.others a ne ∙ b.heap.others a ne)
-    ];
-    todo = ap (λ (w : Work). w.todo.items) b.rest;
-    lists = record { pairs = ap (λ (w : Work). w.pairs) b.rest; scoped = ap (λ (w : Work). w.scoped) b.rest };
-    round = record {
-      roots = ap (λ (w : Work). w.roots) b.rest;
-      deaths = ap (λ (w : Work). w.deaths) b.rest;
-      ran = ap (λ (w : Work). w.ran.items) b.rest;
-      retries = ap (λ (w : Work). w.retries) b.rest;
-      round = ap (λ (w : Work). w.round) b.rest;
-    };
-  }
-
   st : Stands arena whole counts None s
-  st = looks_stands s arena before.work whole counts None looks before.stands
+  st = before_stands arena before.work old.work n counts s b before.stands
 
   whole_in : Holds whole.graph.heap (change n)
   whole_in = ap is_some put_in.changed
@@ -525,7 +364,7 @@ module _ (M : Meaning) (old turned : Parts) (n : NodeId) (counts : Counts) (all 
       by_def d e = tt
 
   graph_same : graph_at arena turned.work ≡ graph_at arena k.work
-  graph_same = run_graph arena k.work turned.work n m.given there k.run (λ x l f caps row is.
+  graph_same = graph_run arena k.work turned.work n m.given k.work.round k.run.rows k.run.round.roots (λ x l f caps row is.
       let same : m.row ≡ x = same_Some m.row x (sym m.is_row ∙ row) in
       ap outcome_in k.own ∙ m.built l f caps (ap (λ (y : Row). y.def) same ∙ is))
 
@@ -622,7 +461,7 @@ module _ (M : Meaning) (old turned : Parts) (n : NodeId) (counts : Counts) (all 
   turns_so = (
     r,
     after,
-    all_prepare F z (change n) s r k.prepared,
+    off_prepares F z (change n) s r k.prepared,
     it,
     refl,
     subst (λ (x : Arena). IsTurnedIn F z after x turned.work counts n) (sym (ap (λ (x : Parts). x.arena) only)) in_turn,
