@@ -122,7 +122,6 @@ module _ (a : Arena) (node : NodeId) (count next : ℕ) (sound : IsSound a) (low
 
   -- it isn't there yet
   module _ (old mid : Work) (so : HasAdopted a count (IsNewBefore a count next) old mid) where
-
     module _ (new : Work) (gets : GetsPoints a mid new node) (rest : KeepsRest a mid new) where
       row_new : (p : Point) → p.node ≡ node → is_some (at new.rows p) ≡ has_part (Some gets.row) p.part
       row_new p is = ap is_some (at_node new.rows p node is ∙ gets.rows.now p.part) ∙ has_parts gets.row (λ part. new_row) p.part
@@ -320,13 +319,11 @@ module _ (a : Arena) (old mid : Work) (node : NodeId) (row : Row) (is_row : row_
 
   module _ (before : IsInStep old.graph) (no_row : (p : Point) → p.node ≡ node → at old.rows p ≡ None)
       (no_point : (p : Point) → p.node ≡ node → at old.graph.heights p ≡ None) where
-
     -- its points were dropped again
     module _ (new : Work) (gone : ChangesNode mid.rows new.rows node (λ part. None))
         (dropped : ChangesNode mid.graph.heights new.graph.heights node (λ part. None)) (same_links : new.graph.links ≡ mid.graph.links)
         (same_roots : new.graph.roots ≡ mid.graph.roots) (same_heap : new.graph.heap ≡ mid.graph.heap) (new_step : IsInStep new.graph)
         (same : new ≡ record mid { graph = new.graph; rows = new.rows }) (same_todo : new.todo ≡ mid.todo) (same_round : KeepsRound mid new) where
-
       pub back_rest : KeepsRest a old new
       back_rest = record {
         step = new_step;

@@ -1,6 +1,6 @@
 -- A bind's right side is built, or all that was added for it is dropped again.
 use Rattle.std.proofs.Math.Path.{fun_ext}
-use Rattle.std.proofs.Common.{◌≡◌, ◌⊎◌, inl, inr, ℕ, ◌<◌, ◌≤◌, ◌+◌, ◌-◌, Bool, None, Some, refl, sym, ap, subst, ◌∙◌, arith}
+use Rattle.std.proofs.Common.{◌≡◌, ◌⊎◌, inl, inr, ℕ, ◌<◌, ◌≤◌, ◌+◌, ◌-◌, Bool, List, None, Some, refl, sym, ap, subst, ◌∙◌, arith}
 use Rattle.std.specs.Prelude.{is_some, IsTrue, ◌↔◌}
 use Rattle.std.proofs.lemmas.Bool.{cases_lt}
 use Rattle.std.proofs.lemmas.Option.{none-some}
@@ -8,6 +8,7 @@ use Rattle.inc_value.specs.Choice.{Among}
 use Rattle.inc_value.specs.declared.function.FnRef.{FnRef}
 use Rattle.inc_value.specs.declared.node.NodeId.{NodeId}
 use Rattle.inc_value.specs.declared.node.Point.{Point}
+use Rattle.inc_value.specs.declared.value.Value.{Value}
 use Rattle.inc_terms.specs.Graph.{Row}
 use Rattle.inc_value.specs.declared.function.FnKind.TheVariants.{Rhs}
 use Rattle.inc_terms.specs.Within.{Given, KnownAs}
@@ -15,9 +16,10 @@ use Rattle.necessary_graph.specs.Part.{IsInStep}
 use Rattle.node_arena.specs.Arena.{Arena, row_at, live, IsLive, IsFull}
 use Rattle.node_arena.specs.Building.{building_in, Grows}
 use Rattle.node_arena.specs.Meanings.{SameKnown}
-use Rattle.node_arena.specs.RightSide.{RightSide, IsEmpty, SidesHold, SameSides, AreFit}
+use Rattle.node_arena.specs.RightSide.{RightSide, IsEmpty, SidesHold, SameMeaning, SameSides, AreFit, Tally, one_built}
 use Rattle.node_arena.specs.RightSideLaws.{AllFit, IsFitIn}
 use Rattle.node_arena.specs.Sound.{IsSound}
+use Rattle.node_arena.specs.declared.functions.Functions.{Ghosts}
 use Rattle.node_arena.specs.declared.stored.BuildFault.{BuildFault}
 use Rattle.node_arena.specs.declared.stored.BuildFault.TheVariants as fault
 use Rattle.node_arena.proofs.Graph.{calls_more}
@@ -33,9 +35,12 @@ use Rattle.wiring.proofs.Deciding.{need_same}
 use Rattle.stabilizer.specs.Building.{HasGrown, IsUnbuilt, LeavesNoRoom, StopsBuilding, IsNewBefore, HasAdopted, HaveEntered}
 use Rattle.stabilizer.specs.Building.{AdoptsBefore, NoneSince, MayAdopt, MayDisown, HasDisowned}
 use Rattle.stabilizer.specs.Dying.{IsBindNode, IsBindOf}
+use Rattle.stabilizer.specs.Giving.{GivesLive}
 use Rattle.stabilizer.specs.Kept.{PartsKept, KeepsScopes}
+use Rattle.stabilizer.specs.Rooted.{MayBuildFor, WasBuilt}
 use Rattle.stabilizer.specs.Weights.{ScopesFit, SidesFit}
 use Rattle.stabilizer.specs.declared.parts.Parts.{Parts}
+use Rattle.stabilizer.proofs.Giving.{built_gives}
 use Rattle.stabilizer.proofs.Adopting.{rounds_kept, adopts_none}
 use Rattle.stabilizer.proofs.Weighing.{sides_last, scopes_built}
 use Rattle.stabilizer.proofs.Growing.{holds_none, none_holds, grown_kept, grown_scopes}
@@ -297,45 +302,128 @@ module _ (old mid : Parts) (b : NodeId) (side : RightSide) (kept : PartsKept old
       unbuilt_fit known right all = fit_fewer known right mid.arena last.arena given_same
           (λ n. elim (cases_lt n.gen_ old.arena.given) [ inl g ↦ inl (nodes_last n g) | inr s ↦ inr (dis.arena.gone n s) ]) all
 
-  -- ---- as the code counts
+-- ---- by a keeper's function
 
-  module _ (count : ℕ) (counted : count ≡ old.arena.given) where
-    pub ready_to_adopt : MayAdopt mid count
-    ready_to_adopt = subst (λ (k : ℕ). MayAdopt mid k) (sym counted) may_adopt
+-- a keeper's function built nodes in the bind's scope, and nothing else was done
+pub record HasBuiltNodes {K More : Type 0} (keeper : Ghosts K More) (fs fs' : K) (old mid : Parts) (b : NodeId) (f : FnRef) (captures : List NodeId)
+    (left : Value) (count : ℕ) : Type 0 where
+  pub may : MayBuildFor keeper fs old b f captures left
+  pub holds : SidesHold (keeper.known fs) (keeper.right fs)
+  pub sound : keeper.is_sound fs'
+  pub arena : IsSound mid.arena
+  pub grows : Grows (keeper.right fs f).uses (building_in b old.arena) (building_in b mid.arena) (keeper.right fs f).size
+  pub same : SameMeaning (keeper.named fs) (keeper.named fs') (keeper.known fs) (keeper.known fs') (keeper.value fs) (keeper.value fs')
+      (keeper.right fs) (keeper.right fs')
+  pub tally : keeper.tally fs' ≡ one_built (mid.arena.given - old.arena.given) (keeper.tally fs)
+  pub calls : keeper.calls fs' ≡ keeper.calls fs
+  pub wants : keeper.wants fs' ≡ keeper.wants fs
+  pub rest : mid ≡ record old { arena = mid.arena }
+  pub counted : count ≡ old.arena.given
 
-    -- before any is adopted
-    pub some_none : (next : ℕ) × AdoptsBefore mid mid b count next
-    some_none = (count, adopts_none mid b count ready_to_adopt)
+module _ {K More : Type 0} {keeper : Ghosts K More} {fs fs' : K} {old mid : Parts} {b : NodeId} {f : FnRef} {captures : List NodeId} {left : Value}
+    {count : ℕ} (h : HasBuiltNodes keeper fs fs' old mid b f captures left count) where
+  abbrev side : RightSide
+  side = keeper.right fs f
 
-    module _ (new : Parts) where
-      pub ready_to_disown : (next : ℕ) × AdoptsBefore mid new b count next → MayDisown new b count
-      ready_to_disown some = subst (λ (k : ℕ). MayDisown new b k) (sym counted)
-          (may_disown new some.0 (subst (λ (k : ℕ). AdoptsBefore mid new b k some.0) counted some.1))
+  work : mid.work ≡ old.work
+  work = ap (λ (p : Parts). p.work) h.rest
 
-      pub all_grown : (next : ℕ) × AdoptsBefore mid new b count next × NoneSince mid.arena next → HasGrown old new b
-      all_grown all = has_grown new all.0 (subst (λ (k : ℕ). AdoptsBefore mid new b k all.0) counted all.1) all.2
+  scopes : mid.scopes ≡ old.scopes
+  scopes = ap (λ (p : Parts). p.scopes) h.rest
 
-      pub all_kept : (next : ℕ) × AdoptsBefore mid new b count next × NoneSince mid.arena next → PartsKept new
-      all_kept all = built_kept new all.0 (subst (λ (k : ℕ). AdoptsBefore mid new b k all.0) counted all.1) all.2
+  dying : mid.dying.items ≡ old.dying.items
+  dying = ap (λ (p : Parts). p.dying.items) h.rest
 
-      module _ (some : (next : ℕ) × AdoptsBefore mid new b count next) (last : Parts) (disowned : HasDisowned new last b count) where
-        so : AdoptsBefore mid new b old.arena.given some.0
-        so = subst (λ (k : ℕ). AdoptsBefore mid new b k some.0) counted some.1
+  ran : mid.ran ≡ old.ran
+  ran = ap (λ (p : Parts). p.ran) h.rest
 
-        dis : HasDisowned new last b old.arena.given
-        dis = subst (λ (k : ℕ). HasDisowned new last b k) counted disowned
+  pub can_adopt : MayAdopt mid count
+  can_adopt = subst (λ (k : ℕ). MayAdopt mid k) (sym h.counted)
+      (may_adopt old mid b side h.may.kept h.may.bind h.may.ready.empty h.arena h.grows work scopes dying ran)
 
-        pub none_built : IsUnbuilt old last b
-        none_built = is_unbuilt new some.0 so last dis
+  -- before any is adopted
+  pub none_adopted : (next : ℕ) × AdoptsBefore mid mid b count next
+  none_adopted = (count, adopts_none mid b count can_adopt)
 
-        pub none_kept : PartsKept last
-        none_kept = unbuilt_kept new some.0 so last dis
+  fit_mid : SidesFit (keeper.known fs') (keeper.right fs') mid.arena
+  fit_mid = fit_built (keeper.known fs) (keeper.known fs') (keeper.right fs) (keeper.right fs') b old.arena mid.arena f h.holds h.may.known h.same.known
+      h.same.sides h.may.ready.fit old.work h.may.kept.work h.may.live h.may.ready.empty h.may.own h.grows h.may.fit
 
-        pub none_given : last.arena.given ≡ mid.arena.given
-        none_given = given_same new some.0 so last dis
+  was_built : (new : Parts) → HasGrown old new b → PartsKept new → SidesFit (keeper.known fs') (keeper.right fs') new.arena
+      → new.arena.given ≡ mid.arena.given → WasBuilt keeper fs fs' old new b
+  was_built new grew kept fit given = record {
+    grew = grew;
+    kept = kept;
+    meaning = record {
+      sound = h.sound;
+      same = h.same;
+      taken = ap (λ (t : Tally). t.taken) h.tally;
+      most = ap (λ (t : Tally). t.most) h.tally;
+    };
+    fit = fit;
+    calls = h.calls;
+    wants = h.wants;
+    tally = h.tally ∙ ap (λ (k : ℕ). one_built (k - old.arena.given) (keeper.tally fs)) (sym given);
+  }
 
-        pub none_room : IsFull mid.arena → LeavesNoRoom old.arena.given last.arena
-        none_room = no_room new some.0 so last dis
+  spends : (new : Parts) → new.arena.given ≡ mid.arena.given → new.arena.given ≤ old.arena.given + side.size
+  spends new given = let few = h.grows.few in omega (arith, few, given)
 
-        pub none_fit : (known : FnRef → Bool) (right : FnRef → RightSide) → SidesFit known right mid.arena → SidesFit known right last.arena
-        none_fit = unbuilt_fit new some.0 so last dis
+  module _ (new : Parts) where
+    adopts_so : (next : ℕ) → AdoptsBefore mid new b count next → AdoptsBefore mid new b old.arena.given next
+    adopts_so next some = subst (λ (k : ℕ). AdoptsBefore mid new b k next) h.counted some
+
+    pub can_disown : (next : ℕ) × AdoptsBefore mid new b count next → MayDisown new b count
+    can_disown some = subst (λ (k : ℕ). MayDisown new b k) (sym h.counted)
+        (may_disown old mid b side h.may.kept h.may.bind h.may.ready.empty h.arena h.grows work scopes dying ran new some.0 (adopts_so some.0 some.1))
+
+    -- all nodes have their points
+    module _ (all : (next : ℕ) × AdoptsBefore mid new b count next × NoneSince mid.arena next) where
+      so_all : AdoptsBefore mid new b old.arena.given all.0
+      so_all = adopts_so all.0 all.1
+
+      given_all : new.arena.given ≡ mid.arena.given
+      given_all = ap (λ (x : Arena). x.given) all.1.arena
+
+      pub all_built : WasBuilt keeper fs fs' old new b
+      all_built = was_built new
+          (has_grown old mid b side h.may.kept h.may.bind h.may.ready.empty h.arena h.grows work scopes dying ran new all.0 so_all all.2)
+          (built_kept old mid b side h.may.kept h.may.bind h.may.ready.empty h.arena h.grows work scopes dying ran new all.0 so_all all.2)
+          (subst (λ (x : Arena). SidesFit (keeper.known fs') (keeper.right fs') x) (sym all.1.arena) fit_mid) given_all
+
+      pub all_gives : GivesLive old.arena.given 0 new.arena
+      all_gives = subst (λ (x : Arena). GivesLive old.arena.given 0 x) (sym all.1.arena)
+          (built_gives old.arena mid.arena h.may.kept.work.sound h.grows.keeps h.grows.live)
+
+      pub all_spends : new.arena.given ≤ old.arena.given + side.size
+      all_spends = spends new given_all
+
+    -- or they were dropped again
+    module _ (some : (next : ℕ) × AdoptsBefore mid new b count next) (last : Parts) (disowned : HasDisowned new last b count) where
+      so : AdoptsBefore mid new b old.arena.given some.0
+      so = adopts_so some.0 some.1
+
+      dis : HasDisowned new last b old.arena.given
+      dis = subst (λ (k : ℕ). HasDisowned new last b k) h.counted disowned
+
+      given_none : last.arena.given ≡ mid.arena.given
+      given_none =
+          given_same old mid b side h.may.kept h.may.bind h.may.ready.empty h.arena h.grows work scopes dying ran new some.0 so last dis
+
+      unbuilt : IsUnbuilt old last b
+      unbuilt = is_unbuilt old mid b side h.may.kept h.may.bind h.may.ready.empty h.arena h.grows work scopes dying ran new some.0 so last dis
+
+      pub none_built : WasBuilt keeper fs fs' old last b
+      none_built = was_built last unbuilt.grown
+          (unbuilt_kept old mid b side h.may.kept h.may.bind h.may.ready.empty h.arena h.grows work scopes dying ran new some.0 so last dis)
+          (unbuilt_fit old mid b side h.may.kept h.may.bind h.may.ready.empty h.arena h.grows work scopes dying ran new some.0 so last dis
+          (keeper.known fs') (keeper.right fs') fit_mid) given_none
+
+      pub none_left : (n : NodeId) → old.arena.given ≤ n.gen_ → row_at last.arena n ≡ None
+      none_left = unbuilt.none
+
+      pub none_spends : last.arena.given ≤ old.arena.given + side.size
+      none_spends = spends last given_none
+
+      pub none_room : IsFull mid.arena → LeavesNoRoom old.arena.given last.arena
+      none_room = no_room old mid b side h.may.kept h.may.bind h.may.ready.empty h.arena h.grows work scopes dying ran new some.0 so last dis

@@ -17,7 +17,7 @@ use Rattle.node_arena.specs.Arena.{Arena, row_at, IsLive}
 use Rattle.node_outcomes.specs.Computing.{has_part}
 use Rattle.node_outcomes.specs.Row.{cutoff_in, outcome_in}
 use Rattle.stabilize_round.proofs.Points.{node_or_other}
-use Rattle.stabilizer.specs.Between.{Stays, HasDropped}
+use Rattle.stabilizer.specs.Between.{Stays, HasDropped, IsTakenBack}
 use Rattle.node_arena.specs.Sound.{IsSound, IsFirstSince}
 use Rattle.node_outcomes.specs.Meaning.{Meaning}
 use Rattle.wiring.specs.Kept.{IsKept, IsDead}
@@ -298,26 +298,27 @@ next_fits a id sound live = let g = sound.given id live in let f = sound.count i
 
 -- ---- nodes since a count are listed no more
 
-module _ (old new : Parts) (kept : PartsKept old)
-    (pairs : (n : NodeId) (r : Row) → row_at old.arena n ≡ Some r → Among n old.work.pairs.nodes → Among n new.work.pairs.nodes)
-    (scoped : (n : NodeId) (r : Row) → row_at old.arena n ≡ Some r → Among n old.work.scoped.nodes → Among n new.work.scoped.nodes)
-    (rest : new ≡ record old { work = record old.work { pairs = new.work.pairs; scoped = new.work.scoped } }) where
+module _ (old left : Parts) (count : ℕ) (so : HasDropped old left count) (ran : left.ran ≡ old.ran) (pairs' scoped' : Listed)
+    (none : (n : NodeId) → count ≤ n.gen_ → row_at left.arena n ≡ None)
+    (no_pair : (n : NodeId) → Among n pairs'.nodes → n.gen_ < count) (no_scoped : (n : NodeId) → Among n scoped'.nodes → n.gen_ < count)
+    (pairs : (n : NodeId) (r : Row) → row_at left.arena n ≡ Some r → Among n left.work.pairs.nodes → Among n pairs'.nodes)
+    (scoped : (n : NodeId) (r : Row) → row_at left.arena n ≡ Some r → Among n left.work.scoped.nodes → Among n scoped'.nodes) where
   abbrev work : Work
-  work = record old.work { pairs = new.work.pairs; scoped = new.work.scoped }
+  work = record left.work { pairs = pairs'; scoped = scoped' }
 
   abbrev parts : Parts
-  parts = record old { work = work }
+  parts = record left { work = work }
 
-  forgotten_kept : IsKept old.arena work
-  forgotten_kept = carried old.arena old.work work kept.work (record {
-    step = kept.work.step;
+  forgotten_kept : IsKept left.arena work
+  forgotten_kept = carried left.arena left.work work so.kept.work (record {
+    step = so.kept.work.step;
     same = λ p. refl;
     there = λ p row h. h;
     opened = λ p h. h;
     leaves = λ p h none need. need;
     links = λ p q l. l;
-    heap = kept.work.heap;
-    fit = fit_still old.arena old.work work kept.work (λ p. refl) refl;
+    heap = so.kept.work.heap;
+    fit = fit_still left.arena left.work work so.kept.work (λ p. refl) refl;
     held = refl;
     chosen = λ p h. refl;
     roots = refl;
@@ -326,7 +327,7 @@ module _ (old new : Parts) (kept : PartsKept old)
     scoped = scoped;
   })
 
-  forgotten_stays : Stays old.arena old.arena old.work work
+  forgotten_stays : Stays left.arena left.arena left.work work
   forgotten_stays = record {
     needed = λ p n. n;
     links = λ p q n. refl;
@@ -348,10 +349,23 @@ module _ (old new : Parts) (kept : PartsKept old)
   }
 
   parts_kept : PartsKept parts
-  parts_kept = parts_stay old parts kept forgotten_kept forgotten_stays refl refl
+  parts_kept = parts_stay left parts so.kept forgotten_kept forgotten_stays refl refl
 
-  pub forgotten_parts : PartsKept new
-  forgotten_parts = subst PartsKept (sym rest) parts_kept
-
-  pub forgotten_ready : (M : Meaning) → IsReady M old → IsReady M new
-  forgotten_ready M ready = subst (IsReady M) (sym rest) (ready_stays M old parts ready ready.fit parts_kept forgotten_stays)
+  pub taken_back : IsTakenBack old parts count
+  taken_back = record {
+    older = so.older;
+    dropped = none;
+    given = so.given;
+    no_pair = no_pair;
+    no_scoped = no_scoped;
+    rows = so.rows;
+    cutoffs = so.cutoffs;
+    other_cutoffs = so.other_cutoffs;
+    links = so.links;
+    roots = so.roots;
+    heap = so.heap;
+    right_sides = so.right_sides;
+    ran = ran;
+    kept = parts_kept;
+    ready = λ M ready. let r = so.ready M ready in ready_stays M left parts r r.fit parts_kept forgotten_stays;
+  }

@@ -1,5 +1,5 @@
 -- What a refused round leaves: cutoffs stay, what is shown is what was or is right, and whose functions were called is met.
-use Rattle.std.proofs.Common.{◌≡◌, inl, inr, ℕ, ◌<◌, ◌++◌, List, [], map, true, Option, None, Some, refl, sym, ap, subst, ◌∙◌, arith}
+use Rattle.std.proofs.Common.{◌≡◌, inl, inr, ℕ, ◌<◌, ◌++◌, List, map, true, Option, None, Some, refl, sym, ap, subst, ◌∙◌, arith}
 use Rattle.std.specs.Prelude.{is_some}
 use Rattle.inc_value.specs.declared.node.NodeId.{NodeId}
 use Rattle.inc_value.specs.declared.node.Point.{Point}
@@ -41,15 +41,6 @@ use Rattle.stabilizer.proofs.LeftBy.{left_by_parts}
 use Rattle.stabilizer.proofs.Paused.{IsPaused, paused_died}
 use Rattle.stabilizer.proofs.Remaining.{stopped_out}
 use Rattle.stabilizer.proofs.Stopped.{IsLeftOver, stops_leave_over}
-
--- no function was called
-pub none_called : (F : Functions) (old new : Parts) (observed : List NodeId) (count : ℕ) → HasCalledMet F old new observed count count
-none_called F old new observed count = record {
-  nodes = [];
-  once = tt;
-  due = λ n among. absurd among;
-  count = record { kept = omega arith; within = omega arith };
-}
 
 -- what keeps roots adds none
 pub only_still : (old mid new : Roots) (ps : List Point) → OnlyRoots old mid ps → KeepsRoots mid new → OnlyRoots old new ps

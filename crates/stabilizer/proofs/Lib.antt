@@ -71,3 +71,5 @@ pub mod Alive
 pub mod Giving
 pub mod GivingSteps
 pub mod Staying
+pub mod Ended
+pub mod Added

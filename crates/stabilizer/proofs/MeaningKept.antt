@@ -6,7 +6,8 @@ use Rattle.std.proofs.Math.Path.{fun_ext}
 use Rattle.node_arena.proofs.SameMeanings.{same_itself, same_on}
 use Rattle.node_arena.specs.Arena.{Arena, row_at}
 use Rattle.node_arena.specs.declared.functions.Functions.{Ghosts}
-use Rattle.node_outcomes.specs.Meaning.{meaning_of}
+use Rattle.node_arena.specs.RightSide.{Tally}
+use Rattle.node_outcomes.specs.Meaning.{meaning_of, KeepsFunctions}
 use Rattle.wiring.specs.declared.refused.Refused.{Refused}
 use Rattle.wiring.specs.declared.refused.Refused.TheVariants as refused
 use Rattle.stabilizer.specs.Kept.{KeepsMeaning, StaysFlat, WantsTell}
@@ -19,6 +20,15 @@ module _ {F More : Type 0} (keeper : Ghosts F More) where
     same = same_itself (keeper.named functions) (keeper.known functions) (keeper.value functions) (keeper.right functions);
     taken = refl;
     most = refl;
+  }
+
+  -- or where nothing but calls was counted
+  pub meaning_kept : (old new : F) → KeepsFunctions keeper old new → KeepsMeaning keeper old new
+  meaning_kept old new k = record {
+    sound = k.sound;
+    same = k.same;
+    taken = ap (λ (t : Tally). t.taken) k.tally;
+    most = ap (λ (t : Tally). t.most) k.tally;
   }
 
   -- what was kept of functions, and is kept on, is kept

@@ -4,7 +4,6 @@ use Rattle.std.specs.Prelude.{is_some, option_map, Result, Ok, Err, IfErr, OnErr
 use Rattle.std.proofs.lemmas.Bool.{cases_lt}
 use Rattle.std.proofs.lemmas.Option.{none-some, same_Some}
 use Rattle.inc_value.specs.Choice.{Reaches}
-use Rattle.inc_value.specs.declared.function.FnKind.TheVariants.{Rhs}
 use Rattle.inc_value.specs.declared.function.FnRef.{FnRef}
 use Rattle.inc_value.specs.declared.node.NodeId.{NodeId}
 use Rattle.inc_value.specs.declared.outcome.Outcome.{Outcome}
@@ -13,13 +12,13 @@ use Rattle.inc_value.specs.declared.ty.Ty.{Ty}
 use Rattle.inc_value.specs.declared.value.Value.{Value}
 use Rattle.inc_terms.specs.Depend.{change}
 use Rattle.inc_terms.specs.Graph.{Row}
-use Rattle.inc_terms.specs.Within.{Given, KnownAs}
+use Rattle.inc_terms.specs.Within.{Given}
 use Rattle.point_map.specs.Rows.{Rows, at, Holds, Changes, KeepsRows}
-use Rattle.necessity.specs.Need.{Roots, KeepsRoots}
-use Rattle.node_arena.specs.Arena.{Arena, row_at, IsLive}
+use Rattle.necessity.specs.Need.{Roots, root_times, KeepsRoots}
+use Rattle.node_arena.specs.Arena.{Arena, row_at}
 use Rattle.node_arena.specs.Building.{building_in}
 use Rattle.node_arena.specs.Graph.{AllCallFit}
-use Rattle.node_arena.specs.RightSide.{RightSide, MayBuild, IsRoot, IsEmpty}
+use Rattle.node_arena.specs.RightSide.{RightSide, IsRoot, IsEmpty}
 use Rattle.node_arena.specs.RightSideLaws.{ids_of}
 use Rattle.node_arena.specs.Typing.{Fits}
 use Rattle.node_arena.specs.declared.functions.Functions.{Ghosts}
@@ -41,11 +40,12 @@ use Rattle.wiring.specs.declared.refused.Refused.{Refused}
 use Rattle.wiring.specs.declared.refused.Refused.TheVariants.{Height, Cycle, Full, Memory}
 use Rattle.wiring.specs.declared.work.Work.{Work}
 use Rattle.stabilizer.specs.Building.{HasGrown, StopsBuilding}
-use Rattle.stabilizer.specs.Dying.{IsBindNode, IsBindOf, IsCutOff, HasDied, StandsBefore}
+use Rattle.stabilizer.specs.Dying.{IsCutOff, HasDied, StandsBefore}
 use Rattle.stabilizer.specs.Giving.{GivesLive, GivesFew, LeavesRoom, HasBuilt, StopsFull}
 use Rattle.stabilizer.specs.Kept.{PartsKept, counts_by}
 use Rattle.stabilizer.specs.Rebuilding.{IsToBuild, BuildsAnew, BuildRefused, as_it_was, unbuilt, IsSettledOn, IsToSettle, RebuildStays}
-use Rattle.stabilizer.specs.Rooted.{WasBuilt, GetsRoot, GetsNoRoot, no_room, stopped, with_roots}
+use Rattle.stabilizer.specs.Staying.{MayStep}
+use Rattle.stabilizer.specs.Rooted.{MayBuildFor, WasBuilt, GetsRoot, GetsNoRoot, no_room, stopped, with_roots}
 use Rattle.stabilizer.specs.Weights.{IsInScope, SidesFit}
 use Rattle.stabilizer.specs.declared.parts.Parts.{Parts}
 use Rattle.stabilizer.proofs.BuiltAnew.{IsRebuilt, HasRoot}
@@ -130,6 +130,22 @@ settled_on mid new b given on there = ap (settled_in new.round) on.rows.changed
     ∙ (ap (λ (i : ℕ). settled_in i (option_map (with_outcome given mid.round) (at mid.rows (change b)))) (ap (λ (w : Work). w.round) on.rest)
     ∙ run_settled given mid.round (at mid.rows (change b)) there)
 
+-- and what stayed stays
+pub settled_stays : {K More : Type 0} (keeper : Ghosts K More) (fs fs' : K) (old mid : Parts) (new : Work) (b : NodeId) (given : Outcome)
+    → IsSettledOn mid.work new b given → RebuildStays keeper fs fs' old mid b → RebuildStays keeper fs fs' old (record mid { work = new }) b
+settled_stays keeper fs fs' old mid new b given on s = record {
+  calls = s.calls;
+  wants = s.wants;
+  own = s.own;
+  there = ap is_some on.rows.changed ∙ mapped_there (with_outcome given mid.work.round) (at mid.work.rows (change b)) s.there;
+  ran = s.ran;
+  roots = λ p. ap (λ (r : Roots). root_times r p) on.graph.roots ∙ s.roots p;
+  round = ap (λ (w : Work). w.round) on.rest ∙ s.round;
+  quiet = ap (λ (w : Work). w.todo.items) on.rest ∙ s.quiet;
+  fit = s.fit;
+  meaning = s.meaning;
+}
+
 module _ {K More : Type 0} (keeper : Ghosts K More) (fs : K) where
   abbrev M : Meaning
   M = meaning_of keeper fs
@@ -163,15 +179,14 @@ module _ {K More : Type 0} (keeper : Ghosts K More) (fs : K) where
   -- so it is with the parts in which room was made
   pub are_cut : (old : Parts) (deaths : Deaths) (same : KeepsRows old.work.deaths.scopes deaths.scopes) (dying : Vec NodeId Global)
       (items : dying.items ≡ old.dying.items) {cut dead : Parts} {b : NodeId} {f : FnRef} {captures : List NodeId} {given : Outcome}
-      → PartsKept old → IsToBuild old b f captures given → Holds old.work.rows (change b) → old.work.todo.items ≡ [] → keeper.is_sound fs
-      → SidesFit known right old.arena
+      → MayStep keeper fs old → IsToBuild old b f captures given → Holds old.work.rows (change b)
       → IsCutOff (roomy old deaths old.work.roots same (λ p. refl) dying items) cut b → HasDied cut dead b → PartsKept dead
       → AreCut old (roomy old deaths old.work.roots same (λ p. refl) dying items) cut dead b f captures given
-  are_cut old deaths same dying items {b = b} {f = f} {captures = captures} {given = given} kept to own quiet sound fit cuts died lasts = record {
-    kept = roomy_kept old deaths old.work.roots same (λ p. refl) dying items kept;
+  are_cut old deaths same dying items {b = b} {f = f} {captures = captures} {given = given} may to own cuts died lasts = record {
+    kept = roomy_kept old deaths old.work.roots same (λ p. refl) dying items may.kept;
     to = roomy_to old deaths old.work.roots same (λ p. refl) dying items b f captures given to;
     own = own;
-    fit = fit;
+    fit = may.fit;
     cuts = cuts;
     died = died;
     lasts = lasts;
@@ -179,16 +194,16 @@ module _ {K More : Type 0} (keeper : Ghosts K More) (fs : K) where
     ran = refl;
     roots = refl;
     round = refl;
-    quiet = quiet;
-    sound = sound;
+    quiet = may.quiet;
+    sound = may.sound;
     from = λ counts s stands. roomy_before old deaths old.work.roots same (λ p. refl) dying items counts s b stands;
   }
 
   -- where there was no room for the deaths all stays
   pub roomy_stays : (old : Parts) (deaths : Deaths) (same : KeepsRows old.work.deaths.scopes deaths.scopes) (dying : Vec NodeId Global)
-      (items : dying.items ≡ old.dying.items) (b : NodeId) → Holds old.work.rows (change b) → old.work.todo.items ≡ [] → keeper.is_sound fs
-      → SidesFit known right old.arena → RebuildStays keeper fs fs old (roomy old deaths old.work.roots same (λ p. refl) dying items) b
-  roomy_stays old deaths same dying items b own quiet sound fit = record {
+      (items : dying.items ≡ old.dying.items) (b : NodeId) → Holds old.work.rows (change b) → MayStep keeper fs old
+      → RebuildStays keeper fs fs old (roomy old deaths old.work.roots same (λ p. refl) dying items) b
+  roomy_stays old deaths same dying items b own may = record {
     calls = refl;
     wants = refl;
     own = λ r e. e;
@@ -196,9 +211,9 @@ module _ {K More : Type 0} (keeper : Ghosts K More) (fs : K) where
     ran = refl;
     roots = λ p. refl;
     round = refl;
-    quiet = quiet;
-    fit = fit;
-    meaning = nothing_meant keeper fs sound;
+    quiet = may.quiet;
+    fit = may.fit;
+    meaning = nothing_meant keeper fs may.sound;
   }
 
   module _ {first old cut dead : Parts} {b : NodeId} {f : FnRef} {captures : List NodeId} {given : Outcome}
@@ -234,25 +249,22 @@ module _ {K More : Type 0} (keeper : Ghosts K More) (fs : K) where
     own_dead : Holds dead.work.rows (change b)
     own_dead = own_after cut dead b h.died own_cut
 
-    -- the bind's function is known, and a right side can be built for a value
-    pub asks_known : KnownAs known Rhs f
-    asks_known = is_known old cut dead b h.cuts.arena h.died own_cut h.kept.work f captures given h.to known right h.fit
-
-    pub asks_bind : IsBindNode dead.arena b
-    asks_bind = (h.to.row, h.to.left, f, captures, same_row ∙ h.to.is_row, h.to.is_bind)
-
-    pub asks_live : IsLive dead.arena b
-    asks_live = ap is_some (same_row ∙ h.to.is_row)
-
-    pub asks_own : IsBindOf dead.arena b f
-    asks_own = is_bind_of old cut dead b h.cuts.arena h.died own_cut h.kept.work f captures given h.to
-
     -- nobody stands in the bind's scope
     asks_empty : IsEmpty dead.arena b
     asks_empty = scope_empty old cut dead b h.cuts.arena h.died own_cut h.kept.work f captures given h.to
 
-    pub asks_ready : (left : Value) → given ≡ Val left → MayBuild (building_in b dead.arena) f.sig (right f) left captures
-    asks_ready left is = may_build old cut dead b h.cuts.arena h.died own_cut h.kept.work f captures given h.to left is known right h.fit
+    -- the bind's function is known, and a right side can be built for a value
+    pub asks_build : (left : Value) → given ≡ Val left → MayBuildFor keeper fs dead b f captures left
+    asks_build left is = record {
+      kept = h.lasts;
+      live = ap is_some (same_row ∙ h.to.is_row);
+      bind = (h.to.row, h.to.left, f, captures, same_row ∙ h.to.is_row, h.to.is_bind);
+      own = is_bind_of old cut dead b h.cuts.arena h.died own_cut h.kept.work f captures given h.to;
+      sound = h.sound;
+      known = is_known old cut dead b h.cuts.arena h.died own_cut h.kept.work f captures given h.to known right h.fit;
+      ready = may_build old cut dead b h.cuts.arena h.died own_cut h.kept.work f captures given h.to left is known right h.fit;
+      fit = fits_dead;
+    }
 
     calls_fit : AllCallFit known (ids_of right) dead.arena
     calls_fit = fit_then known known right right dead.arena (λ g. refl) (λ g. refl) fits_dead

@@ -9,7 +9,7 @@ use Rattle.inc_value.specs.Choice.{Among, here}
 use Rattle.inc_terms.specs.Depend.{main}
 use Rattle.inc_terms.specs.Term.{Functions}
 use Rattle.inc_terms.proofs.Plan.{among_left, among_map}
-use Rattle.necessity.specs.Need.{Roots, root_times, KeepsRoots, OneRootMore}
+use Rattle.necessity.specs.Need.{Roots, root_times, OneRootMore}
 use Rattle.node_arena.specs.Arena.{Arena}
 use Rattle.node_outcomes.specs.Meaning.{Meaning}
 use Rattle.stabilize_round.specs.Calling.{cost_at}
@@ -253,19 +253,9 @@ pub record AreSettled (M : Meaning) (old now : Parts) (before between : Counts) 
   pub kept : PartsKept now
   pub quiet : now.work.todo.items ≡ []
   pub settled : Settles M old now before between
-  pub roots : KeepsRoots old.work.graph.roots now.work.graph.roots
-  pub round : now.work.round ≡ old.work.round
-  pub ran : now.ran ≡ old.ran
 
 pub no_step : (M : Meaning) (old : Parts) (before : Counts) → PartsKept old → old.work.todo.items ≡ [] → AreSettled M old old before before
-no_step M old before kept quiet = record {
-  kept = kept;
-  quiet = quiet;
-  settled = none_settled M old before;
-  roots = λ p. refl;
-  round = refl;
-  ran = refl;
-}
+no_step M old before kept quiet = record { kept = kept; quiet = quiet; settled = none_settled M old before }
 
 -- a step of functions that mean the same
 module _ (M N : Meaning) (same : N ≡ M) (old mid new : Parts) (before between after : Counts) (so : AreSettled M old mid before between) where
@@ -273,15 +263,11 @@ module _ (M N : Meaning) (same : N ≡ M) (old mid new : Parts) (before between 
   as_meant P h = subst P same h
 
   -- one step more
-  pub next_step : PartsKept new → new.work.todo.items ≡ [] → Steps N mid new between after → KeepsRoots mid.work.graph.roots new.work.graph.roots
-      → new.work.round ≡ mid.work.round → new.ran ≡ mid.ran → AreSettled M old new before after
-  next_step kept quiet steps roots round ran = record {
+  pub next_step : PartsKept new → new.work.todo.items ≡ [] → Steps N mid new between after → AreSettled M old new before after
+  next_step kept quiet steps = record {
     kept = kept;
     quiet = quiet;
     settled = settles_more M old mid new before between after so.settled so.quiet (as_meant (λ (L : Meaning). Steps L mid new between after) steps);
-    roots = λ p. roots p ∙ so.roots p;
-    round = round ∙ so.round;
-    ran = ran ∙ so.ran;
   }
 
   -- it leaves less

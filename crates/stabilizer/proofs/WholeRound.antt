@@ -34,6 +34,19 @@ use Rattle.stabilizer.proofs.LeftBy.{left_by_parts, few_by_parts}
 use Rattle.stabilizer.proofs.Released.{is_next}
 use Rattle.stabilizer.proofs.Stopped.{moves_build, stops_leave_over}
 
+-- the work of a round ended, and the next has the next number
+pub record HasEnded (old new : Work) : Type 0 where
+  pub released : IsReleased old new
+  pub step : IsInStep new.graph
+  pub ran : new.ran.items ≡ []
+  pub retries : new.retries ≡ all_retries
+  pub round : new.round ≡ old.round + 1
+  pub rows : new.rows ≡ old.rows
+  pub roots : new.roots ≡ old.roots
+  pub pairs : new.pairs ≡ old.pairs
+  pub scoped : new.scoped ≡ old.scoped
+  pub todo : new.todo ≡ old.todo
+
 module _ (M : Meaning) (old : Parts) (rooted : Work) (before : Counts) (ready : IsReady M old) (put : PutsRoots old.arena old.work rooted) where
   abbrev F : Functions
   F = M.functions
@@ -68,11 +81,7 @@ module _ (M : Meaning) (old : Parts) (rooted : Work) (before : Counts) (ready : 
     round_counts : RoseBy before.calls (costs_of (graph_in settled) settled.work.ran.items) after.calls
     round_counts = counted M old settled before after ready.kept begins kept last.0 last.1 last.2 idle empty
 
-    module _ (end : Parts) (r : IsReleased settled.work end.work) (in_step : IsInStep end.work.graph) (ran : end.work.ran.items ≡ [])
-        (retries : end.work.retries ≡ all_retries) (round : end.work.round ≡ settled.work.round + 1) (rows : end.work.rows ≡ settled.work.rows)
-        (roots_same : end.work.roots ≡ settled.work.roots) (pairs : end.work.pairs ≡ settled.work.pairs)
-        (scoped : end.work.scoped ≡ settled.work.scoped)
-        (todo : end.work.todo ≡ settled.work.todo) where
+    module _ (end : Parts) (x : HasEnded settled.work end.work) where
       abbrev result : Parts
       result = record settled { work = end.work; ran = end.ran }
 
@@ -86,7 +95,7 @@ module _ (M : Meaning) (old : Parts) (rooted : Work) (before : Counts) (ready : 
       }
 
       is : next ≡ end.work
-      is = is_next settled.work end.work rows roots_same pairs scoped todo
+      is = is_next settled.work end.work x.rows x.roots x.pairs x.scoped x.todo
 
       pub round_calls : end.ran.items ≡ settled.work.ran.items → RoseBy before.calls (costs_of (left_by old result) end.ran.items) after.calls
       round_calls ran_is = subst (λ (G : Graph). RoseBy before.calls (costs_of G end.ran.items) after.calls) (ap (graph_at settled.arena) is)
@@ -102,8 +111,8 @@ module _ (M : Meaning) (old : Parts) (rooted : Work) (before : Counts) (ready : 
           (stops_leave_over F first.start first.state t.0 t.0 first.entry begins.round.given t.1 (as_it_is refl))
 
       pub round_readies : AllCallFit M.known M.ids settled.arena → IsReady M result
-      round_readies fit = ready_end M old settled before after ready.kept begins kept last.0 last.1 last.2 idle empty end r in_step ran
-          retries round is ready.laws fit (round_left.inside ready.inside)
+      round_readies fit = ready_end M old settled before after ready.kept begins kept last.0 last.1 last.2 idle empty end x.released x.step
+          x.ran x.retries x.round is ready.laws fit (round_left.inside ready.inside)
 
       -- each bind could be built, and the count of builds rose by at most one for each of some that were
       pub round_few : BuiltFew F old result None before after
@@ -132,5 +141,5 @@ module _ (M : Meaning) (old : Parts) (rooted : Work) (before : Counts) (ready : 
             omega (arith, roots p, more p, looks p, e, count_append p (map main nodes) (map main observed))
 
         pub round_rights : end.ran.items ≡ settled.work.ran.items → IsUpToDate F old result (nodes ++ observed)
-        round_rights ran_is = up_end M old settled before after ready.kept begins kept last.0 last.1 last.2 idle empty end r in_step ran retries round
-            (nodes ++ observed) all_rooted is ran_is
+        round_rights ran_is = up_end M old settled before after ready.kept begins kept last.0 last.1 last.2 idle empty end x.released x.step x.ran x.retries
+            x.round (nodes ++ observed) all_rooted is ran_is

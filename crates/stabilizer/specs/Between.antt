@@ -1,5 +1,6 @@
 -- What stands between rounds, of the parts alone, and what calls made there leave.
-use Rattle.std.specs.Prelude.{◌≡◌, ◌⊎◌, ◌<◌, ℕ, false, List, [], Option, None, Some}
+use Rattle.std.specs.Prelude.{◌≡◌, ◌⊎◌, ◌+◌, ◌++◌, ◌<◌, ◌≤◌, ℕ, false, List, [], ◌∷◌, Option, None, Some}
+use Rattle.inc_value.specs.Choice.{Among}
 use Rattle.inc_value.specs.declared.node.NodeId.{NodeId}
 use Rattle.inc_value.specs.declared.node.Point.{Point}
 use Rattle.inc_value.specs.declared.outcome.Outcome.{Outcome}
@@ -12,20 +13,23 @@ use Rattle.inc_terms.specs.Term.{Functions}
 use Rattle.point_map.specs.Rows.{at, Holds, KeepsRows}
 use Rattle.link_table.specs.Links.{times}
 use Rattle.necessary_graph.specs.Part.{Needed}
-use Rattle.node_arena.specs.Arena.{Arena, row_at, with_value}
+use Rattle.necessary_graph.specs.Sweep.{IsUnrooted}
+use Rattle.necessity.specs.Need.{OneRootMore}
+use Rattle.node_arena.specs.Arena.{Arena, row_at, live, Changes, with_value}
 use Rattle.inc_terms.specs.Work.{taken_by}
 use Rattle.stabilize_round.specs.State.{Call, count, all_retries}
 use Rattle.stabilize_round.specs.Invariant.{Recalls, ScopesRooted}
 use Rattle.node_outcomes.specs.Computing.{KeepsAnswers}
 use Rattle.node_outcomes.specs.Meaning.{Meaning}
-use Rattle.wiring.specs.Graph.{graph_at, died_at}
+use Rattle.wiring.specs.Graph.{graph_at, died_at, rowless}
 use Rattle.wiring.specs.Kept.{IsKept}
 use Rattle.stabilizer.specs.Kept.{PartsKept}
 use Rattle.stabilizer.specs.declared.parts.Parts.{Parts}
 use Rattle.map_nodes.specs.declared.cutoff.Cutoff.TheVariants.{Equal}
 use Rattle.stabilizer.specs.Look.{last_call, cutoff_at}
-use Rattle.stabilizer.specs.Round.{IsReady}
+use Rattle.stabilizer.specs.Round.{IsReady, AreRooted}
 use Rattle.node_outcomes.specs.Row.{settled_in, outcome_in}
+use Rattle.wiring.specs.Places.{ChangesNode}
 use Rattle.wiring.specs.Wiring.{KeepsRound}
 use Rattle.node_outcomes.specs.declared.row.Progress.{Progress}
 use Rattle.node_outcomes.specs.declared.row.Stage.TheVariants.{Full}
@@ -110,5 +114,65 @@ pub record HasDropped (old new : Parts) (count : ℕ) : Type 0 where
   pub heap : new.work.graph.heap ≡ old.work.graph.heap
   pub right_sides : (n : NodeId) → n.gen_ < count → at new.work.roots (change n) ≡ at old.work.roots (change n)
   pub unscoped : (n b : NodeId) (r : Row) → row_at new.arena n ≡ Some r → r.scope ≡ Some b → (n.gen_ < count) × (b.gen_ < count)
+  pub kept : PartsKept new
+  pub ready : (M : Meaning) → IsReady M old → IsReady M new
+
+-- ---- what calls between rounds leave
+
+-- as many nodes live as before, no id was given, and of what is kept beside the nodes only the heap may be another; a round may still begin
+pub record StaysButHeap (old new : Parts) : Type 0 where
+  pub lives : live new.arena ≡ live old.arena
+  pub given : new.arena.given ≡ old.arena.given
+  pub rows : new.work.rows ≡ old.work.rows
+  pub heights : new.work.graph.heights ≡ old.work.graph.heights
+  pub links : new.work.graph.links ≡ old.work.graph.links
+  pub roots : new.work.graph.roots ≡ old.work.graph.roots
+  pub right_sides : new.work.roots ≡ old.work.roots
+  pub ran : new.ran ≡ old.ran
+  pub kept : PartsKept new
+  pub ready : (M : Meaning) → IsReady M old → IsReady M new
+
+-- a node has a root less, and what is no longer needed lost its links; a round may still begin
+pub record LosesRoot (old new : Parts) (id : NodeId) : Type 0 where
+  pub unrooted : IsUnrooted (rowless old.work) old.work.graph new.work.graph (main id)
+  pub roots : OneRootMore new.work.graph.roots old.work.graph.roots (main id)
+  pub rooted : (before after : List NodeId) → AreRooted old.work (before ++ id ∷ after) → AreRooted new.work (before ++ after)
+  pub arena : new.arena ≡ old.arena
+  pub rows : new.work.rows ≡ old.work.rows
+  pub right_sides : new.work.roots ≡ old.work.roots
+  pub ran : new.ran ≡ old.ran
+  pub kept : PartsKept new
+  pub ready : (M : Meaning) → IsReady M old → IsReady M new
+
+-- a node was dropped with its points, and what is kept of others stays; a round may still begin
+pub record LosesNode (old new : Parts) (id : NodeId) : Type 0 where
+  pub dropped : Changes old.arena new.arena id None
+  pub lives : live new.arena + 1 ≡ live old.arena
+  pub given : new.arena.given ≡ old.arena.given
+  pub rows : ChangesNode old.work.rows new.work.rows id (λ part. None)
+  pub links : new.work.graph.links ≡ old.work.graph.links
+  pub roots : new.work.graph.roots ≡ old.work.graph.roots
+  pub heap : new.work.graph.heap ≡ old.work.graph.heap
+  pub right_sides : ChangesNode old.work.roots new.work.roots id (λ part. None)
+  pub scopes : new.scopes ≡ old.scopes
+  pub ran : new.ran ≡ old.ran
+  pub kept : PartsKept new
+  pub ready : (M : Meaning) → IsReady M old → IsReady M new
+
+-- no node is left whose id was given since the count, and what is kept of others stays; a round may still begin
+pub record IsTakenBack (old new : Parts) (count : ℕ) : Type 0 where
+  pub older : (n : NodeId) → n.gen_ < count → row_at new.arena n ≡ row_at old.arena n
+  pub dropped : (n : NodeId) → count ≤ n.gen_ → row_at new.arena n ≡ None
+  pub given : new.arena.given ≡ old.arena.given
+  pub no_pair : (n : NodeId) → Among n new.work.pairs.nodes → n.gen_ < count
+  pub no_scoped : (n : NodeId) → Among n new.work.scoped.nodes → n.gen_ < count
+  pub rows : (p : Point) → p.node.gen_ < count → at new.work.rows p ≡ at old.work.rows p
+  pub cutoffs : (n : NodeId) → n.gen_ < count → cutoff_at new.work n ≡ cutoff_at old.work n
+  pub other_cutoffs : (n : NodeId) → (cutoff_at new.work n ≡ cutoff_at old.work n) ⊎ (cutoff_at new.work n ≡ Equal)
+  pub links : new.work.graph.links ≡ old.work.graph.links
+  pub roots : new.work.graph.roots ≡ old.work.graph.roots
+  pub heap : new.work.graph.heap ≡ old.work.graph.heap
+  pub right_sides : (n : NodeId) → n.gen_ < count → at new.work.roots (change n) ≡ at old.work.roots (change n)
+  pub ran : new.ran ≡ old.ran
   pub kept : PartsKept new
   pub ready : (M : Meaning) → IsReady M old → IsReady M new

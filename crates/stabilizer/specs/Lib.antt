@@ -13,3 +13,4 @@ pub mod Giving
 pub mod Adding
 pub mod Rooted
 pub mod Staying
+pub mod Ended

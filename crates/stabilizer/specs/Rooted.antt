@@ -3,15 +3,18 @@ use Rattle.std.specs.Prelude.{◌≡◌, ◌≤◌, ◌+◌, ◌-◌, List, None
 use Rattle.inc_value.specs.declared.function.FnRef.{FnRef}
 use Rattle.inc_value.specs.declared.node.NodeId.{NodeId}
 use Rattle.inc_value.specs.declared.value.Value.{Value}
+use Rattle.inc_value.specs.declared.function.FnKind.TheVariants.{Rhs}
 use Rattle.inc_terms.specs.Depend.{change}
+use Rattle.inc_terms.specs.Within.{KnownAs}
 use Rattle.point_map.specs.Rows.{Rows, Changes, KeepsRows}
-use Rattle.node_arena.specs.Arena.{row_at}
+use Rattle.node_arena.specs.Arena.{row_at, IsLive}
 use Rattle.node_arena.specs.Building.{building_in}
-use Rattle.node_arena.specs.RightSide.{IsRoot, one_built}
+use Rattle.node_arena.specs.RightSide.{MayBuild, IsRoot, one_built}
 use Rattle.node_arena.specs.declared.functions.Functions.{Ghosts}
 use Rattle.wiring.specs.declared.refused.Refused.{Refused}
 use Rattle.wiring.specs.declared.refused.Refused.TheVariants.{Memory}
 use Rattle.stabilizer.specs.Building.{HasGrown, StopsBuilding}
+use Rattle.stabilizer.specs.Dying.{IsBindNode, IsBindOf}
 use Rattle.stabilizer.specs.Giving.{GivesLive}
 use Rattle.stabilizer.specs.Kept.{PartsKept, KeepsMeaning}
 use Rattle.stabilizer.specs.Weights.{SidesFit}
@@ -20,6 +23,18 @@ use Rattle.stabilizer.specs.declared.parts.Parts.{Parts}
 -- the parts with these roots of binds
 abbrev pub with_roots : Parts → Rows NodeId → Parts
 with_roots parts roots = record parts { work = record parts.work { roots = roots } }
+
+-- the right side of a value can be built for a bind: it lives, and its function, which is known, may build it from these captures
+pub record MayBuildFor {K More : Type 0} (keeper : Ghosts K More) (fs : K) (parts : Parts) (b : NodeId) (f : FnRef) (captures : List NodeId) (left : Value)
+    : Type 0 where
+  pub kept : PartsKept parts
+  pub live : IsLive parts.arena b
+  pub bind : IsBindNode parts.arena b
+  pub own : IsBindOf parts.arena b f
+  pub sound : keeper.is_sound fs
+  pub known : KnownAs (keeper.known fs) Rhs f
+  pub ready : MayBuild (building_in b parts.arena) f.sig (keeper.right fs f) left captures
+  pub fit : SidesFit (keeper.known fs) (keeper.right fs) parts.arena
 
 module _ {K More : Type 0} (keeper : Ghosts K More) (fs fs' : K) where
   -- a right side was built, or couldn't be

@@ -11,6 +11,7 @@ use Rattle.inc_terms.specs.Term.{Functions}
 use Rattle.point_map.specs.Rows.{at, Holds, KeepsRows}
 use Rattle.node_arena.specs.Arena.{Arena, row_at}
 use Rattle.node_arena.specs.RightSide.{RightSide}
+use Rattle.recompute_heap.specs.Agree.{IsEmpty}
 use Rattle.stabilize_round.specs.Calling.{cost_at}
 use Rattle.stabilize_round.specs.Counts.{RoseBy, RoseAtMost, number_of}
 use Rattle.stabilize_round.specs.Moves.{Quiet, IsLeast, CallIsDue, calls_of}
@@ -210,3 +211,24 @@ abbrev pub StepFalls : Meaning → Parts → Parts → Counts → Type 0
 StepFalls M old new before =
     (z : Start) (s : State) → IsRoundOf M z s → Quiet s → Stands old.arena old.work before None s → (points : List Point) (nodes : List NodeId)
     → CoversRows old.work points nodes → left_to_settle new.work points nodes < left_to_settle old.work points nodes
+
+-- ---- what a step says
+
+-- a point was settled, as a step of the round; so less is left
+pub record StepIsMade (M : Meaning) (old new : Parts) (before after : Counts) : Type 0 where
+  pub stepped : Steps M old new before after
+  pub settled : SettlesLeast M old new before after
+  pub falls : StepFalls M old new before
+  pub more : ¬ IsEmpty old.work.graph.heap
+
+-- the heap was empty, and nothing was done
+pub record NoneIsLeft (old new : Parts) (before after : Counts) : Type 0 where
+  pub empty : IsEmpty old.work.graph.heap
+  pub unchanged : new ≡ old
+  pub uncalled : after ≡ before
+
+-- a step was refused, and few ids were given; as full only in a build that lacked room
+pub record StepIsRefused (M : Meaning) (right : FnRef → RightSide) (old new : Parts) (before after : Counts) (e : Refused) : Type 0 where
+  pub refused : StepRefused M old new before after e
+  pub spends : GivesFew right old.arena.given new.arena
+  pub full : StepStopsFull M right old new before after e

@@ -1,35 +1,29 @@
 //! Binds that are built anew.
-ghost use Rattle.std.specs.Prelude.{◌≡◌, ◌≢◌, ◌⊎◌, ◌↔◌, ◌≤◌, ◌<◌, ◌+◌, ◌-◌, None, Some, IsTrue, IsErrOf, IfOk, IfErr, OnOk, OnErr, IfSome, IsSome, true, false, [], ◌∷◌, length, vec_len, vec_capacity, ℕ};
+ghost use Rattle.std.specs.Prelude.{◌≡◌, ◌↔◌, ◌≤◌, ◌<◌, ◌+◌, ◌-◌, None, Some, IfOk, IfErr, OnOk, OnErr, IsSome, true, [], length, vec_capacity, ℕ};
 ghost use Rattle.inc_value.specs.Choice.{Among, NoRepeats};
-ghost use Rattle.inc_value.specs.declared.function.FnKind.TheVariants.{Rhs};
 ghost use Rattle.inc_value.specs.declared.node.NodeId.{NodeId as ANode};
 ghost use Rattle.inc_value.specs.declared.node.Point.{Point as APoint};
-ghost use Rattle.inc_terms.specs.Depend.{change, main};
-ghost use Rattle.inc_terms.specs.Graph.{Row as ARow};
-ghost use Rattle.inc_terms.specs.Rebuild.{Inside};
-ghost use Rattle.inc_terms.specs.Within.{Given, KnownAs};
-ghost use Rattle.necessity.specs.Need.{KeepsRoots};
+ghost use Rattle.inc_terms.specs.Depend.{change};
 ghost use Rattle.necessary_graph.specs.Part.{Needed, IsInStep};
 ghost use Rattle.node_arena.specs.Arena.{row_at, live, IsLive};
-ghost use Rattle.node_arena.specs.Building.{building_in, Grows};
-ghost use Rattle.node_arena.specs.RightSide.{MayBuild, IsRoot, one_built, AreFit};
+ghost use Rattle.node_arena.specs.Building.{building_in};
+ghost use Rattle.node_arena.specs.RightSide.{IsRoot};
 ghost use Rattle.node_outcomes.specs.Meaning.{meaning_of};
 ghost use Rattle.node_outcomes.specs.Row.{settled_in};
 ghost use Rattle.node_arena.specs.Sound.{IsSound};
 ghost use Rattle.point_map.specs.Rows.{at, Holds, KeepsRows};
-ghost use Rattle.scopes.specs.Scopes.{StandsIn, IsApart, Enters, node_count};
+ghost use Rattle.scopes.specs.Scopes.{IsApart, Enters, node_count};
 ghost use Rattle.wiring.specs.Graph.{died_at};
 ghost use Rattle.wiring.specs.Kept.{IsKept};
-ghost use Rattle.wiring.specs.Wiring.{IsAtGate, KeepsPlaces, OnlyLoses, KeepsRound};
-ghost use Rattle.stabilizer.specs.Kept.{PartsKept, KeepsScopes, KeepsMeaning, counts_by, graph_in};
-ghost use Rattle.stabilizer.specs.Dying.{Dooms, AreDying, IsCutOff, HasDied, HaveGatesAlone, LeavesStanding, StandsBut, IsBindNode, IsBindOf, scope_at, AreListed, MayBury, AreBuried, LosesRight, IsDoomed, IsPutToGate, KeepsGate};
-ghost use Rattle.stabilizer.specs.Building.{HasGrown, IsUnbuilt, StopsBuilding};
+ghost use Rattle.stabilizer.specs.Kept.{PartsKept, counts_by, graph_in};
+ghost use Rattle.stabilizer.specs.Dying.{AreDying, IsCutOff, HasDied, HaveGatesAlone, LeavesStanding, StandsBut, scope_at, AreListed, MayBury, AreBuried, LosesRight, IsDoomed, IsPutToGate, KeepsGate};
+ghost use Rattle.stabilizer.specs.Building.{StopsBuilding};
 ghost use Rattle.stabilizer.specs.Building.{AdoptsBefore, NoneSince, MayAdopt, GetsPoints, KeepsRest};
 ghost use Rattle.stabilizer.specs.Building.{MayDisown, MayLeave, HaveLeft, HasDisowned, DropsSince};
 ghost use Rattle.stabilizer.specs.Rebuilding.{IsToBuild, BuildsAnew, BuildRefused, IsToSettle, RebuildStays};
-ghost use Rattle.stabilizer.specs.Rooted.{GetsRoot, GetsNoRoot};
+ghost use Rattle.stabilizer.specs.Rooted.{MayBuildFor, WasBuilt, GetsRoot, GetsNoRoot};
 ghost use Rattle.stabilizer.specs.Giving.{GivesLive};
-ghost use Rattle.stabilizer.specs.Weights.{SidesFit};
+ghost use Rattle.stabilizer.specs.Staying.{MayStep, ChangeIsTaken};
 
 use crate::parts::Parts;
 use inc_terms::Nodes;
@@ -72,31 +66,17 @@ impl Parts {
         recipe: &Recipe,
         given: Outcome,
     ) -> Result<(), Refused>
-        requires kept { PartsKept self.old }
+        requires may { MayStep F.Functions functions.old self.old }
         requires to_build { IsToBuild self.old node recipe.now.function recipe.now.captures given }
-        requires row { Holds self.old.work.rows (change node) }
-        requires needed { Needed self.old.work.graph (change node) }
-        requires taken { at self.old.work.graph.heap (change node) ≡ None }
-        requires quiet { self.old.work.todo.items ≡ [] }
-        requires sound { F.is_sound functions.old }
-        requires fit { SidesFit (F.known functions.old) (F.right functions.old) self.old.arena }
+        requires taken { ChangeIsTaken self.old.work node }
         ensures built { OnOk result (BuildsAnew (meaning_of F.Functions functions.old) self.old self.new node
             (counts_by F.Functions functions.old) (counts_by F.Functions functions.new)) }
         ensures refused { IfErr result (BuildRefused (meaning_of F.Functions functions.old) (F.right functions.new) self.old self.new node
             (counts_by F.Functions functions.old) (counts_by F.Functions functions.new)) }
         ensures gives { OnOk result (GivesLive self.old.arena.given 0 self.new.arena) }
-        ensures calls { F.calls functions.new ≡ F.calls functions.old }
-        ensures wants { F.wants functions.new ≡ F.wants functions.old }
         ensures settled { OnOk result (settled_in self.new.work.round (at self.new.work.rows (change node)) ≡ true) }
-        ensures own { (r : ARow) → row_at self.old.arena node ≡ Some r → row_at self.new.arena node ≡ Some r }
-        ensures there { Holds self.new.work.rows (change node) }
-        ensures ran { self.new.ran ≡ self.old.ran }
-        ensures roots { KeepsRoots self.old.work.graph.roots self.new.work.graph.roots }
-        ensures round { self.new.work.round ≡ self.old.work.round }
-        ensures quiet { self.new.work.todo.items ≡ [] }
         ensures kept { PartsKept self.new }
-        ensures fit { SidesFit (F.known functions.new) (F.right functions.new) self.new.arena }
-        ensures functions { KeepsMeaning F.Functions functions.old functions.new }
+        ensures stays { RebuildStays F.Functions functions.old functions.new self.old self.new node }
     {
         match self.renew(functions, node, recipe, &given) {
             Ok(()) => {
@@ -118,14 +98,9 @@ impl Parts {
         recipe: &Recipe,
         given: &Outcome,
     ) -> Result<(), Refused>
-        requires kept { PartsKept self.old }
+        requires may { MayStep F.Functions functions.old self.old }
         requires to_build { IsToBuild self.old node recipe.now.function recipe.now.captures given.now }
-        requires row { Holds self.old.work.rows (change node) }
-        requires needed { Needed self.old.work.graph (change node) }
-        requires taken { at self.old.work.graph.heap (change node) ≡ None }
-        requires quiet { self.old.work.todo.items ≡ [] }
-        requires sound { F.is_sound functions.old }
-        requires fit { SidesFit (F.known functions.old) (F.right functions.old) self.old.arena }
+        requires taken { ChangeIsTaken self.old.work node }
         ensures ready { OnOk result (IsToSettle F.Functions functions.old functions.new self.old self.new node given.now) }
         ensures refused { IfErr result (BuildRefused (meaning_of F.Functions functions.old) (F.right functions.new) self.old self.new node
             (counts_by F.Functions functions.old) (counts_by F.Functions functions.new)) }
@@ -147,9 +122,7 @@ impl Parts {
     fn cut_off(&mut self, bind: NodeId)
         requires kept { PartsKept self.old }
         requires live { IsLive self.old.arena bind }
-        requires row { Holds self.old.work.rows (change bind) }
-        requires needed { Needed self.old.work.graph (change bind) }
-        requires taken { at self.old.work.graph.heap (change bind) ≡ None }
+        requires taken { ChangeIsTaken self.old.work bind }
         requires quiet { self.old.work.todo.items ≡ [] }
         requires room { node_count self.old.scopes ≤ vec_capacity self.old.dying }
         ensures cut { IsCutOff self.old self.new bind }
@@ -275,15 +248,7 @@ impl Parts {
         recipe: &Recipe,
         left: &Value,
     ) -> Result<(), Refused>
-        requires kept { PartsKept self.old }
-        requires live { IsLive self.old.arena bind }
-        requires bind { IsBindNode self.old.arena bind }
-        requires own { IsBindOf self.old.arena bind recipe.now.function }
-        requires sound { F.is_sound functions.old }
-        requires known { KnownAs (F.known functions.old) Rhs recipe.now.function }
-        requires ready { MayBuild (building_in bind self.old.arena) recipe.now.function.sig
-            (F.right functions.old recipe.now.function) left.now recipe.now.captures }
-        requires fit { SidesFit (F.known functions.old) (F.right functions.old) self.old.arena }
+        requires may { MayBuildFor F.Functions functions.old self.old bind recipe.now.function recipe.now.captures left.now }
         requires rootless { at self.old.work.roots (change bind) ≡ None }
         ensures root { OnOk result (GetsRoot F.Functions functions.old functions.new self.old self.new bind
             recipe.now.function recipe.now.captures left.now) }
@@ -304,29 +269,15 @@ impl Parts {
         recipe: &Recipe,
         left: &Value,
     ) -> Result<NodeId, Refused>
-        requires kept { PartsKept self.old }
-        requires live { IsLive self.old.arena bind }
-        requires bind { IsBindNode self.old.arena bind }
-        requires own { IsBindOf self.old.arena bind recipe.now.function }
-        requires sound { F.is_sound functions.old }
-        requires known { KnownAs (F.known functions.old) Rhs recipe.now.function }
-        requires ready { MayBuild (building_in bind self.old.arena) recipe.now.function.sig
-            (F.right functions.old recipe.now.function) left.now recipe.now.captures }
-        requires fit { SidesFit (F.known functions.old) (F.right functions.old) self.old.arena }
-        ensures grown { OnOk result (HasGrown self.old self.new bind) }
-        ensures unbuilt { OnErr result (IsUnbuilt self.old self.new bind) }
+        requires { MayBuildFor F.Functions functions.old self.old bind recipe.now.function recipe.now.captures left.now }
+        ensures built { WasBuilt F.Functions functions.old functions.new self.old self.new bind }
+        ensures none { OnErr result ((n : ANode) → self.old.arena.given ≤ n.gen_ → row_at self.new.arena n ≡ None) }
         ensures root { IfOk result (λ n. IsRoot (building_in bind self.new.arena) recipe.now.captures n
             ((F.right functions.old recipe.now.function).term left.now) recipe.now.function.sig.gives) }
         ensures stops { IfErr result (StopsBuilding self.old.arena.given self.new.arena) }
-        ensures kept { PartsKept self.new }
         ensures gives { OnOk result (GivesLive self.old.arena.given 0 self.new.arena) }
         ensures spends { self.new.arena.given
             ≤ self.old.arena.given + (F.right functions.old recipe.now.function).size }
-        ensures tally { F.tally functions.new ≡ one_built (self.new.arena.given - self.old.arena.given) (F.tally functions.old) }
-        ensures calls { F.calls functions.new ≡ F.calls functions.old }
-        ensures wants { F.wants functions.new ≡ F.wants functions.old }
-        ensures fit { SidesFit (F.known functions.new) (F.right functions.new) self.new.arena }
-        ensures functions { KeepsMeaning F.Functions functions.old functions.new }
     {
         let count = self.arena.given();
         let built = self.arena.build(

@@ -1,5 +1,5 @@
 //! Steps and rounds.
-ghost use Rattle.std.specs.Prelude.{◌≡◌, ◌+◌, ◌++◌, ◌≤◌, [], None, Some, List, map, All, true};
+ghost use Rattle.std.specs.Prelude.{◌≡◌, [], None, Some, map, All, true};
 ghost use Rattle.std.specs.Prelude.{IfOk, OnOk, OnErr, IfErr, IfSome, IsTrue, IsFalse};
 ghost use Rattle.inc_value.specs.declared.node.NodeId.{NodeId};
 ghost use Rattle.inc_terms.specs.Code.{def_of};
@@ -7,11 +7,8 @@ ghost use Rattle.inc_terms.specs.Depend.{main, change};
 ghost use Rattle.inc_terms.specs.Graph.{Row as ARow};
 ghost use Rattle.inc_terms.specs.Within.{Given};
 ghost use Rattle.point_map.specs.Rows.{at, Holds};
-ghost use Rattle.stabilize_round.specs.Calling.{costs_of};
-ghost use Rattle.stabilize_round.specs.Counts.{RoseBy};
-ghost use Rattle.necessity.specs.Need.{KeepsRoots};
 ghost use Rattle.recompute_heap.specs.Agree.{IsEmpty};
-ghost use Rattle.necessary_graph.specs.Part.{Needed, IsInStep};
+ghost use Rattle.necessary_graph.specs.Part.{IsInStep};
 ghost use Rattle.node_arena.specs.Arena.{row_at};
 ghost use Rattle.node_outcomes.specs.Meaning.{functions_of, meaning_of};
 ghost use Rattle.node_outcomes.specs.Row.{settled_in, outcome_in};
@@ -19,15 +16,13 @@ ghost use Rattle.wiring.specs.Kept.{IsKept};
 ghost use Rattle.wiring.specs.Wiring.{PutsRoots, RootRefused};
 ghost use Rattle.stabilizer.specs.Kept.{PartsKept, KeepsMeaning, StaysFlat, WantsTell, counts_by};
 ghost use Rattle.stabilizer.specs.Rebuilding.{BuildRefused};
-ghost use Rattle.stabilizer.specs.Left.{LeavesTried};
-ghost use Rattle.stabilizer.specs.Look.{cutoff_at, look_refused};
-ghost use Rattle.stabilizer.specs.Round.{IsReady, AreRooted, IsUpToDate, IsLawful, HasCalledMet, ShowsStill};
-ghost use Rattle.stabilizer.specs.Round.{left_by, IsLeftBy, BuiltFew, BuildsAll, BuildsAllBut};
+ghost use Rattle.stabilizer.specs.Round.{IsReady};
 ghost use Rattle.stabilizer.specs.Round.{IsInRound, RootsMore, OnlyRoots, Settles, SettleRefused};
-ghost use Rattle.stabilizer.specs.Stepping.{MainIsSettled, MainIsLeft, IsUnbuiltBind, IsBuiltFor, IsTurnedAwake, IsAsleep, IsTurned, ChangeIsSettled, ChangeIsLeft, SettlesLeast};
-ghost use Rattle.stabilizer.specs.Stepping.{Steps, StepRefused, StepStopsFull, StepFalls};
+ghost use Rattle.stabilizer.specs.Ended.{RoundEnds, RoundStops, RoundLeaves};
+ghost use Rattle.stabilizer.specs.Stepping.{MainIsSettled, MainIsLeft, IsUnbuiltBind, IsBuiltFor, IsTurnedAwake, IsAsleep, IsTurned, ChangeIsSettled, ChangeIsLeft};
+ghost use Rattle.stabilizer.specs.Stepping.{StepIsMade, NoneIsLeft, StepIsRefused};
 ghost use Rattle.stabilizer.specs.Giving.{GivesLive, GivesFew, StopsFull};
-ghost use Rattle.stabilizer.specs.Staying.{RoundStays};
+ghost use Rattle.stabilizer.specs.Staying.{MayStep, ChangeIsTaken, RoundStays};
 ghost use Rattle.stabilizer.specs.Weights.{SidesFit};
 
 use crate::parts::Parts;
@@ -47,26 +42,14 @@ pub struct Stabilizer;
 impl Stabilizer {
     /// Takes a point of least height from the heap, any one of them, and settles it. False where the heap is empty.
     pub fn step<F: Functions>(parts: &mut Parts, functions: &mut F) -> Result<bool, Refused>
-        requires kept { PartsKept parts.old }
-        requires quiet { parts.old.work.todo.items ≡ [] }
-        requires sound { F.is_sound functions.old }
-        requires fit { SidesFit (F.known functions.old) (F.right functions.old) parts.old.arena }
-        ensures stepped { IfOk result (λ more. IsTrue more → Steps (meaning_of F.Functions functions.old)
-            parts.old parts.new (counts_by F.Functions functions.old) (counts_by F.Functions functions.new)) }
-        ensures settled { IfOk result (λ more. IsTrue more → SettlesLeast (meaning_of F.Functions functions.old) parts.old parts.new
+        requires { MayStep F.Functions functions.old parts.old }
+        ensures made { IfOk result (λ more. IsTrue more → StepIsMade (meaning_of F.Functions functions.old) parts.old parts.new
             (counts_by F.Functions functions.old) (counts_by F.Functions functions.new)) }
-        ensures more { IfOk result (λ more. IsTrue more → ¬ IsEmpty parts.old.work.graph.heap) }
-        ensures empty { IfOk result (λ more. IsFalse more → IsEmpty parts.old.work.graph.heap) }
-        ensures unchanged { IfOk result (λ more. IsFalse more → parts.new ≡ parts.old) }
-        ensures uncalled { IfOk result (λ more. IsFalse more → counts_by F.Functions functions.new ≡ counts_by F.Functions functions.old) }
-        ensures refused { IfErr result (StepRefused (meaning_of F.Functions functions.old) parts.old parts.new
+        ensures ended { IfOk result (λ more. IsFalse more → NoneIsLeft parts.old parts.new
             (counts_by F.Functions functions.old) (counts_by F.Functions functions.new)) }
-        ensures spends { OnErr result (GivesFew (F.right functions.new) parts.old.arena.given parts.new.arena) }
-        ensures full { IfErr result (StepStopsFull (meaning_of F.Functions functions.old) (F.right functions.new) parts.old parts.new
+        ensures refused { IfErr result (StepIsRefused (meaning_of F.Functions functions.old) (F.right functions.new) parts.old parts.new
             (counts_by F.Functions functions.old) (counts_by F.Functions functions.new)) }
         ensures quiet { OnOk result (parts.new.work.todo.items ≡ []) }
-        ensures falls { IfOk result (λ more. IsTrue more → StepFalls (meaning_of F.Functions functions.old)
-            parts.old parts.new (counts_by F.Functions functions.old)) }
         ensures stays { RoundStays F.Functions functions.old functions.new parts.old parts.new }
         ensures wants { WantsTell result (F.wants functions.old) (F.wants functions.new) }
     {
@@ -98,40 +81,10 @@ impl Stabilizer {
         requires sound { F.is_sound functions.old }
         requires fit { SidesFit (F.known functions.old) (F.right functions.old) parts.old.arena }
         requires given { All (Given parts.old.arena.given) roots.now }
-        ensures right { OnOk result ((observed : List NodeId) → AreRooted parts.old.work observed
-            → IsUpToDate (functions_of F.Functions functions.old) parts.old parts.new (roots.now ++ observed)) }
-        ensures calls { OnOk result (RoseBy (F.calls functions.old)
-            (costs_of (left_by parts.old parts.new) parts.new.ran.items) (F.calls functions.new)) }
-        ensures ready { OnOk result (IsReady (meaning_of F.Functions functions.new) parts.new) }
-        ensures gives { OnOk result (GivesLive parts.old.arena.given 0 parts.new.arena) }
-        ensures spends { OnErr result (GivesFew (F.right functions.new) parts.old.arena.given parts.new.arena) }
-        ensures full { IfErr result (StopsFull (F.right functions.new) parts.new.arena
-            (counts_by F.Functions functions.old) (counts_by F.Functions functions.new)) }
-        ensures fit { SidesFit (F.known functions.new) (F.right functions.new) parts.new.arena }
-        ensures round { OnOk result (parts.new.work.round ≡ parts.old.work.round + 1) }
-        ensures lawful { IfErr result (λ e. (observed : List NodeId) → AreRooted parts.old.work observed
-            → IsLawful (functions_of F.Functions functions.old) parts.old parts.new (roots.now ++ observed) e) }
-        ensures tried { IfErr result (LeavesTried (look_refused parts.new)) }
-        ensures few { OnErr result ((observed : List NodeId) → AreRooted parts.old.work observed
-            → HasCalledMet (functions_of F.Functions functions.old) parts.old parts.new (roots.now ++ observed)
-            (F.calls functions.old) (F.calls functions.new)) }
-        ensures kept { OnErr result (PartsKept parts.new) }
-        ensures cutoffs { OnErr result ((n : NodeId) (r : ARow) → row_at parts.new.arena n ≡ Some r
-            → cutoff_at parts.new.work n ≡ cutoff_at parts.old.work n) }
-        ensures shows { OnErr result ((n : NodeId) → Given parts.old.arena.given n
-            → ShowsStill (functions_of F.Functions functions.old) parts.old parts.new n) }
-        ensures left { IsLeftBy (functions_of F.Functions functions.old) parts.old parts.new
-            (counts_by F.Functions functions.old) (counts_by F.Functions functions.new) }
-        ensures builds { OnOk result (BuiltFew (functions_of F.Functions functions.old) parts.old parts.new None
-            (counts_by F.Functions functions.old) (counts_by F.Functions functions.new)) }
-        ensures built { OnOk result ((observed : List NodeId) → AreRooted parts.old.work observed
-            → BuildsAll (functions_of F.Functions functions.old) parts.old parts.new (roots.now ++ observed)) }
-        ensures unbuilt { IfErr result (λ e. (observed : List NodeId) → AreRooted parts.old.work observed
-            → BuildsAllBut (functions_of F.Functions functions.old) parts.old parts.new (roots.now ++ observed) e) }
-        ensures ran { OnErr result (parts.new.ran ≡ parts.old.ran) }
-        ensures functions { KeepsMeaning F.Functions functions.old functions.new }
+        ensures ended { OnOk result (RoundEnds F.Functions functions.old functions.new parts.old parts.new roots.now) }
+        ensures refused { IfErr result (RoundStops F.Functions functions.old functions.new parts.old parts.new roots.now) }
+        ensures leaves { RoundLeaves F.Functions functions.old functions.new parts.old parts.new }
         ensures wants { WantsTell result (F.wants functions.old) (F.wants functions.new) }
-        ensures flat { StaysFlat parts.old.arena parts.new.arena }
     {
         let Some(next) = parts.work.round.checked_add(1) else {
             return Err(Refused::Memory);
@@ -165,10 +118,7 @@ fn put_roots(work: &mut Work, arena: &Arena, roots: &[NodeId]) -> Result<(), Ref
 
 /// Makes steps until the heap is empty.
 fn settle_all<F: Functions>(parts: &mut Parts, functions: &mut F) -> Result<(), Refused>
-    requires kept { PartsKept parts.old }
-    requires quiet { parts.old.work.todo.items ≡ [] }
-    requires sound { F.is_sound functions.old }
-    requires fit { SidesFit (F.known functions.old) (F.right functions.old) parts.old.arena }
+    requires may { MayStep F.Functions functions.old parts.old }
     requires in_round { IsInRound (meaning_of F.Functions functions.old) parts.old (counts_by F.Functions functions.old) }
     ensures settled { OnOk result (Settles (meaning_of F.Functions functions.old) parts.old parts.new
         (counts_by F.Functions functions.old) (counts_by F.Functions functions.new)) }
@@ -179,15 +129,9 @@ fn settle_all<F: Functions>(parts: &mut Parts, functions: &mut F) -> Result<(), 
     ensures spends { OnErr result (GivesFew (F.right functions.new) parts.old.arena.given parts.new.arena) }
     ensures full { IfErr result (StopsFull (F.right functions.new) parts.new.arena
         (counts_by F.Functions functions.old) (counts_by F.Functions functions.new)) }
-    ensures fit { SidesFit (F.known functions.new) (F.right functions.new) parts.new.arena }
-    ensures kept { PartsKept parts.new }
     ensures quiet { OnOk result (parts.new.work.todo.items ≡ []) }
-    ensures roots { KeepsRoots parts.old.work.graph.roots parts.new.work.graph.roots }
-    ensures round { parts.new.work.round ≡ parts.old.work.round }
-    ensures ran { parts.new.ran ≡ parts.old.ran }
-    ensures functions { KeepsMeaning F.Functions functions.old functions.new }
+    ensures stays { RoundStays F.Functions functions.old functions.new parts.old parts.new }
     ensures wants { WantsTell result (F.wants functions.old) (F.wants functions.new) }
-    ensures flat { StaysFlat parts.old.arena parts.new.arena }
 {
     while Stabilizer::step(parts, functions)? {}
     Ok(())
@@ -199,11 +143,9 @@ fn step_main<F: Functions>(
     functions: &mut F,
     node: NodeId,
 ) -> Result<(), Refused>
-    requires kept { PartsKept parts.old }
+    requires may { MayStep F.Functions functions.old parts.old }
     requires row { Holds parts.old.work.rows (main node) }
     requires taken { at parts.old.work.graph.heap (main node) ≡ None }
-    requires sound { F.is_sound functions.old }
-    requires fit { SidesFit (F.known functions.old) (F.right functions.old) parts.old.arena }
     ensures settled { OnOk result (MainIsSettled (functions_of F.Functions functions.old) parts.old.arena parts.old.work parts.new.work
         node (counts_by F.Functions functions.old) (counts_by F.Functions functions.new)) }
     ensures refused { OnErr result (MainIsLeft parts.old.arena parts.old.work parts.new.work node
@@ -242,13 +184,8 @@ fn step_change<F: Functions>(
     functions: &mut F,
     node: NodeId,
 ) -> Result<(), Refused>
-    requires kept { PartsKept parts.old }
-    requires row { Holds parts.old.work.rows (change node) }
-    requires needed { Needed parts.old.work.graph (change node) }
-    requires taken { at parts.old.work.graph.heap (change node) ≡ None }
-    requires quiet { parts.old.work.todo.items ≡ [] }
-    requires sound { F.is_sound functions.old }
-    requires fit { SidesFit (F.known functions.old) (F.right functions.old) parts.old.arena }
+    requires may { MayStep F.Functions functions.old parts.old }
+    requires taken { ChangeIsTaken parts.old.work node }
     ensures settled { OnOk result (ChangeIsSettled (meaning_of F.Functions functions.old) parts.old parts.new node
         (counts_by F.Functions functions.old) (counts_by F.Functions functions.new)) }
     ensures refused { IfErr result (ChangeIsLeft (meaning_of F.Functions functions.old) (F.right functions.new) parts.old parts.new node
@@ -276,13 +213,8 @@ fn turn_change<F: Functions>(
     functions: &mut F,
     node: NodeId,
 ) -> Result<(), Refused>
-    requires kept { PartsKept parts.old }
-    requires row { Holds parts.old.work.rows (change node) }
-    requires needed { Needed parts.old.work.graph (change node) }
-    requires taken { at parts.old.work.graph.heap (change node) ≡ None }
-    requires quiet { parts.old.work.todo.items ≡ [] }
-    requires sound { F.is_sound functions.old }
-    requires fit { SidesFit (F.known functions.old) (F.right functions.old) parts.old.arena }
+    requires may { MayStep F.Functions functions.old parts.old }
+    requires taken { ChangeIsTaken parts.old.work node }
     ensures turned { OnOk result (IsTurned (meaning_of F.Functions functions.old) parts.old parts.new node
         (counts_by F.Functions functions.old) (counts_by F.Functions functions.new)) }
     ensures refused { IfErr result (BuildRefused (meaning_of F.Functions functions.old) (F.right functions.new) parts.old parts.new node

@@ -1,8 +1,8 @@
 use Rattle.std.proofs.Common.{◌≡◌}
 use Rattle.stabilizer.specs.Giving.{GivesLive}
-use Rattle.stabilizer.specs.Weights.{SidesFit}
 use Rattle.node_outcomes.specs.Meaning.{meaning_of}
-use Rattle.stabilizer.specs.Kept.{KeepsMeaning, StaysFlat, counts_by}
+use Rattle.stabilizer.specs.Kept.{counts_by}
+use Rattle.stabilizer.specs.Staying.{RoundStays}
 use Rattle.stabilizer.specs.Stepping.{left_to_settle}
 use Rattle.stabilizer.proofs.EveryPoint.{every_point, every_node}
 use Rattle.stabilizer.proofs.Rounding.{AreSettled}
@@ -12,11 +12,9 @@ abbrev pub invariant-loop : goal.invariant-loop
 invariant-loop g l = record {
   so : AreSettled (meaning_of g.F.Functions l.fn.functions) l.fn.parts l.parts (counts_by g.F.Functions l.fn.functions)
       (counts_by g.F.Functions l.functions);
-  fit : SidesFit (g.F.Functions.known l.functions) (g.F.Functions.right l.functions) l.parts.arena;
-  functions : KeepsMeaning g.F.Functions l.fn.functions l.functions;
+  stays : RoundStays g.F.Functions l.fn.functions l.functions l.fn.parts l.parts;
   wants : g.F.Functions.wants l.functions ≡ g.F.Functions.wants l.fn.functions;
   gives : GivesLive l.fn.parts.arena.given 0 l.parts.arena;
-  flat : StaysFlat l.fn.parts.arena l.parts.arena;
 }
 
 abbrev pub decreases-loop : goal.decreases-loop

@@ -19,12 +19,12 @@ returns-in-Err-clause-refused g c =
     let n = c.args.node in
     let marked = subst (λ (x : Point). IsMarked mid.work.graph c.schedule.new.self.graph x) c.change_point.ensures c.schedule.ensures.scheduled in
     left_again (meaning_of g.F.Functions c.args.functions.now) old mid n (counts_by g.F.Functions c.args.functions.now)
-    (counts_by g.F.Functions c.turn_change.new.functions) c.schedule.new.self c.turn_change.ensures.stays.kept c.requires.needed marked c.schedule.ensures.rest
+    (counts_by g.F.Functions c.turn_change.new.functions) c.schedule.new.self c.turn_change.ensures.stays.kept c.requires.taken.needed marked c.schedule.ensures.rest
     (g.F.Functions.right c.turn_change.new.functions) c.in-Err.refused c.in-Err.ensures.refused
 
 pub attach_right-requires-clause-row : goal.attach_right-requires-clause-row
 attach_right-requires-clause-row g c =
-    let two = two_points c.args.parts.now.arena c.args.parts.now.work c.args.node c.requires.kept.work c.requires.row in
+    let two = two_points c.args.parts.now.arena c.args.parts.now.work c.args.node c.requires.may.kept.work c.requires.taken.row in
     (two.0, c.turn_change.ensures.row two.0 two.1, two.2)
 
 pub returns-in_err-attach_right-clause-refused : goal.returns-in_err-attach_right-clause-refused
@@ -63,7 +63,7 @@ returns-in-Err-clause-stays g c =
     let stays = c.turn_change.ensures.stays in
     let marked = subst (λ (x : Point). IsMarked mid.work.graph c.schedule.new.self.graph x) c.change_point.ensures c.schedule.ensures.scheduled in
     let kept = again_kept (meaning_of g.F.Functions c.args.functions.now) old mid c.args.node (counts_by g.F.Functions c.args.functions.now)
-    (counts_by g.F.Functions c.turn_change.new.functions) c.schedule.new.self stays.kept c.requires.needed marked c.schedule.ensures.rest
+    (counts_by g.F.Functions c.turn_change.new.functions) c.schedule.new.self stays.kept c.requires.taken.needed marked c.schedule.ensures.rest
     c.turn_change.ensures.there c.schedule.ensures.step in
     work_moved g.F.Functions c.args.functions.now old mid c.schedule.new.self stays kept.work
     (λ p. ap (λ (r : Roots). root_times r p) c.schedule.ensures.scheduled.graph.roots) (ap (λ (w : Work). w.round) c.schedule.ensures.rest)

@@ -25,22 +25,22 @@ use Rattle.stabilizer.proofs.stabilizer.turn_change.Goals as goal
 
 pub returns-in_default-clause-turned : goal.returns-in_default-clause-turned
 returns-in_default-clause-turned g c =
-    let two = two_points c.args.parts.now.arena c.args.parts.now.work c.args.node c.requires.kept.work c.requires.row in
+    let two = two_points c.args.parts.now.arena c.args.parts.now.work c.args.node c.requires.may.kept.work c.requires.taken.row in
     absurd (none-some two.0 (c.in_default.ensures ∙ two.1))
 
 pub returns-in_default-clause-settled : goal.returns-in_default-clause-settled
 returns-in_default-clause-settled g c =
-    let two = two_points c.args.parts.now.arena c.args.parts.now.work c.args.node c.requires.kept.work c.requires.row in
+    let two = two_points c.args.parts.now.arena c.args.parts.now.work c.args.node c.requires.may.kept.work c.requires.taken.row in
     absurd (none-some two.0 (c.in_default.ensures ∙ two.1))
 
 pub returns-in_default-subject-clause-turned : goal.returns-in_default-subject-clause-turned
 returns-in_default-subject-clause-turned g c =
-    has_subject c.args.parts.now.arena c.args.parts.now.work c.args.node c.requires.kept.work c.requires.row (row_of c.in-Some.row.now)
+    has_subject c.args.parts.now.arena c.args.parts.now.work c.args.node c.requires.may.kept.work c.requires.taken.row (row_of c.in-Some.row.now)
     (sym c.in-Some.ensures) (sym c.subject.ensures ∙ c.in_default-subject.is)
 
 pub returns-in_default-subject-clause-settled : goal.returns-in_default-subject-clause-settled
 returns-in_default-subject-clause-settled g c =
-    has_subject c.args.parts.now.arena c.args.parts.now.work c.args.node c.requires.kept.work c.requires.row (row_of c.in-Some.row.now)
+    has_subject c.args.parts.now.arena c.args.parts.now.work c.args.node c.requires.may.kept.work c.requires.taken.row (row_of c.in-Some.row.now)
     (sym c.in-Some.ensures) (sym c.subject.ensures ∙ c.in_default-subject.is)
 
 -- ---- without memory nothing is done
@@ -66,12 +66,12 @@ returns-in-Ok-None-clause-turned g c =
     let r = row_of c.in-Some.row.now in
     let ran : IsBuiltFor r.def (outcome_in (at old.work.rows (change c.args.node))) c.in_ok-given.given = c.in-Ok-None.ensures.built c.in-Ok-None.field-0-is in
     on_ok c.turn_as_built.result (λ t. turned (is_turned old.arena old.work t.woken c.turn_as_built.new.work c.args.node c.in-Some-subject.subject r
-    c.in_ok-given.given c.requires.kept.work c.requires.row c.requires.needed (sym c.in-Some.ensures) (sym c.subject.ensures ∙ c.in-Some-subject.is)
+    c.in_ok-given.given c.requires.may.kept.work c.requires.taken.row c.requires.taken.needed (sym c.in-Some.ensures) (sym c.subject.ensures ∙ c.in-Some-subject.is)
     t.wakes.rest t.turned c.in_ok-given.ensures ran t.wakes.listed) refl refl) c.turn_as_built.ensures.turned
 
 pub returns-in-Ok-None-clause-refused : goal.returns-in-Ok-None-clause-refused
 returns-in-Ok-None-clause-refused g c = if_err c.turn_as_built.result (λ e asleep. woken_refused c.args.parts.now c.turn_as_built.new.work asleep.rest
-    c.requires.quiet asleep.quiet (meaning_of g.F.Functions c.args.functions.now) (g.F.Functions.right c.args.functions.now) c.args.node (counts_by g.F.Functions c.args.functions.now) e asleep.memory)
+    c.requires.may.quiet asleep.quiet (meaning_of g.F.Functions c.args.functions.now) (g.F.Functions.right c.args.functions.now) c.args.node (counts_by g.F.Functions c.args.functions.now) e asleep.memory)
     c.turn_as_built.ensures.refused
 
 pub returns-in-Ok-None-clause-settled : goal.returns-in-Ok-None-clause-settled
@@ -79,7 +79,7 @@ returns-in-Ok-None-clause-settled g c =
     let old = c.args.parts.now in
     let r = row_of c.in-Some.row.now in
     on_ok c.turn_as_built.result (λ t. turned_settled old.arena old.work t.woken c.turn_as_built.new.work c.args.node c.in-Some-subject.subject r
-    c.in_ok-given.given c.requires.kept.work c.requires.row c.requires.needed (sym c.in-Some.ensures) (sym c.subject.ensures ∙ c.in-Some-subject.is)
+    c.in_ok-given.given c.requires.may.kept.work c.requires.taken.row c.requires.taken.needed (sym c.in-Some.ensures) (sym c.subject.ensures ∙ c.in-Some-subject.is)
     t.wakes.rest t.turned) c.turn_as_built.ensures.turned
 
 pub returns-in-Ok-None-clause-there : goal.returns-in-Ok-None-clause-there
@@ -88,9 +88,9 @@ returns-in-Ok-None-clause-there g c =
     let r = row_of c.in-Some.row.now in
     by_result c.turn_as_built.result c.turn_as_built.ensures.turned c.turn_as_built.ensures.refused
     (λ t. turned_own old.arena old.work t.woken c.turn_as_built.new.work c.args.node c.in-Some-subject.subject r
-    c.in_ok-given.given c.requires.kept.work c.requires.row c.requires.needed (sym c.in-Some.ensures) (sym c.subject.ensures ∙ c.in-Some-subject.is)
+    c.in_ok-given.given c.requires.may.kept.work c.requires.taken.row c.requires.taken.needed (sym c.in-Some.ensures) (sym c.subject.ensures ∙ c.in-Some-subject.is)
     t.wakes.rest t.turned)
-    (λ e asleep. woken_own old c.turn_as_built.new.work asleep.rest (change c.args.node) c.requires.row)
+    (λ e asleep. woken_own old c.turn_as_built.new.work asleep.rest (change c.args.node) c.requires.taken.row)
 
 -- ---- a bind is built anew
 
@@ -113,25 +113,25 @@ returns-in-Ok-Some-clause-turned g c =
     } in
     both_ok {P = BuildsAnew (meaning_of g.F.Functions c.args.functions.now) c.args.parts.now c.rebuild-built.new.self c.args.node
     (counts_by g.F.Functions c.args.functions.now) (counts_by g.F.Functions c.rebuild-built.new.functions)} c.rebuild-built.result
-    (λ anew gives. built to_build anew c.rebuild-built.ensures.calls gives) c.rebuild-built.ensures.built c.rebuild-built.ensures.gives
+    (λ anew gives. built to_build anew c.rebuild-built.ensures.stays.calls gives) c.rebuild-built.ensures.built c.rebuild-built.ensures.gives
 
 -- ---- what stays
 
 pub returns-in_default-clause-stays : goal.returns-in_default-clause-stays
 returns-in_default-clause-stays g c =
-    nothing_done g.F.Functions c.args.functions.now c.args.parts.now c.requires.kept c.requires.sound c.requires.fit
+    nothing_done g.F.Functions c.args.functions.now c.args.parts.now c.requires.may
 
 pub returns-in_default-subject-clause-stays : goal.returns-in_default-subject-clause-stays
 returns-in_default-subject-clause-stays g c =
-    nothing_done g.F.Functions c.args.functions.now c.args.parts.now c.requires.kept c.requires.sound c.requires.fit
+    nothing_done g.F.Functions c.args.functions.now c.args.parts.now c.requires.may
 
 pub returns-in_err-given-clause-stays : goal.returns-in_err-given-clause-stays
 returns-in_err-given-clause-stays g c =
-    nothing_done g.F.Functions c.args.functions.now c.args.parts.now c.requires.kept c.requires.sound c.requires.fit
+    nothing_done g.F.Functions c.args.functions.now c.args.parts.now c.requires.may
 
 pub returns-in-Err-clause-stays : goal.returns-in-Err-clause-stays
 returns-in-Err-clause-stays g c =
-    nothing_done g.F.Functions c.args.functions.now c.args.parts.now c.requires.kept c.requires.sound c.requires.fit
+    nothing_done g.F.Functions c.args.functions.now c.args.parts.now c.requires.may
 
 pub returns-in-Ok-None-clause-stays : goal.returns-in-Ok-None-clause-stays
 returns-in-Ok-None-clause-stays g c =
@@ -144,16 +144,16 @@ returns-in-Ok-None-clause-stays g c =
     let row = sym c.in-Some.ensures in
     let is_subject = sym c.subject.ensures ∙ c.in-Some-subject.is in
     let ran : IsBuiltFor r.def (outcome_in (at old.work.rows (change n))) given = c.in-Ok-None.ensures.built c.in-Ok-None.field-0-is in
-    let before = nothing_done g.F.Functions c.args.functions.now old c.requires.kept c.requires.sound c.requires.fit in
+    let before = nothing_done g.F.Functions c.args.functions.now old c.requires.may in
     by_result c.turn_as_built.result c.turn_as_built.ensures.turned c.turn_as_built.ensures.refused
     (λ t. work_moved g.F.Functions c.args.functions.now old old new before
-    (turned_kept old.arena old.work t.woken new n subject r given c.requires.kept.work c.requires.row c.requires.needed row is_subject t.wakes.rest
+    (turned_kept old.arena old.work t.woken new n subject r given c.requires.may.kept.work c.requires.taken.row c.requires.taken.needed row is_subject t.wakes.rest
     t.turned c.in_ok-given.ensures ran)
-    (turned_roots old.arena old.work t.woken new n subject r given c.requires.kept.work c.requires.row c.requires.needed row is_subject t.wakes.rest
+    (turned_roots old.arena old.work t.woken new n subject r given c.requires.may.kept.work c.requires.taken.row c.requires.taken.needed row is_subject t.wakes.rest
     t.turned)
-    (turned_round old.arena old.work t.woken new n subject r given c.requires.kept.work c.requires.row c.requires.needed row is_subject t.wakes.rest
+    (turned_round old.arena old.work t.woken new n subject r given c.requires.may.kept.work c.requires.taken.row c.requires.taken.needed row is_subject t.wakes.rest
     t.turned))
-    (λ e asleep. let kept = woken_kept old new asleep.rest c.requires.kept in
+    (λ e asleep. let kept = woken_kept old new asleep.rest c.requires.may.kept in
     work_moved g.F.Functions c.args.functions.now old old new before kept.work (woken_roots old new asleep.rest) (woken_round old new asleep.rest))
 
 pub returns-in-Ok-Some-clause-stays : goal.returns-in-Ok-Some-clause-stays
@@ -166,10 +166,10 @@ returns-in-Ok-Some-clause-stays g c =
     c.in-Ok-Some.field-0 recipe c.in-Ok-Some.field-0-is c.in-Ok-Some.ensures.due in
     record {
       kept = b.kept;
-      fit = b.fit;
-      functions = b.functions;
+      fit = b.stays.fit;
+      functions = b.stays.meaning;
       flat = λ none. absurd (none c.args.node r (sym c.in-Some.ensures) (due.0, recipe.function, recipe.captures, due.1));
-      roots = b.roots;
-      round = b.round;
-      ran = b.ran;
+      roots = b.stays.roots;
+      round = b.stays.round;
+      ran = b.stays.ran;
     }

@@ -43,12 +43,12 @@ invariant_of-self g c = (
   c.self.invariant.0,
   (let a = c.set_var.ensures in
       sound_still _ c.self.inside.parts c.set_var.new.self c.self.inside.observers.items c.self.inside.rooted c.self.inside.refused c.self.invariant.1
-      (rw (← c.self.view_is) at c.in-Ok.ensures.unbroken) (a.ready _) (λ p. ap (λ (r : Roots). root_times r p) a.roots)
-      (omega (arith, a.given)) (λ n given. ap (λ (m : Rows Progress). at m (main n)) a.rows)),
+      (rw (← c.self.view_is) at c.in-Ok.ensures.unbroken) (a.stays.ready _) (λ p. ap (λ (r : Roots). root_times r p) a.stays.roots)
+      (omega (arith, a.stays.given)) (λ n given. ap (λ (m : Rows Progress). at m (main n)) a.stays.rows)),
   c.self.invariant.2,
   (let a = c.set_var.ensures in
       set_answer_fit (g.F.Functions.known c.self.inside.functions) (g.F.Functions.right c.self.inside.functions) c.self.inside.parts c.set_var.new.self
-      c.args.node c.args.value c.set_var.result a.set a.err (omega (arith, a.given)) c.self.invariant.3),
+      c.args.node c.args.value c.set_var.result a.set a.err (omega (arith, a.stays.given)) c.self.invariant.3),
 )
 
 pub returns-clause-set : goal.returns-clause-set
@@ -57,14 +57,14 @@ returns-clause-set g c =
     let beside = λ (set : IsSet c.self.inside.parts.arena c.set_var.new.self.arena c.args.node c.args.value)
     (variable : (IsVariable c.self.inside.parts.arena c.args.node → ⊥) → ⊥). beside_as c.self.inside.functions
     c.self.inside.parts c.set_var.new.self c.self.inside.observers.items c.self.inside.rooted c.self.inside.refused (Given c.self.inside.parts.arena.given)
-    a.ran a.links a.roots (λ p given. ap (λ (m : Rows Progress). at m p) a.rows)
-    (λ n given. built_set c.self.inside.parts c.set_var.new.self c.args.node c.args.value set variable a.rows
-    (λ m. ap (λ (roots : Rows NodeId). at roots (change m)) a.right_sides) n)
-    (λ n. inl (ap (λ (m : Rows Progress). cutoff_in (at m (main n))) a.rows)) in
+    a.stays.ran a.stays.links a.stays.roots (λ p given. ap (λ (m : Rows Progress). at m p) a.stays.rows)
+    (λ n given. built_set c.self.inside.parts c.set_var.new.self c.args.node c.args.value set variable a.stays.rows
+    (λ m. ap (λ (roots : Rows NodeId). at roots (change m)) a.stays.right_sides) n)
+    (λ n. inl (ap (λ (m : Rows Progress). cutoff_in (at m (main n))) a.stays.rows)) in
     let passes : Passes c.set_var.result c.match-set_var.result = elim c.match-set_var.branch [
       | in-Ok-set_var w ↦ subst (λ r. Passes r c.match-set_var.result) (sym w.in-Ok-set_var.is) w.result-is
       | in-Err-set_var w ↦ subst (λ r. Passes r c.match-set_var.result) (sym w.in-Err-set_var.is) (w.result-is ∙ ap Err w.set_fault.ensures)
     ] in
     rw (← c.self.view_is) (ok_passes _ c.set_var.result c.match-set_var.result passes
-    (on_ok c.set_var.result (λ set. record { beside = beside set.0 set.1; given = a.given; set = set.0 })
+    (on_ok c.set_var.result (λ set. record { beside = beside set.0 set.1; given = a.stays.given; set = set.0 })
     (set_variable _ c.set_var.result a.unknown a.not_var a.set)))

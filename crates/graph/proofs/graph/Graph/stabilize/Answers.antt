@@ -25,14 +25,17 @@ returns-in-Err-clause-refused g c cause is =
     rw (← c.self.view_is) (refused_in (functions_of g.F.Functions c.self.inside.functions) c.self.inside.functions c.self.inside.functions parts parts
     c.self.inside.observers.items c.self.inside.rooted c.self.inside.refused still Memory cause (let e = is in cc)
     (record { given = omega arith; clock = refl; frozen = λ n given. refl; lists = λ n given. refl; rows = λ n given. inl refl })
-    refl (λ n r row. refl) (λ n given. inl refl) (tt, tt) tt
-    (None, record {
-      stays = λ b r given row. inl refl;
-      made = λ b r late row. let given = kept.sound.given b (ap is_some row) in absurd (omega (arith, given, late));
-      refused = λ b e. absurd (cc);
-      was = λ b e given. absurd (cc);
-      scoped = λ n r b late row scope none. let given = kept.sound.given n (ap is_some row) in absurd (omega (arith, given, late));
-    }, (λ b e. absurd (cc))))
+    refl (λ n r row. refl) (λ n given. inl refl) (tt, tt) tt (
+      None,
+      record {
+        stays = λ b r given row. inl refl;
+        made = λ b r late row. let given = kept.sound.given b (ap is_some row) in absurd (omega (arith, given, late));
+        refused = λ b e. absurd (cc);
+        was = λ b e given. absurd (cc);
+        scoped = λ n r b late row scope none. let given = kept.sound.given n (ap is_some row) in absurd (omega (arith, given, late));
+      },
+      (λ b e. absurd (cc)),
+    ))
 
 pub run-ended-requires-clause-given : goal.run-ended-requires-clause-given
 run-ended-requires-clause-given g c =
@@ -51,32 +54,32 @@ returns-in-Ok-ended-clause-brought g c =
     let still = rw (← c.self.view_is) at c.in_default.ensures.none in
     let can = c.self.invariant.1.unbroken still in let within = c.self.invariant.1.earlier in
     let roots : c.deref-2.result.now ≡ in_use (drop rooted os) = c.deref-2.ensures.value ∙ rw c.deref.ensures.value at c.in-Ok.ensures in
-    let right = all_right M old new os rooted can within (rw roots at c.in-Ok-ended.ensures.right) in
+    let right = all_right M old new os rooted can within (rw roots at c.in-Ok-ended.ensures.ended.right) in
     let same : c.len-self-inside.result ≡ length os = c.len-self-inside.ensures ∙ (sym c.deref.ensures.len ∙ ap length c.deref.ensures.value) in
     rw (← c.self.view_is) (accepted M.functions c.self.inside.functions c.run-ended.new.functions old new os rooted c.self.inside.refused still
-    c.len-self-inside.result same c.run-ended.ensures.left.rest
-    (all_built M old new os rooted can within (rw roots at c.in-Ok-ended.ensures.built)) right)
+    c.len-self-inside.result same c.run-ended.ensures.leaves.left.rest
+    (all_built M old new os rooted can within (rw roots at c.in-Ok-ended.ensures.ended.built)) right)
 
 pub returns-in-Ok-ended-clause-left : goal.returns-in-Ok-ended-clause-left
-returns-in-Ok-ended-clause-left g c unbroken = rw (← c.self.view_is) c.run-ended.ensures.left.nodes
+returns-in-Ok-ended-clause-left g c unbroken = rw (← c.self.view_is) c.run-ended.ensures.leaves.left.nodes
 
 pub returns-in-Ok-ended-clause-builds : goal.returns-in-Ok-ended-clause-builds
-returns-in-Ok-ended-clause-builds g c = rw (← c.self.view_is) c.in-Ok-ended.ensures.builds
+returns-in-Ok-ended-clause-builds g c = rw (← c.self.view_is) c.in-Ok-ended.ensures.ended.builds
 
 pub returns-in-Ok-ended-clause-ids : goal.returns-in-Ok-ended-clause-ids
 returns-in-Ok-ended-clause-ids g c =
     let right = g.F.Functions.right c.run-ended.new.functions in
     let nodes = c.run-ended.new.parts.arena in
-    rw (← c.self.view_is) (ids_few right nodes c.run-ended.ensures.fit.scopes c.in-Ok-ended.ensures.ready.kept.work.scopes
-    c.self.inside.parts.arena.given (live_few right c.self.inside.parts.arena.given nodes c.in-Ok-ended.ensures.gives))
+    rw (← c.self.view_is) (ids_few right nodes c.run-ended.ensures.leaves.fit.scopes c.in-Ok-ended.ensures.ended.ready.kept.work.scopes
+    c.self.inside.parts.arena.given (live_few right c.self.inside.parts.arena.given nodes c.in-Ok-ended.ensures.ended.gives))
 
 pub returns-in-Ok-ended-clause-lives : goal.returns-in-Ok-ended-clause-lives
 returns-in-Ok-ended-clause-lives g c =
-    let few = gives_few c.self.inside.parts.arena.given 0 c.run-ended.new.parts.arena c.in-Ok-ended.ensures.gives in
+    let few = gives_few c.self.inside.parts.arena.given 0 c.run-ended.new.parts.arena c.in-Ok-ended.ensures.ended.gives in
     rw (← c.self.view_is) (omega (arith, few))
 
 pub returns-in-Ok-ended-clause-flat : goal.returns-in-Ok-ended-clause-flat
-returns-in-Ok-ended-clause-flat g c no_binds = rw (← c.self.view_is) (c.run-ended.ensures.flat (rw (← c.self.view_is) at no_binds))
+returns-in-Ok-ended-clause-flat g c no_binds = rw (← c.self.view_is) (c.run-ended.ensures.leaves.flat (rw (← c.self.view_is) at no_binds))
 
 pub returns-in-Err-ended-clause-refused : goal.returns-in-Err-ended-clause-refused
 returns-in-Err-ended-clause-refused g c cause is =
@@ -87,9 +90,9 @@ returns-in-Err-ended-clause-refused g c cause is =
     let roots : c.deref-2.result.now ≡ in_use (drop rooted os) = c.deref-2.ensures.value ∙ rw c.deref.ensures.value at c.in-Ok.ensures in
     let refused = c.in-Err-ended.refused in
     rw (← c.self.view_is) (refused_in M.functions c.self.inside.functions c.run-ended.new.functions old new os rooted c.self.inside.refused still
-    refused cause (let e = c.cause_of-cause.ensures in cc) c.run-ended.ensures.left.rest c.in-Err-ended.ensures.ran c.in-Err-ended.ensures.cutoffs
-    c.in-Err-ended.ensures.shows (all_lawful M old new os rooted can within refused (rw roots at c.in-Err-ended.ensures.lawful))
-    c.in-Err-ended.ensures.tried (all_built_but M old new os rooted can within refused (rw roots at c.in-Err-ended.ensures.unbuilt)))
+    refused cause (let e = c.cause_of-cause.ensures in cc) c.run-ended.ensures.leaves.left.rest c.in-Err-ended.ensures.refused.ran c.in-Err-ended.ensures.refused.cutoffs
+    c.in-Err-ended.ensures.refused.shows (all_lawful M old new os rooted can within refused (rw roots at c.in-Err-ended.ensures.refused.lawful))
+    c.in-Err-ended.ensures.refused.tried (all_built_but M old new os rooted can within refused (rw roots at c.in-Err-ended.ensures.refused.unbuilt)))
 
 pub returns-in-Err-ended-clause-few : goal.returns-in-Err-ended-clause-few
 returns-in-Err-ended-clause-few g c cause is =
@@ -101,24 +104,24 @@ returns-in-Err-ended-clause-few g c cause is =
     let before = g.F.Functions.calls c.self.inside.functions in let after = g.F.Functions.calls c.run-ended.new.functions in
     rw (← c.self.view_is) (few_in M.functions c.self.inside.functions c.run-ended.new.functions old new os rooted c.self.inside.refused still
     c.in-Err-ended.refused before after
-    (all_few M old new os rooted can within before after (rw roots at c.in-Err-ended.ensures.few)))
+    (all_few M old new os rooted can within before after (rw roots at c.in-Err-ended.ensures.refused.few)))
 
 pub returns-in-Err-ended-clause-left : goal.returns-in-Err-ended-clause-left
-returns-in-Err-ended-clause-left g c unbroken = rw (← c.self.view_is) c.run-ended.ensures.left.nodes
+returns-in-Err-ended-clause-left g c unbroken = rw (← c.self.view_is) c.run-ended.ensures.leaves.left.nodes
 
 pub returns-in-Err-ended-clause-ids : goal.returns-in-Err-ended-clause-ids
 returns-in-Err-ended-clause-ids g c =
-    rw (← c.self.view_is) (ids_few (g.F.Functions.right c.run-ended.new.functions) c.run-ended.new.parts.arena c.run-ended.ensures.fit.scopes
-    c.in-Err-ended.ensures.kept.work.scopes c.self.inside.parts.arena.given c.in-Err-ended.ensures.spends)
+    rw (← c.self.view_is) (ids_few (g.F.Functions.right c.run-ended.new.functions) c.run-ended.new.parts.arena c.run-ended.ensures.leaves.fit.scopes
+    c.in-Err-ended.ensures.refused.kept.work.scopes c.self.inside.parts.arena.given c.in-Err-ended.ensures.refused.spends)
 
 pub returns-in-Err-ended-clause-full : goal.returns-in-Err-ended-clause-full
 returns-in-Err-ended-clause-full g c is =
-    filled_by (g.F.Functions.right c.run-ended.new.functions) c.run-ended.new.parts.arena c.run-ended.ensures.fit.scopes
-    c.in-Err-ended.ensures.kept.work.scopes (counts_by g.F.Functions c.self.inside.functions) (counts_by g.F.Functions c.run-ended.new.functions)
-    c.in-Err-ended.refused c.in-Err-ended.ensures.full (let e = c.cause_of-cause.ensures in cc)
+    filled_by (g.F.Functions.right c.run-ended.new.functions) c.run-ended.new.parts.arena c.run-ended.ensures.leaves.fit.scopes
+    c.in-Err-ended.ensures.refused.kept.work.scopes (counts_by g.F.Functions c.self.inside.functions) (counts_by g.F.Functions c.run-ended.new.functions)
+    c.in-Err-ended.refused c.in-Err-ended.ensures.refused.full (let e = c.cause_of-cause.ensures in cc)
 
 pub returns-in-Err-ended-clause-flat : goal.returns-in-Err-ended-clause-flat
-returns-in-Err-ended-clause-flat g c no_binds = rw (← c.self.view_is) (c.run-ended.ensures.flat (rw (← c.self.view_is) at no_binds))
+returns-in-Err-ended-clause-flat g c no_binds = rw (← c.self.view_is) (c.run-ended.ensures.leaves.flat (rw (← c.self.view_is) at no_binds))
 
 pub invariant_of-self-in-Ok-ended : goal.invariant_of-self-in-Ok-ended
 invariant_of-self-in-Ok-ended g c =
@@ -127,9 +130,9 @@ invariant_of-self-in-Ok-ended g c =
     let still = rw (← c.self.view_is) at c.in_default.ensures.none in
     let can = c.self.invariant.1.unbroken still in let within = c.self.invariant.1.earlier in
     let roots : c.deref-2.result.now ≡ in_use (drop rooted os) = c.deref-2.ensures.value ∙ rw c.deref.ensures.value at c.in-Ok.ensures in
-    let right = all_right M old new os rooted can within (rw roots at c.in-Ok-ended.ensures.right) in
+    let right = all_right M old new os rooted can within (rw roots at c.in-Ok-ended.ensures.ended.right) in
     let M' = meaning_of g.F.Functions c.run-ended.new.functions in
-    let again = can_again M old new os rooted can within M' c.run-ended.ensures.left.rest.given c.in-Ok-ended.ensures.ready right in
+    let again = can_again M old new os rooted can within M' c.run-ended.ensures.leaves.left.rest.given c.in-Ok-ended.ensures.ended.ready right in
     let same : c.len-self-inside.result ≡ length os = c.len-self-inside.ensures ∙ (sym c.deref.ensures.len ∙ ap length c.deref.ensures.value) in (
       c.self.invariant.0,
       record {
@@ -140,8 +143,8 @@ invariant_of-self-in-Ok-ended g c =
         inside = again.ready.inside;
         unbroken = λ u. subst (λ (k : ℕ). CanStabilize M' new os k) (sym same) again;
       },
-      c.run-ended.ensures.functions.sound,
-      c.run-ended.ensures.fit,
+      c.run-ended.ensures.leaves.functions.sound,
+      c.run-ended.ensures.leaves.fit,
     )
 
 pub invariant_of-self-in-Err-ended : goal.invariant_of-self-in-Err-ended
@@ -150,12 +153,12 @@ invariant_of-self-in-Err-ended g c = (
   record {
     few = c.self.invariant.1.few;
     earlier = c.self.invariant.1.earlier;
-    kept = c.in-Err-ended.ensures.kept;
+    kept = c.in-Err-ended.ensures.refused.kept;
     built = subst (λ (M : Meaning). Rooted M.functions (graph_in c.run-ended.new.parts))
-        (sym (means_still g.F.Functions c.self.inside.functions c.run-ended.new.functions c.run-ended.ensures.functions)) c.run-ended.ensures.left.rooted;
-    inside = c.run-ended.ensures.left.inside c.self.invariant.1.inside;
+        (sym (means_still g.F.Functions c.self.inside.functions c.run-ended.new.functions c.run-ended.ensures.leaves.functions)) c.run-ended.ensures.leaves.left.rooted;
+    inside = c.run-ended.ensures.leaves.left.inside c.self.invariant.1.inside;
     unbroken = λ e. absurd (cc);
   },
-  c.run-ended.ensures.functions.sound,
-  c.run-ended.ensures.fit,
+  c.run-ended.ensures.leaves.functions.sound,
+  c.run-ended.ensures.leaves.fit,
 )

@@ -1,31 +1,16 @@
-use Rattle.std.proofs.Common.{ap}
-use Rattle.inc_terms.specs.Depend.{main}
-use Rattle.node_arena.specs.Arena.{Arena, row_at}
-use Rattle.node_outcomes.specs.Row.{cutoff_in}
+use Rattle.inc_terms.specs.Code.{def_of}
+use Rattle.node_arena.specs.declared.arena.AddFault.TheVariants.{Memory}
+use Rattle.stabilizer.proofs.Added.{says_added, says_nothing, nothing_tried}
 use Rattle.stabilizer.proofs.parts.Parts.add.Goals as goal
 
-pub returns-in-Ok-clause-point : goal.returns-in-Ok-clause-point
-returns-in-Ok-clause-point c = let p = c.in-Ok.ensures.placed in (p.height, p.heights)
+pub returns-in-Err-clause-adds : goal.returns-in-Err-clause-adds
+returns-in-Err-clause-adds c =
+    let old = c.args.self.now in
+    says_nothing old old _ (def_of c.args.def) c.args.ty (nothing_tried old c.requires.kept)
 
--- ---- there was no memory for the node
+pub returns-in-Ok-clause-adds : goal.returns-in-Ok-clause-adds
+returns-in-Ok-clause-adds c = says_added c.args.self.now c.place.new.self _ (def_of c.args.def) c.args.ty c.next_id-id.ensures.generation c.in-Ok.ensures.placed
 
-pub returns-in-Err-place-clause-keeps : goal.returns-in-Err-place-clause-keeps
-returns-in-Err-place-clause-keeps c n given = ap (λ (a : Arena). row_at a n) c.in-Err-place.ensures.left.arena
-
-pub returns-in-Err-place-clause-rows : goal.returns-in-Err-place-clause-rows
-returns-in-Err-place-clause-rows c p given = c.in-Err-place.ensures.left.work.rows p
-
-pub returns-in-Err-place-clause-cutoffs : goal.returns-in-Err-place-clause-cutoffs
-returns-in-Err-place-clause-cutoffs c n = ap cutoff_in (c.in-Err-place.ensures.left.work.rows (main n))
-
-pub returns-in-Err-place-clause-links : goal.returns-in-Err-place-clause-links
-returns-in-Err-place-clause-links c = c.in-Err-place.ensures.left.work.links
-
-pub returns-in-Err-place-clause-roots : goal.returns-in-Err-place-clause-roots
-returns-in-Err-place-clause-roots c = c.in-Err-place.ensures.left.work.roots
-
-pub returns-in-Err-place-clause-heap : goal.returns-in-Err-place-clause-heap
-returns-in-Err-place-clause-heap c = c.in-Err-place.ensures.left.work.heap
-
-pub returns-in-Err-place-clause-right_sides : goal.returns-in-Err-place-clause-right_sides
-returns-in-Err-place-clause-right_sides c = c.in-Err-place.ensures.left.work.round.roots
+pub returns-in-Err-place-clause-adds : goal.returns-in-Err-place-clause-adds
+returns-in-Err-place-clause-adds c =
+    says_nothing c.args.self.now c.place.new.self Memory (def_of c.args.def) c.args.ty c.in-Err-place.ensures.left

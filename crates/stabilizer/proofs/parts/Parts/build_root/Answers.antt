@@ -5,7 +5,7 @@ use Rattle.inc_terms.specs.Depend.{change}
 use Rattle.point_map.specs.Rows.{Rows, at, Changes}
 use Rattle.wiring.specs.declared.refused.Refused.TheVariants.{Memory}
 use Rattle.wiring.proofs.Raising.{if_refusal}
-use Rattle.stabilizer.specs.Rooted.{WasBuilt, GetsNoRoot, no_room, stopped, with_roots}
+use Rattle.stabilizer.specs.Rooted.{GetsNoRoot, no_room, stopped, with_roots}
 use Rattle.stabilizer.proofs.RebuiltKept.{roots_roomy}
 use Rattle.stabilizer.proofs.parts.Parts.build_root.Goals as goal
 
@@ -17,52 +17,43 @@ returns-in_err-reserve-clause-refused g c =
     if_refusal (GetsNoRoot K fs fs old (with_roots old c.reserve.new.self) c.args.bind c.args.recipe.now.function) Memory c.from_residual.result
     c.from_residual.ensures.1 (no_room c.reserve.ensures.rows refl refl refl)
 
-pub build-requires-clause-kept : goal.build-requires-clause-kept
-build-requires-clause-kept g c = roots_roomy c.args.self.now c.reserve.new.self c.reserve.ensures.rows c.requires.kept
+pub build-requires : goal.build-requires
+build-requires g c =
+    let m = c.requires.may in record {
+      kept = roots_roomy c.args.self.now c.reserve.new.self c.reserve.ensures.rows m.kept;
+      live = m.live;
+      bind = m.bind;
+      own = m.own;
+      sound = m.sound;
+      known = m.known;
+      ready = m.ready;
+      fit = m.fit;
+    }
 
 pub insert-requires-clause-absent : goal.insert-requires-clause-absent
 insert-requires-clause-absent g c =
     let n = change c.args.bind in
     let roots = c.build.new.self.work.roots in
     subst (λ (p : Point). at roots p ≡ None) (sym c.change_point.ensures)
-    (ap (λ (m : Rows NodeId). at m n) c.in_ok-root.ensures.grown.round.roots ∙ (c.reserve.ensures.rows n ∙ c.requires.rootless))
+    (ap (λ (m : Rows NodeId). at m n) c.build.ensures.built.grew.round.roots ∙ (c.reserve.ensures.rows n ∙ c.requires.rootless))
 
 pub returns-in_err-root-clause-refused : goal.returns-in_err-root-clause-refused
 returns-in_err-root-clause-refused g c =
     let K = g.F.Functions in
     let fs = c.args.functions.now in
     let old = c.args.self.now in
-    let b = c.build.ensures in
     let e = c.in_err-root.field-0.0 in
-    let w : WasBuilt K fs c.build.new.functions (with_roots old c.reserve.new.self) c.build.new.self c.args.bind = record {
-      grew = c.in_err-root.ensures.unbuilt.grown;
-      kept = b.kept;
-      meaning = b.functions;
-      fit = b.fit;
-      calls = b.calls;
-      wants = b.wants;
-      tally = b.tally;
-    } in
     if_refusal (GetsNoRoot K fs c.build.new.functions old c.build.new.self c.args.bind c.args.recipe.now.function) e
     c.from_residual-in_err-root.result c.from_residual-in_err-root.ensures.1
-    (stopped c.reserve.ensures.rows w c.in_err-root.ensures.unbuilt.none c.in_err-root.ensures.stops b.spends)
+    (stopped c.reserve.ensures.rows c.build.ensures.built c.in_err-root.ensures.none c.in_err-root.ensures.stops c.build.ensures.spends)
 
 pub returns-clause-root : goal.returns-clause-root
 returns-clause-root g c =
-    let b = c.build.ensures in
     record {
       roomy = c.reserve.new.self;
       room = c.reserve.ensures.rows;
       grown = c.build.new.self;
-      built = record {
-        grew = c.in_ok-root.ensures.grown;
-        kept = b.kept;
-        meaning = b.functions;
-        fit = b.fit;
-        calls = b.calls;
-        wants = b.wants;
-        tally = b.tally;
-      };
+      built = c.build.ensures.built;
       root = c.in_ok-root.root;
       is_root = c.in_ok-root.ensures.root;
       gives = c.in_ok-root.ensures.gives;

@@ -24,15 +24,23 @@ module _ (c : goal.After-forget_roots) where
   rights = subst (λ (roots : Rows NodeId). ChangesNode roots c.forget_roots.new.roots c.args.id (λ part. None))
       (ap (λ (w : Work). w.roots) c.drop_node-2.ensures.rest) c.forget_roots.ensures
 
-pub returns-clause-right_sides : goal.returns-clause-right_sides
-returns-clause-right_sides c = rights c
-
-pub returns-clause-kept : goal.returns-clause-kept
-returns-clause-kept c = let d = c.drop_node-2.ensures in
-    dropped_parts (old c) (new c) c.args.id c.requires.kept c.requires.unneeded c.requires.unscoped c.drop_node.ensures.dropped
-    c.drop_node.ensures.given d.rows d.dropped (rights c) d.links d.roots d.heap d.step c.drop_node.ensures.sound (rest c) refl refl
-
-pub returns-clause-ready : goal.returns-clause-ready
-returns-clause-ready c M ready = let d = c.drop_node-2.ensures in
-    dropped_ready (old c) (new c) c.args.id c.requires.kept c.requires.unneeded c.requires.unscoped c.drop_node.ensures.dropped
-    c.drop_node.ensures.given d.rows d.dropped (rights c) d.links d.roots d.heap d.step c.drop_node.ensures.sound (rest c) refl refl M ready
+pub returns : goal.returns
+returns c =
+    let a = c.drop_node.ensures in
+    let d = c.drop_node-2.ensures in
+    record {
+      dropped = a.dropped;
+      lives = a.live;
+      given = a.given;
+      rows = d.rows;
+      links = d.links;
+      roots = d.roots;
+      heap = d.heap;
+      right_sides = rights c;
+      scopes = refl;
+      ran = refl;
+      kept = dropped_parts (old c) (new c) c.args.id c.requires.kept c.requires.unneeded c.requires.unscoped a.dropped a.given d.rows d.dropped
+          (rights c) d.links d.roots d.heap d.step a.sound (rest c) refl refl;
+      ready = dropped_ready (old c) (new c) c.args.id c.requires.kept c.requires.unneeded c.requires.unscoped a.dropped a.given d.rows d.dropped
+          (rights c) d.links d.roots d.heap d.step a.sound (rest c) refl refl;
+    }

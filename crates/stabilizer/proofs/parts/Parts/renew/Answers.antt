@@ -8,7 +8,7 @@ use Rattle.stabilizer.specs.Rebuilding.{BuildRefused}
 use Rattle.stabilizer.specs.Rooted.{GetsNoRoot}
 use Rattle.stabilizer.proofs.Again.{by_result}
 use Rattle.stabilizer.proofs.RebuildAsks.{stands_but}
-use Rattle.stabilizer.proofs.RebuildEnds.{on_err, if_on_err, left_roomy, roomy_stays, AreCut, are_cut, fits_dead, asks_live, asks_bind, asks_known, asks_own, asks_ready}
+use Rattle.stabilizer.proofs.RebuildEnds.{on_err, if_on_err, left_roomy, roomy_stays, AreCut, are_cut, asks_build}
 use Rattle.stabilizer.proofs.RebuildEnds.{dead_stays, settles_none, root_settles, stays_rooted, kept_rootless, stays_rootless, rootless_refused}
 use Rattle.stabilizer.proofs.RebuiltKept.{roomy, roomy_kept}
 use Rattle.stabilizer.proofs.parts.Parts.renew.Given.{Over}
@@ -31,12 +31,12 @@ pub returns-in_err-make_room-clause-kept : goal.returns-in_err-make_room-clause-
 returns-in_err-make_room-clause-kept g c =
     let old = c.args.self.now in
     on_err c.from_residual.result (roomy_kept old c.make_room.new.deaths old.work.roots c.make_room.ensures.deaths (λ p. refl)
-    c.make_room.new.dying c.make_room.ensures.dying c.requires.kept)
+    c.make_room.new.dying c.make_room.ensures.dying c.requires.may.kept)
 
 pub returns-in_err-make_room-clause-stays : goal.returns-in_err-make_room-clause-stays
 returns-in_err-make_room-clause-stays g c =
     roomy_stays g.F.Functions c.args.functions.now c.args.self.now c.make_room.new.deaths c.make_room.ensures.deaths c.make_room.new.dying
-    c.make_room.ensures.dying c.args.node c.requires.row c.requires.quiet c.requires.sound c.requires.fit
+    c.make_room.ensures.dying c.args.node c.requires.taken.row c.requires.may
 
 -- ---- all in the scope dies
 
@@ -44,11 +44,17 @@ pub cut_off-requires-clause-kept : goal.cut_off-requires-clause-kept
 cut_off-requires-clause-kept g c =
     let old = c.args.self.now in
     roomy_kept old c.make_room.new.deaths old.work.roots c.make_room.ensures.deaths (λ p. refl) c.make_room.new.dying c.make_room.ensures.dying
-    c.requires.kept
+    c.requires.may.kept
+
+pub cut_off-requires-clause-taken : goal.cut_off-requires-clause-taken
+cut_off-requires-clause-taken g c = record { row = c.requires.taken.row; needed = c.requires.taken.needed; gone = c.requires.taken.gone }
+
+pub cut_off-requires-clause-quiet : goal.cut_off-requires-clause-quiet
+cut_off-requires-clause-quiet g c = c.requires.may.quiet
 
 pub let_die-requires-clause-scopes : goal.let_die-requires-clause-scopes
 let_die-requires-clause-scopes g c =
-    stands_but _ c.cut_off.new.self c.args.node c.requires.kept.scopes c.cut_off.ensures.scopes c.cut_off.ensures.cut.arena
+    stands_but _ c.cut_off.new.self c.args.node c.requires.may.kept.scopes c.cut_off.ensures.scopes c.cut_off.ensures.cut.arena
 
 died : (g : Over) (c : After-let_die g) → AreCut g.F.Functions c.args.functions.now c.args.self.now
     (roomy c.args.self.now c.make_room.new.deaths c.args.self.now.work.roots c.make_room.ensures.deaths (λ p. refl) c.make_room.new.dying
@@ -56,7 +62,7 @@ died : (g : Over) (c : After-let_die g) → AreCut g.F.Functions c.args.function
     c.cut_off.new.self c.let_die.new.self c.args.node c.args.recipe.now.function c.args.recipe.now.captures c.args.given.now
 died g c =
     are_cut g.F.Functions c.args.functions.now c.args.self.now c.make_room.new.deaths c.make_room.ensures.deaths c.make_room.new.dying
-    c.make_room.ensures.dying c.requires.kept c.requires.to_build c.requires.row c.requires.quiet c.requires.sound c.requires.fit
+    c.make_room.ensures.dying c.requires.may c.requires.to_build c.requires.taken.row
     c.cut_off.ensures.cut c.let_die.ensures.died c.let_die.ensures.kept
 
 -- ---- there is no right side
@@ -71,32 +77,12 @@ returns-in_default-clause-stays g c =
 
 -- ---- one is built
 
-pub build_root-requires-clause-live : goal.build_root-requires-clause-live
-build_root-requires-clause-live g c =
-    asks_live g.F.Functions c.args.functions.now (died g (goal.at.build_root-requires-clause-live g c).After-let_die)
-
-pub build_root-requires-clause-bind : goal.build_root-requires-clause-bind
-build_root-requires-clause-bind g c =
-    asks_bind g.F.Functions c.args.functions.now (died g (goal.at.build_root-requires-clause-bind g c).After-let_die)
+pub build_root-requires-clause-may : goal.build_root-requires-clause-may
+build_root-requires-clause-may g c =
+    asks_build g.F.Functions c.args.functions.now (died g (goal.at.build_root-requires-clause-may g c).After-let_die) c.in-Val.left c.in-Val.is
 
 pub build_root-requires-clause-rootless : goal.build_root-requires-clause-rootless
 build_root-requires-clause-rootless g c = c.let_die.ensures.died.own_root
-
-pub build_root-requires-clause-known : goal.build_root-requires-clause-known
-build_root-requires-clause-known g c =
-    asks_known g.F.Functions c.args.functions.now (died g (goal.at.build_root-requires-clause-known g c).After-let_die)
-
-pub build_root-requires-clause-ready : goal.build_root-requires-clause-ready
-build_root-requires-clause-ready g c =
-    asks_ready g.F.Functions c.args.functions.now (died g (goal.at.build_root-requires-clause-ready g c).After-let_die) c.in-Val.left c.in-Val.is
-
-pub build_root-requires-clause-own : goal.build_root-requires-clause-own
-build_root-requires-clause-own g c =
-    asks_own g.F.Functions c.args.functions.now (died g (goal.at.build_root-requires-clause-own g c).After-let_die)
-
-pub build_root-requires-clause-fit : goal.build_root-requires-clause-fit
-build_root-requires-clause-fit g c =
-    fits_dead g.F.Functions c.args.functions.now (died g (goal.at.build_root-requires-clause-fit g c).After-let_die)
 
 pub returns-clause-ready : goal.returns-clause-ready
 returns-clause-ready g c =

@@ -1,12 +1,11 @@
-use Rattle.std.proofs.Common.{◌≡◌, sym, ap, subst}
+use Rattle.std.proofs.Common.{◌≡◌, refl, sym, ap, subst}
 use Rattle.inc_value.specs.declared.node.Point.{Point}
 use Rattle.inc_terms.specs.Depend.{main}
 use Rattle.inc_terms.specs.Within.{Given, ValueWithin}
 use Rattle.node_arena.specs.Arena.{Arena, IsVariable}
 use Rattle.wiring.specs.Wiring.{IsMarked}
 use Rattle.wiring.specs.declared.work.Work.{Work}
-use Rattle.stabilizer.specs.Kept.{PartsKept}
-use Rattle.stabilizer.specs.Round.{IsReady}
+use Rattle.stabilizer.specs.Between.{StaysButHeap}
 use Rattle.stabilizer.specs.declared.parts.Parts.{Parts}
 use Rattle.stabilizer.proofs.Setting.{set_parts, set_ready}
 use Rattle.stabilizer.proofs.parts.Parts.set_var.Goals.{In-Err}
@@ -33,13 +32,22 @@ module _ (c : goal.After-schedule) where
       λ given. absurd (let e = c.in-Ok.ensures.not_var.1 (given.0, given.1, isnt) in cc) in
       let e = c.in-Ok.ensures.unknown.1 named in cc)
 
-pub returns-in-Ok-clause-kept : goal.returns-in-Ok-clause-kept
-returns-in-Ok-clause-kept c = set_parts (old c) (new c) c.args.id c.args.value c.requires.kept c.in-Ok.ensures.set (not_other c)
-    c.in-Ok.ensures.given (marked c) c.schedule.ensures.step c.set_var.ensures.sound (rest c)
-
-pub returns-in-Ok-clause-ready : goal.returns-in-Ok-clause-ready
-returns-in-Ok-clause-ready c M ready = set_ready (old c) (new c) c.args.id c.args.value c.requires.kept c.in-Ok.ensures.set (not_other c)
-    c.in-Ok.ensures.given (marked c) c.schedule.ensures.step c.set_var.ensures.sound (rest c) M ready
+pub returns-in-Ok-clause-stays : goal.returns-in-Ok-clause-stays
+returns-in-Ok-clause-stays c =
+    let s = c.schedule.ensures in
+    let m = c.in-Ok.ensures in
+    record {
+      lives = m.live;
+      given = m.given;
+      rows = ap (λ (x : Work). x.rows) s.rest;
+      heights = s.scheduled.graph.heights;
+      links = s.scheduled.graph.links;
+      roots = s.scheduled.graph.roots;
+      right_sides = ap (λ (x : Work). x.roots) s.rest;
+      ran = refl;
+      kept = set_parts (old c) (new c) c.args.id c.args.value c.requires.kept m.set (not_other c) m.given (marked c) s.step m.sound (rest c);
+      ready = set_ready (old c) (new c) c.args.id c.args.value c.requires.kept m.set (not_other c) m.given (marked c) s.step m.sound (rest c);
+    }
 
 -- ---- it was refused
 
@@ -49,8 +57,18 @@ same c = ap (λ (a : Arena). record c.args.self.now { arena = a }) c.in-Err.ensu
 pub returns-in-Err-clause-err : goal.returns-in-Err-clause-err
 returns-in-Err-clause-err c = same (goal.at.returns-in-Err-clause-err c).In-Err
 
-pub returns-in-Err-clause-kept : goal.returns-in-Err-clause-kept
-returns-in-Err-clause-kept c = subst PartsKept (sym (same (goal.at.returns-in-Err-clause-kept c).In-Err)) c.requires.kept
-
-pub returns-in-Err-clause-ready : goal.returns-in-Err-clause-ready
-returns-in-Err-clause-ready c M ready = subst (IsReady M) (sym (same (goal.at.returns-in-Err-clause-ready c).In-Err)) ready
+pub returns-in-Err-clause-stays : goal.returns-in-Err-clause-stays
+returns-in-Err-clause-stays c =
+    let old = c.args.self.now in
+    subst (StaysButHeap old) (sym (same (goal.at.returns-in-Err-clause-stays c).In-Err)) (record {
+      lives = refl;
+      given = refl;
+      rows = refl;
+      heights = refl;
+      links = refl;
+      roots = refl;
+      right_sides = refl;
+      ran = refl;
+      kept = c.requires.kept;
+      ready = λ M ready. ready;
+    })

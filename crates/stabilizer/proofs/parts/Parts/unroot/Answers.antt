@@ -1,4 +1,4 @@
-use Rattle.std.proofs.Common.{◌≡◌, ap, subst}
+use Rattle.std.proofs.Common.{◌≡◌, refl, ap, subst}
 use Rattle.inc_value.specs.declared.node.Point.{Point}
 use Rattle.inc_terms.specs.Depend.{main}
 use Rattle.necessary_graph.specs.Sweep.{IsUnrooted}
@@ -22,14 +22,16 @@ module _ (c : goal.After-root_off) where
   off = subst (λ (p : Point). IsUnrooted (rowless old.work) old.work.graph c.root_off.new.self.graph p) c.main_point.ensures
       c.root_off.ensures.unrooted
 
-pub returns-clause-roots : goal.returns-clause-roots
-returns-clause-roots c = root_less (old c).work c.root_off.new.self.graph c.args.id (off c)
-
-pub returns-clause-rooted : goal.returns-clause-rooted
-returns-clause-rooted c = still_rooted (old c).work c.root_off.new.self.graph c.args.id (off c)
-
-pub returns-clause-kept : goal.returns-clause-kept
-returns-clause-kept c = unrooted_parts (old c) (new c) c.args.id (off c) c.requires.kept c.root_off.ensures.step (rest c)
-
-pub returns-clause-ready : goal.returns-clause-ready
-returns-clause-ready c M ready = unrooted_ready (old c) (new c) c.args.id (off c) c.requires.kept c.root_off.ensures.step (rest c) M ready
+pub returns : goal.returns
+returns c =
+    record {
+      unrooted = off c;
+      roots = root_less (old c).work c.root_off.new.self.graph c.args.id (off c);
+      rooted = still_rooted (old c).work c.root_off.new.self.graph c.args.id (off c);
+      arena = refl;
+      rows = ap (λ (x : Work). x.rows) c.root_off.ensures.rest;
+      right_sides = ap (λ (x : Work). x.roots) c.root_off.ensures.rest;
+      ran = refl;
+      kept = unrooted_parts (old c) (new c) c.args.id (off c) c.requires.kept c.root_off.ensures.step (rest c);
+      ready = unrooted_ready (old c) (new c) c.args.id (off c) c.requires.kept c.root_off.ensures.step (rest c);
+    }

@@ -5,17 +5,15 @@ use Rattle.node_arena.specs.Arena.{Arena}
 use Rattle.stabilizer.specs.Weights.{SidesFit}
 use Rattle.node_outcomes.specs.Meaning.{meaning_of}
 use Rattle.stabilizer.specs.Kept.{counts_by}
-use Rattle.stabilizer.specs.Stepping.{of_main, of_change, StepRefused, StepStopsFull}
-use Rattle.stabilizer.proofs.Carrying.{taken_kept}
+use Rattle.stabilizer.specs.Stepping.{of_main, of_change, StepIsRefused}
 use Rattle.stabilizer.proofs.ChangeSteps.{change_steps, change_stops, change_full}
 use Rattle.stabilizer.proofs.Falling.{is_change, steps_leave_less}
 use Rattle.stabilizer.proofs.GivingSteps.{left_few, main_few, memory_full}
 use Rattle.stabilizer.proofs.Mains.{is_main}
-use Rattle.stabilizer.proofs.Rounding.{on_err}
 use Rattle.wiring.proofs.Raising.{if_refusal}
 use Rattle.stabilizer.specs.declared.parts.Parts.{Parts}
 use Rattle.stabilizer.proofs.StillFit.{same_fit}
-use Rattle.stabilizer.proofs.Staying.{nothing_done}
+use Rattle.stabilizer.proofs.Staying.{nothing_done, taken_may}
 use Rattle.stabilizer.specs.Staying.{RoundStays}
 use Rattle.stabilizer.proofs.Stepping.{not_empty, takes_least, steps, step_refused, main_back, arena_kept, popped_row, popped_needed, popped_taken, same_roots}
 use Rattle.stabilizer.proofs.stabilizer.Stabilizer.step.Given.{Over}
@@ -25,31 +23,22 @@ use Rattle.stabilizer.proofs.stabilizer.Stabilizer.step.Goals as goal
 
 -- ---- a change
 
-pub step_change-requires-clause-kept : goal.step_change-requires-clause-kept
-step_change-requires-clause-kept g c = record {
-  work = taken_kept c.args.parts.now.arena c.args.parts.now.work c.pop_least.new.self c.pop_least.ensures.rest c.in-Some.p c.requires.kept.work
-      c.in-Some.ensures.removed;
-  scopes = c.requires.kept.scopes;
-  dying = c.requires.kept.dying;
-}
-
-pub step_change-requires-clause-row : goal.step_change-requires-clause-row
-step_change-requires-clause-row g c =
-    let p = c.in-Some.p in
-    popped_row c.args.parts.now.arena c.args.parts.now.work c.pop_least.new.self p _ (is_change p c.in-Change.is) c.requires.kept.work c.in-Some.ensures.was
+pub step_change-requires-clause-may : goal.step_change-requires-clause-may
+step_change-requires-clause-may g c = taken_may g.F.Functions c.args.functions.now c.args.parts.now c.pop_least.new.self c.in-Some.p c.requires
     c.pop_least.ensures.rest c.in-Some.ensures.removed
-
-pub step_change-requires-clause-needed : goal.step_change-requires-clause-needed
-step_change-requires-clause-needed g c =
-    let p = c.in-Some.p in
-    popped_needed c.args.parts.now.arena c.args.parts.now.work c.pop_least.new.self p _ (is_change p c.in-Change.is) c.requires.kept.work
-    c.in-Some.ensures.was c.pop_least.ensures.rest c.in-Some.ensures.removed
 
 pub step_change-requires-clause-taken : goal.step_change-requires-clause-taken
 step_change-requires-clause-taken g c =
+    let arena = c.args.parts.now.arena in
+    let work = c.args.parts.now.work in
     let p = c.in-Some.p in
-    popped_taken c.args.parts.now.arena c.args.parts.now.work c.pop_least.new.self p _ (is_change p c.in-Change.is) c.requires.kept.work
-    c.in-Some.ensures.was c.pop_least.ensures.rest c.in-Some.ensures.removed
+    let is = is_change p c.in-Change.is in
+    let kept = c.requires.kept.work in
+    record {
+      row = popped_row arena work c.pop_least.new.self p _ is kept c.in-Some.ensures.was c.pop_least.ensures.rest c.in-Some.ensures.removed;
+      needed = popped_needed arena work c.pop_least.new.self p _ is kept c.in-Some.ensures.was c.pop_least.ensures.rest c.in-Some.ensures.removed;
+      gone = popped_taken arena work c.pop_least.new.self p _ is kept c.in-Some.ensures.was c.pop_least.ensures.rest c.in-Some.ensures.removed;
+    }
 
 pub returns-in_err-step_change-in-Change-clause-refused : goal.returns-in_err-step_change-in-Change-clause-refused
 returns-in_err-step_change-in-Change-clause-refused g c =
@@ -57,79 +46,48 @@ returns-in_err-step_change-in-Change-clause-refused g c =
     let old = c.args.parts.now in
     let new = c.step_change.new.parts in
     let p = c.in-Some.p in
-    let before = counts_by g.F.Functions c.args.functions.now in
-    let after = counts_by g.F.Functions c.step_change.new.functions in
-    let e = c.in_err-step_change-in-Change.field-0.0 in
-    if_refusal (StepRefused M old new before after) e c.from_residual.result c.from_residual.ensures.1
-    (change_stops M old c.pop_least.new.self p p.node (is_change p c.in-Change.is) before c.requires.kept c.requires.quiet
-    c.in-Some.ensures.was c.in-Some.ensures.least c.pop_least.ensures.rest c.in-Some.ensures.removed
-    (g.F.Functions.right c.step_change.new.functions) new after e c.in_err-step_change-in-Change.ensures.refused)
-
-pub returns-in_err-step_change-in-Change-clause-spends : goal.returns-in_err-step_change-in-Change-clause-spends
-returns-in_err-step_change-in-Change-clause-spends g c =
-    let old : Parts = record c.args.parts.now { work = record c.args.parts.now.work { graph = c.pop_least.new.self } } in
-    on_err c.from_residual.result
-    (left_few (meaning_of g.F.Functions c.args.functions.now) (g.F.Functions.right c.step_change.new.functions) old c.step_change.new.parts
-    c.in-Some.p.node (counts_by g.F.Functions c.args.functions.now) (counts_by g.F.Functions c.step_change.new.functions)
-    c.in_err-step_change-in-Change.field-0.0 c.in_err-step_change-in-Change.ensures.refused)
-
-pub returns-in_err-step_change-in-Change-clause-wants : goal.returns-in_err-step_change-in-Change-clause-wants
-returns-in_err-step_change-in-Change-clause-wants g c = wants_stay c.from_residual.result _ _ c.step_change.ensures.wants
-
-pub returns-in_err-step_change-in-Change-clause-full : goal.returns-in_err-step_change-in-Change-clause-full
-returns-in_err-step_change-in-Change-clause-full g c =
-    let M = meaning_of g.F.Functions c.args.functions.now in
-    let old = c.args.parts.now in
-    let new = c.step_change.new.parts in
-    let p = c.in-Some.p in
+    let is = is_change p c.in-Change.is in
     let before = counts_by g.F.Functions c.args.functions.now in
     let after = counts_by g.F.Functions c.step_change.new.functions in
     let right = g.F.Functions.right c.step_change.new.functions in
     let e = c.in_err-step_change-in-Change.field-0.0 in
-    if_refusal (StepStopsFull M right old new before after) e c.from_residual.result c.from_residual.ensures.1
-    (change_full M old c.pop_least.new.self p p.node (is_change p c.in-Change.is) before c.requires.kept c.requires.quiet
-    c.in-Some.ensures.was c.in-Some.ensures.least c.pop_least.ensures.rest c.in-Some.ensures.removed
-    right new after e c.in_err-step_change-in-Change.ensures.refused)
+    let left = c.in_err-step_change-in-Change.ensures.refused in
+    if_refusal (StepIsRefused M right old new before after) e c.from_residual.result c.from_residual.ensures.1 (record {
+      refused = change_stops M old c.pop_least.new.self p p.node is before c.requires.kept c.requires.quiet c.in-Some.ensures.was
+          c.in-Some.ensures.least c.pop_least.ensures.rest c.in-Some.ensures.removed right new after e left;
+      spends = left_few M right (record old { work = record old.work { graph = c.pop_least.new.self } }) new p.node before after e left;
+      full = change_full M old c.pop_least.new.self p p.node is before c.requires.kept c.requires.quiet c.in-Some.ensures.was
+          c.in-Some.ensures.least c.pop_least.ensures.rest c.in-Some.ensures.removed right new after e left;
+    })
 
-pub returns-in_ok-step_change-in-Change-clause-stepped : goal.returns-in_ok-step_change-in-Change-clause-stepped
-returns-in_ok-step_change-in-Change-clause-stepped g c = λ more.
-    let M = meaning_of g.F.Functions c.args.functions.now in
-    let p = c.in-Some.p in
-    change_steps M c.args.parts.now c.pop_least.new.self p p.node (is_change p c.in-Change.is) (counts_by g.F.Functions c.args.functions.now)
-    c.requires.kept c.requires.quiet c.in-Some.ensures.was c.in-Some.ensures.least c.pop_least.ensures.rest c.in-Some.ensures.removed
-    c.step_change.new.parts (counts_by g.F.Functions c.step_change.new.functions) c.in_ok-step_change-in-Change.ensures.settled
-    c.in_ok-step_change-in-Change.ensures.quiet
+pub returns-in_err-step_change-in-Change-clause-wants : goal.returns-in_err-step_change-in-Change-clause-wants
+returns-in_err-step_change-in-Change-clause-wants g c = wants_stay c.from_residual.result _ _ c.step_change.ensures.wants
 
-pub returns-in_ok-step_change-in-Change-clause-falls : goal.returns-in_ok-step_change-in-Change-clause-falls
-returns-in_ok-step_change-in-Change-clause-falls g c = λ more.
+pub returns-in_ok-step_change-in-Change-clause-made : goal.returns-in_ok-step_change-in-Change-clause-made
+returns-in_ok-step_change-in-Change-clause-made g c = λ more.
     let M = meaning_of g.F.Functions c.args.functions.now in
+    let old = c.args.parts.now in
+    let new = c.step_change.new.parts in
     let p = c.in-Some.p in
+    let is = is_change p c.in-Change.is in
     let before = counts_by g.F.Functions c.args.functions.now in
     let after = counts_by g.F.Functions c.step_change.new.functions in
-    steps_leave_less M c.args.parts.now c.step_change.new.parts before after c.requires.kept.work c.step_change.ensures.stays.kept.work
-    (change_steps M c.args.parts.now c.pop_least.new.self p p.node (is_change p c.in-Change.is) before
-    c.requires.kept c.requires.quiet c.in-Some.ensures.was c.in-Some.ensures.least c.pop_least.ensures.rest c.in-Some.ensures.removed
-    c.step_change.new.parts after c.in_ok-step_change-in-Change.ensures.settled c.in_ok-step_change-in-Change.ensures.quiet)
-
-pub returns-in_ok-step_change-in-Change-clause-settled : goal.returns-in_ok-step_change-in-Change-clause-settled
-returns-in_ok-step_change-in-Change-clause-settled g c = λ more.
-    let p = c.in-Some.p in
-    of_change (takes_least c.args.parts.now.work c.pop_least.new.self p _ (is_change p c.in-Change.is) c.in-Some.ensures.was c.in-Some.ensures.least
-    c.pop_least.ensures.rest c.in-Some.ensures.removed) c.in_ok-step_change-in-Change.ensures.settled
-
-pub returns-in_ok-step_change-in-Change-clause-more : goal.returns-in_ok-step_change-in-Change-clause-more
-returns-in_ok-step_change-in-Change-clause-more g c = λ more. λ empty.
-    not_empty c.args.parts.now.work.graph.heap c.in-Some.p c.in-Some.ensures.was empty
+    let step = change_steps M old c.pop_least.new.self p p.node is before c.requires.kept c.requires.quiet c.in-Some.ensures.was
+    c.in-Some.ensures.least c.pop_least.ensures.rest c.in-Some.ensures.removed new after c.in_ok-step_change-in-Change.ensures.settled
+    c.in_ok-step_change-in-Change.ensures.quiet in
+    record {
+      stepped = step;
+      settled = of_change (takes_least old.work c.pop_least.new.self p _ is c.in-Some.ensures.was c.in-Some.ensures.least c.pop_least.ensures.rest
+          c.in-Some.ensures.removed) c.in_ok-step_change-in-Change.ensures.settled;
+      falls = steps_leave_less M old new before after c.requires.kept.work c.step_change.ensures.stays.kept.work step;
+      more = λ empty. not_empty old.work.graph.heap p c.in-Some.ensures.was empty;
+    }
 
 -- ---- a main
 
-pub step_main-requires-clause-kept : goal.step_main-requires-clause-kept
-step_main-requires-clause-kept g c = record {
-  work = taken_kept c.args.parts.now.arena c.args.parts.now.work c.pop_least.new.self c.pop_least.ensures.rest c.in-Some.p c.requires.kept.work
-      c.in-Some.ensures.removed;
-  scopes = c.requires.kept.scopes;
-  dying = c.requires.kept.dying;
-}
+pub step_main-requires-clause-may : goal.step_main-requires-clause-may
+step_main-requires-clause-may g c = taken_may g.F.Functions c.args.functions.now c.args.parts.now c.pop_least.new.self c.in-Some.p c.requires
+    c.pop_least.ensures.rest c.in-Some.ensures.removed
 
 pub step_main-requires-clause-row : goal.step_main-requires-clause-row
 step_main-requires-clause-row g c =
@@ -154,54 +112,53 @@ insert-requires g c =
 pub returns-in-Ok-clause-quiet : goal.returns-in-Ok-clause-quiet
 returns-in-Ok-clause-quiet g c = c.in-Ok.ensures.settled.settled.todo ∙ c.requires.quiet
 
-pub returns-in-Ok-clause-stepped : goal.returns-in-Ok-clause-stepped
-returns-in-Ok-clause-stepped g c = λ more.
-    let p = c.in-Some.p in
-    steps (meaning_of g.F.Functions c.args.functions.now) c.args.parts.now c.step_main.new.parts c.pop_least.new.self
-    p p.node (is_main p c.in-Main.is) (counts_by g.F.Functions c.args.functions.now) (counts_by g.F.Functions c.step_main.new.functions) c.requires.kept.work
-    c.in-Some.ensures.was c.in-Some.ensures.least c.pop_least.ensures.rest c.in-Some.ensures.removed c.in-Ok.ensures.settled
-    (arena_kept c.args.parts.now c.step_main.new.parts c.step_main.ensures.rest)
-
-pub returns-in-Ok-clause-falls : goal.returns-in-Ok-clause-falls
-returns-in-Ok-clause-falls g c = λ more.
-    let p = c.in-Some.p in
+pub returns-in-Ok-clause-made : goal.returns-in-Ok-clause-made
+returns-in-Ok-clause-made g c = λ more.
     let M = meaning_of g.F.Functions c.args.functions.now in
+    let old = c.args.parts.now in
+    let new = c.step_main.new.parts in
+    let p = c.in-Some.p in
+    let is = is_main p c.in-Main.is in
     let before = counts_by g.F.Functions c.args.functions.now in
     let after = counts_by g.F.Functions c.step_main.new.functions in
-    steps_leave_less M c.args.parts.now c.step_main.new.parts before after c.requires.kept.work c.step_main.ensures.kept.work
-    (steps M c.args.parts.now c.step_main.new.parts c.pop_least.new.self
-    p p.node (is_main p c.in-Main.is) before after c.requires.kept.work
-    c.in-Some.ensures.was c.in-Some.ensures.least c.pop_least.ensures.rest c.in-Some.ensures.removed c.in-Ok.ensures.settled
-    (arena_kept c.args.parts.now c.step_main.new.parts c.step_main.ensures.rest))
-
-pub returns-in-Ok-clause-settled : goal.returns-in-Ok-clause-settled
-returns-in-Ok-clause-settled g c = λ more.
-    let p = c.in-Some.p in
-    of_main (takes_least c.args.parts.now.work c.pop_least.new.self p _ (is_main p c.in-Main.is) c.in-Some.ensures.was c.in-Some.ensures.least
-    c.pop_least.ensures.rest c.in-Some.ensures.removed) c.in-Ok.ensures.settled c.step_main.ensures.rest
-
-pub returns-in-Ok-clause-more : goal.returns-in-Ok-clause-more
-returns-in-Ok-clause-more g c = λ more. λ empty.
-    not_empty c.args.parts.now.work.graph.heap c.in-Some.p c.in-Some.ensures.was empty
+    let step = steps M old new c.pop_least.new.self p p.node is before after c.requires.kept.work c.in-Some.ensures.was c.in-Some.ensures.least
+    c.pop_least.ensures.rest c.in-Some.ensures.removed c.in-Ok.ensures.settled (arena_kept old new c.step_main.ensures.rest) in
+    record {
+      stepped = step;
+      settled = of_main (takes_least old.work c.pop_least.new.self p _ is c.in-Some.ensures.was c.in-Some.ensures.least c.pop_least.ensures.rest
+          c.in-Some.ensures.removed) c.in-Ok.ensures.settled c.step_main.ensures.rest;
+      falls = steps_leave_less M old new before after c.requires.kept.work c.step_main.ensures.kept.work step;
+      more = λ empty. not_empty old.work.graph.heap p c.in-Some.ensures.was empty;
+    }
 
 pub returns-in-Err-clause-refused : goal.returns-in-Err-clause-refused
 returns-in-Err-clause-refused g c =
+    let old = c.args.parts.now in
+    let mid = c.step_main.new.parts in
     let p = c.in-Some.p in
-    step_refused (meaning_of g.F.Functions c.args.functions.now) c.args.parts.now c.step_main.new.parts _ c.pop_least.new.self c.insert.new.self
-    p p.node (counts_by g.F.Functions c.args.functions.now) (counts_by g.F.Functions c.step_main.new.functions) c.requires.kept.work c.in-Some.ensures.was
-    c.in-Some.ensures.least c.pop_least.ensures.rest c.in-Some.ensures.removed c.in-Err.ensures.refused
-    (arena_kept c.args.parts.now c.step_main.new.parts c.step_main.ensures.rest)
-    c.insert.ensures.rest c.insert.ensures.inserted refl (is_main p c.in-Main.is) _ c.in-Err.ensures.memory
+    let before = counts_by g.F.Functions c.args.functions.now in
+    let after = counts_by g.F.Functions c.step_main.new.functions in
+    let right = g.F.Functions.right c.step_main.new.functions in
+    let arena = arena_kept old mid c.step_main.ensures.rest in
+    let memory = c.in-Err.ensures.memory in
+    record {
+      refused = step_refused (meaning_of g.F.Functions c.args.functions.now) old mid _ c.pop_least.new.self c.insert.new.self p p.node before after
+          c.requires.kept.work c.in-Some.ensures.was c.in-Some.ensures.least c.pop_least.ensures.rest c.in-Some.ensures.removed
+          c.in-Err.ensures.refused arena c.insert.ensures.rest c.insert.ensures.inserted refl (is_main p c.in-Main.is) _ memory;
+      spends = main_few right old.arena mid.arena arena;
+      full = λ z s begun quiet st. memory_full right mid.arena before after c.in-Err.refused memory;
+    }
 
-pub returns-in-Err-clause-full : goal.returns-in-Err-clause-full
-returns-in-Err-clause-full g c z s begun quiet st =
-    memory_full (g.F.Functions.right c.step_main.new.functions) c.step_main.new.parts.arena (counts_by g.F.Functions c.args.functions.now)
-    (counts_by g.F.Functions c.step_main.new.functions) c.in-Err.refused c.in-Err.ensures.memory
+-- ---- the heap is empty
 
-pub returns-in-Err-clause-spends : goal.returns-in-Err-clause-spends
-returns-in-Err-clause-spends g c =
-    main_few (g.F.Functions.right c.step_main.new.functions) c.args.parts.now.arena c.step_main.new.parts.arena
-    (arena_kept c.args.parts.now c.step_main.new.parts c.step_main.ensures.rest)
+pub returns-in_default-clause-ended : goal.returns-in_default-clause-ended
+returns-in_default-clause-ended g c = λ none.
+    let old = c.args.parts.now in
+    record {
+      empty = c.in_default.ensures.none;
+      unchanged = ap (λ (x : NecessaryPart). record old { work = record old.work { graph = x } }) c.in_default.ensures.unchanged;
+      uncalled = refl;
+    }
 
 -- ---- what stays
 
@@ -211,7 +168,7 @@ returns-in_default-clause-stays g c =
     let keeper = g.F.Functions in
     let fs = c.args.functions.now in
     subst (λ (x : NecessaryPart). RoundStays keeper fs fs old (record old { work = record old.work { graph = x } })) (sym c.in_default.ensures.unchanged)
-    (nothing_done keeper fs old c.requires.kept c.requires.sound c.requires.fit)
+    (nothing_done keeper fs old c.requires)
 
 -- a change was taken: roots, the round and who was called stay in that too
 stays_taken : (g : Over) (c : After-step_change g)
