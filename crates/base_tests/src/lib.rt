@@ -20,6 +20,8 @@ mod rows_of_lists;
 #[cfg(test)]
 mod streams;
 #[cfg(test)]
+mod timing;
+#[cfg(test)]
 mod values;
 #[cfg(test)]
 mod worked;

@@ -1,0 +1,9 @@
+mod Alarms
+mod Finding
+mod Keeping
+mod Queue
+mod Rows
+mod Settling
+mod Slots
+mod Turning
+mod Counting
