@@ -107,17 +107,18 @@ module _ (old new : Parts) (id : NodeId) (c : Cutoff) (set : IsRewritten old.wor
       others = λ n other. ap cutoff_in (set.others (main n) (λ e. other (ap (λ (p : Point). p.node) e)));
       dead = λ not. ap (λ (p : Parts). seen_as functions p observers rooted refused)
           (dead (no_row (at old.work.rows (main id)) (row_at old.arena id) (main_there old.arena old.work kept id) not));
-      functions = refl;
+      top = record { functions = refl; rooted = refl; refused = refl; ran = ap (λ (p : Parts). p.ran.items) rest };
       nodes = arena_as;
       observers = refl;
-      rooted = refl;
-      refused = refl;
-      ran = ap (λ (p : Parts). p.ran.items) rest;
-      links = λ p q. ap (λ (x : Parts). times x.work.graph.links p q) rest;
-      roots = λ p. ap (λ (x : Parts). root_times x.work.graph.roots p) rest;
-      shown = λ n. seen_same (main n);
-      chosen = λ n. same_in outcome_in outcome_still (change n);
-      built = λ n. built_still old new n (ap (λ (a : Arena). row_at a n) arena_as) (same_in outcome_in outcome_still (change n))
-          (ap (λ (p : Parts). at p.work.roots (change n)) rest);
-      last = λ n. same_in last_of last_still (main n);
+      need = record {
+        links = λ p q. ap (λ (x : Parts). times x.work.graph.links p q) rest;
+        roots = λ p. ap (λ (x : Parts). root_times x.work.graph.roots p) rest;
+      };
+      of_nodes = record {
+        shown = λ n of. seen_same (main n);
+        chosen = λ n of. same_in outcome_in outcome_still (change n);
+        built = λ n of. built_still old new n (ap (λ (a : Arena). row_at a n) arena_as) (same_in outcome_in outcome_still (change n))
+            (ap (λ (p : Parts). at p.work.roots (change n)) rest);
+        last = λ n of. same_in last_of last_still (main n);
+      };
     }

@@ -97,17 +97,15 @@ module _ {F : Type 0} (functions : F) (old new : Parts) (observers : List Observ
       → ((n : NodeId) → (cutoff_at new.work n ≡ cutoff_at old.work n) ⊎ (cutoff_at new.work n ≡ Equal))
       → KeepsBeside Of (seen_as functions old observers rooted refused) (seen_as functions new observers rooted refused)
   beside_as Of ran links roots rows built fewer = record {
-    functions = refl;
+    top = record { functions = refl; rooted = refl; refused = refl; ran = ap (λ v. v.items) ran };
     observers = refl;
-    rooted = refl;
-    refused = refl;
-    ran = ap (λ v. v.items) ran;
-    links = λ p q. ap (λ (l : Links). times l p q) links;
-    roots = λ p. ap (λ (r : Roots). root_times r p) roots;
-    shown = λ n of. ap seen_of (rows (main n) of);
-    chosen = λ n of. ap outcome_in (rows (change n) of);
-    built = built;
-    last = λ n of. ap last_of (rows (main n) of);
+    need = record { links = λ p q. ap (λ (l : Links). times l p q) links; roots = λ p. ap (λ (r : Roots). root_times r p) roots };
+    of_nodes = record {
+      shown = λ n of. ap seen_of (rows (main n) of);
+      chosen = λ n of. ap outcome_in (rows (change n) of);
+      built = built;
+      last = λ n of. ap last_of (rows (main n) of);
+    };
     cutoff = λ n of. ap cutoff_in (rows (main n) of);
     no_more_cutoffs = λ n. equal_still (cutoff_at new.work n) (cutoff_at old.work n) (fewer n);
   }

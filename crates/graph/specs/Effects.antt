@@ -34,21 +34,31 @@ abbrev pub NoneScopedSince : Arena → ℕ → Type 0
 NoneScopedSince a count = (n : NodeId) (r : Row) → row_at a n ≡ Some r → count ≤ n.gen_ → r.scope ≡ None
 
 module _ {F : Type 0} where
-  -- beside the nodes all stays: functions, observers, what broke the graph and who was called last; links and roots; and of these nodes what is
-  -- shown, what they chose by, what they are built for, and its root, what their functions were last called on, and their cutoffs. No further node has
-  -- a cutoff other than Equal
-  pub record KeepsBeside (Of : NodeId → Type 0) (old new : Standing F) : Type 0 where
+  -- the functions stay, what the last accepted stabilize told and what broke the graph
+  pub record KeepsTop (old new : Standing F) : Type 0 where
     pub functions : new.functions ≡ old.functions
-    pub observers : new.observers ≡ old.observers
     pub rooted : new.rooted ≡ old.rooted
     pub refused : new.refused ≡ old.refused
     pub ran : new.ran ≡ old.ran
+
+  -- links and roots stay, by which need is known
+  pub record KeepsNeed (old new : Standing F) : Type 0 where
     pub links : (p q : Point) → times_linked new p q ≡ times_linked old p q
     pub roots : (p : Point) → times_rooted new p ≡ times_rooted old p
+
+  -- of these nodes it stays what is shown, what they chose by, what they are built for, and its root, and what their functions were last called on
+  pub record KeepsNodes (Of : NodeId → Type 0) (old new : Standing F) : Type 0 where
     pub shown : (n : NodeId) → Of n → shown_of new n ≡ shown_of old n
     pub chosen : (n : NodeId) → Of n → chosen_by new n ≡ chosen_by old n
     pub built : (n : NodeId) → Of n → (graph new).built n ≡ (graph old).built n
     pub last : (n : NodeId) → Of n → called_last new n ≡ called_last old n
+
+  -- beside the nodes all stays; and of these nodes what is known of them, and their cutoffs. No further node has a cutoff other than Equal
+  pub record KeepsBeside (Of : NodeId → Type 0) (old new : Standing F) : Type 0 where
+    pub top : KeepsTop old new
+    pub observers : new.observers ≡ old.observers
+    pub need : KeepsNeed old new
+    pub of_nodes : KeepsNodes Of old new
     pub cutoff : (n : NodeId) → Of n → cutoff_of new n ≡ cutoff_of old n
     pub no_more_cutoffs : (n : NodeId) → cutoff_of old n ≡ Equal → cutoff_of new n ≡ Equal
 
@@ -99,18 +109,11 @@ module _ {F : Type 0} where
     pub set : IsLive old.nodes id → cutoff_of new id ≡ c
     pub others : (n : NodeId) → n ≢ id → cutoff_of new n ≡ cutoff_of old n
     pub dead : (IsLive old.nodes id → ⊥) → new ≡ old
-    pub functions : new.functions ≡ old.functions
+    pub top : KeepsTop old new
     pub nodes : new.nodes ≡ old.nodes
     pub observers : new.observers ≡ old.observers
-    pub rooted : new.rooted ≡ old.rooted
-    pub refused : new.refused ≡ old.refused
-    pub ran : new.ran ≡ old.ran
-    pub links : (p q : Point) → times_linked new p q ≡ times_linked old p q
-    pub roots : (p : Point) → times_rooted new p ≡ times_rooted old p
-    pub shown : (n : NodeId) → shown_of new n ≡ shown_of old n
-    pub chosen : (n : NodeId) → chosen_by new n ≡ chosen_by old n
-    pub built : (n : NodeId) → (graph new).built n ≡ (graph old).built n
-    pub last : (n : NodeId) → called_last new n ≡ called_last old n
+    pub need : KeepsNeed old new
+    pub of_nodes : KeepsNodes (λ n. Unit {0}) old new
 
   -- the nodes of ids from a count on were dropped, and their ids stay used up
   pub record TakesBack (old new : Standing F) (count : ℕ) : Type 0 where
@@ -131,15 +134,9 @@ module _ {F : Type 0} where
     pub node : NodeId
     pub was : node_at old.observers o ≡ Some node
     pub observers : new.observers ≡ slice_set old.observers o.0 (record { node = node; in_use = false })
-    pub functions : new.functions ≡ old.functions
+    pub top : KeepsTop old new
     pub nodes : new.nodes ≡ old.nodes
-    pub rooted : new.rooted ≡ old.rooted
-    pub refused : new.refused ≡ old.refused
-    pub ran : new.ran ≡ old.ran
-    pub shown : (n : NodeId) → shown_of new n ≡ shown_of old n
-    pub chosen : (n : NodeId) → chosen_by new n ≡ chosen_by old n
-    pub built : (n : NodeId) → (graph new).built n ≡ (graph old).built n
-    pub last : (n : NodeId) → called_last new n ≡ called_last old n
+    pub of_nodes : KeepsNodes (λ n. Unit {0}) old new
     pub cutoff : (n : NodeId) → cutoff_of new n ≡ cutoff_of old n
     pub fewer_links : (p q : Point) → times_linked new p q ≤ times_linked old p q
     pub fewer_roots : (p : Point) → times_rooted new p ≤ times_rooted old p

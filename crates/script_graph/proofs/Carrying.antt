@@ -37,14 +37,14 @@ module _ (s s' : State) (k k' : Kept) (beside : KeepsBesideGiven k.graph k'.grap
       → ((p : Outcome) → x.shown ≡ Some p → RefersTo (IsDeclaredTarget s) p) → IsShown k o x → IsShown k' o x
   shown_on o x b is refers h = record {
     earlier = λ was.
-        let e = h.earlier (was_still k'.graph k.graph o (sym beside.rooted) (sym (looks_on o)) was) in (
+        let e = h.earlier (was_still k'.graph k.graph o (sym beside.top.rooted) (sym (looks_on o)) was) in (
           e.0,
           e.1,
-          λ whole. ap (shown_of k'.graph) (nodes x.target b is) ∙ (beside.shown (node_in k.nodes x.target) (given x.target b is)
+          λ whole. ap (shown_of k'.graph) (nodes x.target b is) ∙ (beside.of_nodes.shown (node_in k.nodes x.target) (given x.target b is)
               ∙ (e.2 (sym broken ∙ whole) ∙ ap (λ p. Some p)
               (outcome_agrees (IsDeclaredTarget s) (node_in k.nodes) (node_in k'.nodes) (λ t own. nodes t own.0 own.1) e.0 (refers e.0 e.1)))),
         );
-    later = λ never. h.later (λ was. never (was_still k.graph k'.graph o beside.rooted (looks_on o) was));
+    later = λ never. h.later (λ was. never (was_still k.graph k'.graph o beside.top.rooted (looks_on o) was));
   }
 
   observer_on : (o : ObsId) (x : Observer) → IsObserver s k o x → IsObserver s' k' o x
@@ -97,10 +97,10 @@ pub record LeavesBeside (k k' : Kept) : Type 0 where
 -- a call that keeps what is beside the graph
 pub leaves_beside : (k k' : Kept) → KeepsBesideGiven k.graph k'.graph → (arena_of k).given ≤ (arena_of k').given → LeavesBeside k k'
 leaves_beside k k' keeps given = record {
-  rooted = λ o n at. rooted_still k'.graph k.graph o (sym keeps.rooted) (ap (λ (os : List Looking). standing.node_at os o) (sym keeps.observers)) n at;
-  fewer = λ p q. let same = keeps.links p q in omega (arith, same);
+  rooted = λ o n at. rooted_still k'.graph k.graph o (sym keeps.top.rooted) (ap (λ (os : List Looking). standing.node_at os o) (sym keeps.observers)) n at;
+  fewer = λ p q. let same = keeps.need.links p q in omega (arith, same);
   given = given;
-  last = keeps.last;
+  last = keeps.of_nodes.last;
   no_more_cutoffs = keeps.no_more_cutoffs;
 }
 

@@ -315,7 +315,7 @@ module _ (k : Kept) (name d : List ℕ) (i : ℕ) (o : ObsId) (g : Standing (Uni
     apart = once_apart new.observers (λ j l p at also.
         let old = id_at j p at in let old' = id_at l p also in
         source_apart last i j l old.0 old'.0 (apart_once k.observers sound.apart (source last i j) (source last i l) p old.1 old'.1));
-    unbroken = λ e. ends.refused ∙ sound.unbroken e;
+    unbroken = λ e. ends.top.refused ∙ sound.unbroken e;
   }
 
   module _ (F : Meanings) (m : Moment) (stands : MatchesMoment F k m) (unbroken : m.broken ≡ None) where
@@ -353,9 +353,9 @@ module _ (k : Kept) (name d : List ℕ) (i : ℕ) (o : ObsId) (g : Standing (Uni
 
     shown_still : (p : ObsId) (y : Observer) → (p.0 ≡ o.0 → ⊥) → IsShown k p y → IsShown new p y
     shown_still p y ne h = record {
-      earlier = λ was. let e = h.earlier (was_still g k.graph p (sym ends.rooted) (sym (looks_old p ne)) was) in
-          (e.0, e.1, λ whole. ends.shown (node_in k.nodes y.target) ∙ e.2 whole);
-      later = λ never. h.later (λ was. never (was_still k.graph g p ends.rooted (looks_old p ne) was));
+      earlier = λ was. let e = h.earlier (was_still g k.graph p (sym ends.top.rooted) (sym (looks_old p ne)) was) in
+          (e.0, e.1, λ whole. ends.of_nodes.shown (node_in k.nodes y.target) tt ∙ e.2 whole);
+      later = λ never. h.later (λ was. never (was_still k.graph g p ends.top.rooted (looks_old p ne) was));
     }
 
     looks_ended : (p : ObsId) → p.0 ≡ o.0 → node_at g.observers p ≡ None
@@ -417,13 +417,13 @@ module _ (k : Kept) (name d : List ℕ) (i : ℕ) (o : ObsId) (g : Standing (Uni
       rooted = λ p n at. rooted_left p n at (same_or p.0 o.0);
       fewer = ends.fewer_links;
       given = let same = ap (λ (a : Arena). a.given) ends.nodes in omega (arith, same);
-      last = λ n given. ends.last n;
+      last = λ n given. ends.of_nodes.last n tt;
       no_more_cutoffs = λ n equal. ends.cutoff n ∙ equal;
     }
       where
         rooted_left : (p : ObsId) (n : NodeId) → rooted_at g p ≡ Some n → (p.0 ≡ o.0) ⊎ (p.0 ≡ o.0 → ⊥) → rooted_at k.graph p ≡ Some n
         rooted_left p n at (inl e) = absurd (let none = sym (looks_ended p e) ∙ (rooted_looks g p n at).1 in cc)
-        rooted_left p n at (inr ne) = rooted_still g k.graph p (sym ends.rooted) (sym (looks_old p ne)) n at
+        rooted_left p n at (inr ne) = rooted_still g k.graph p (sym ends.top.rooted) (sym (looks_old p ne)) n at
 
     still : StillDeclares s k.nodes (graph k.graph) then new
     still = record {
@@ -432,12 +432,12 @@ module _ (k : Kept) (name d : List ℕ) (i : ℕ) (o : ObsId) (g : Standing (Uni
       names = λ n e is. refl;
       rows = λ n r u is def. ap (λ (a : Arena). row_at a n) ends.nodes ∙ is;
       lives = λ n r is. (r, ap (λ (a : Arena). row_at a n) ends.nodes ∙ is);
-      built = λ b r is. ends.built b;
+      built = λ b r is. ends.of_nodes.built b tt;
     }
 
     scopes_still : ScopesBuilt (graph k.graph) → ScopesBuilt (graph g)
     scopes_still built n r b is scope =
-        subst (λ (w : Option BuiltFor). IsSome w) (sym (ends.built b)) (built n r b (ap (λ (a : Arena). row_at a n) (sym ends.nodes) ∙ is) scope)
+        subst (λ (w : Option BuiltFor). IsSome w) (sym (ends.of_nodes.built b tt)) (built n r b (ap (λ (a : Arena). row_at a n) (sym ends.nodes) ∙ is) scope)
 
     -- and it matches the moment without the observer
     pub ending_stands : MatchesMoment F new (moved m (Unobserve name))
@@ -445,7 +445,7 @@ module _ (k : Kept) (name d : List ℕ) (i : ℕ) (o : ObsId) (g : Standing (Uni
       names = record { declared = stands.names.declared; now = stands.names.now; in_use = names_left };
       accepted = stands.accepted;
       broken = stands.broken;
-      represents = λ whole. represents_so F s (filter (is_other name) s.observers) s.accepted k new refl refl refl ends.nodes ends.built (stands.represents whole);
+      represents = λ whole. represents_so F s (filter (is_other name) s.observers) s.accepted k new refl refl refl ends.nodes (λ n. ends.of_nodes.built n tt) (stands.represents whole);
       watches = watching;
       settled = λ whole.
           settled_on F m.settled s then k new leaves still (λ n b v was. was) scopes_still

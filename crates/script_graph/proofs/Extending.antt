@@ -14,7 +14,7 @@ use Rattle.inc_terms.specs.Rebuilding.{outcome_of}
 use Rattle.inc_terms.specs.Term as term
 use Rattle.inc_terms.specs.Term.{Functions}
 use Rattle.inc_terms.specs.Within.{Given}
-use Rattle.graph.specs.Effects.{KeepsBeside, KeepsBesideGiven, KeepsAll, Adds, TakesBack, NoneScopedSince}
+use Rattle.graph.specs.Effects.{KeepsTop, KeepsNodes, KeepsBeside, KeepsBesideGiven, KeepsAll, Adds, TakesBack, NoneScopedSince}
 use Rattle.graph.specs.Standing.{Standing, graph}
 use Rattle.node_arena.specs.Arena.{Arena, row_at}
 use Rattle.node_arena.specs.Sound as arena
@@ -45,37 +45,52 @@ use Rattle.transfer.proofs.Typed.{bind_body, body_entry}
 
 module _ {F : Type 0} where
   -- what stays beside nodes stays but for the functions
+  pub top_without : (a b : Standing F) → KeepsTop a b → KeepsTop (without_functions a) (without_functions b)
+  top_without a b h = record { functions = refl; rooted = h.rooted; refused = h.refused; ran = h.ran }
+
+  pub nodes_without : (Of : NodeId → Type 0) (a b : Standing F) → KeepsNodes Of a b → KeepsNodes Of (without_functions a) (without_functions b)
+  nodes_without Of a b h = record { shown = h.shown; chosen = h.chosen; built = h.built; last = h.last }
+
   pub beside_without : (Of : NodeId → Type 0) (a b : Standing F) → KeepsBeside Of a b → KeepsBeside Of (without_functions a) (without_functions b)
   beside_without Of a b h = record {
-    functions = refl;
+    top = top_without a b h.top;
     observers = h.observers;
-    rooted = h.rooted;
-    refused = h.refused;
-    ran = h.ran;
-    links = h.links;
-    roots = h.roots;
-    shown = h.shown;
-    chosen = h.chosen;
-    built = h.built;
-    last = h.last;
+    need = record { links = h.need.links; roots = h.need.roots };
+    of_nodes = nodes_without Of a b h.of_nodes;
     cutoff = h.cutoff;
     no_more_cutoffs = h.no_more_cutoffs;
   }
 
+  -- so over one call after another, of the nodes of which both keep it
+  pub beside_on : (Of Later : NodeId → Type 0) (a b c : Standing F) → ((n : NodeId) → Of n → Later n) → KeepsBeside Of a b → KeepsBeside Later b c
+      → KeepsBeside Of a c
+  beside_on Of Later a b c later g h = record {
+    top = record {
+      functions = h.top.functions ∙ g.top.functions;
+      rooted = h.top.rooted ∙ g.top.rooted;
+      refused = h.top.refused ∙ g.top.refused;
+      ran = h.top.ran ∙ g.top.ran;
+    };
+    observers = h.observers ∙ g.observers;
+    need = record { links = λ p q. h.need.links p q ∙ g.need.links p q; roots = λ p. h.need.roots p ∙ g.need.roots p };
+    of_nodes = record {
+      shown = λ n of. h.of_nodes.shown n (later n of) ∙ g.of_nodes.shown n of;
+      chosen = λ n of. h.of_nodes.chosen n (later n of) ∙ g.of_nodes.chosen n of;
+      built = λ n of. h.of_nodes.built n (later n of) ∙ g.of_nodes.built n of;
+      last = λ n of. h.of_nodes.last n (later n of) ∙ g.of_nodes.last n of;
+    };
+    cutoff = λ n of. h.cutoff n (later n of) ∙ g.cutoff n of;
+    no_more_cutoffs = λ n equal. h.no_more_cutoffs n (g.no_more_cutoffs n equal);
+  }
+
+module _ {F : Type 0} where
   pub extends_itself : (s : Standing F) → Extends s s
   extends_itself s = record {
     beside = record {
-      functions = refl;
+      top = record { functions = refl; rooted = refl; refused = refl; ran = refl };
       observers = refl;
-      rooted = refl;
-      refused = refl;
-      ran = refl;
-      links = λ p q. refl;
-      roots = λ p. refl;
-      shown = λ n h. refl;
-      chosen = λ n h. refl;
-      built = λ n h. refl;
-      last = λ n h. refl;
+      need = record { links = λ p q. refl; roots = λ p. refl };
+      of_nodes = record { shown = λ n h. refl; chosen = λ n h. refl; built = λ n h. refl; last = λ n h. refl };
       cutoff = λ n h. refl;
       no_more_cutoffs = λ n equal. equal;
     };
@@ -86,21 +101,8 @@ module _ {F : Type 0} where
 
   pub extends_on : (a b c : Standing F) → Extends a b → Extends b c → Extends a c
   extends_on a b c g h = record {
-    beside = record {
-      functions = refl;
-      observers = h.beside.observers ∙ g.beside.observers;
-      rooted = h.beside.rooted ∙ g.beside.rooted;
-      refused = h.beside.refused ∙ g.beside.refused;
-      ran = h.beside.ran ∙ g.beside.ran;
-      links = λ p q. h.beside.links p q ∙ g.beside.links p q;
-      roots = λ p. h.beside.roots p ∙ g.beside.roots p;
-      shown = λ n low. h.beside.shown n (omega (arith, low, g.given)) ∙ g.beside.shown n low;
-      chosen = λ n low. h.beside.chosen n (omega (arith, low, g.given)) ∙ g.beside.chosen n low;
-      built = λ n low. h.beside.built n (omega (arith, low, g.given)) ∙ g.beside.built n low;
-      last = λ n low. h.beside.last n (omega (arith, low, g.given)) ∙ g.beside.last n low;
-      cutoff = λ n low. h.beside.cutoff n (omega (arith, low, g.given)) ∙ g.beside.cutoff n low;
-      no_more_cutoffs = λ n equal. h.beside.no_more_cutoffs n (g.beside.no_more_cutoffs n equal);
-    };
+    beside = beside_on (Given a.nodes.given) (Given b.nodes.given) (without_functions a) (without_functions b) (without_functions c)
+        (λ n low. omega (arith, low, g.given)) g.beside h.beside;
     given = omega (arith, g.given, h.given);
     rows = λ n low. h.rows n (omega (arith, low, g.given)) ∙ g.rows n low;
     outside = λ n r is. elim (h.outside n r is) [ inl was ↦ g.outside n r was | inr out ↦ inr out ];
@@ -130,21 +132,8 @@ module _ {F : Type 0} where
   -- nodes that were added and taken back again
   pub taken_back_extends : (a b c : Standing F) (count : ℕ) → Extends a b → TakesBack b c count → a.nodes.given ≤ count → Extends a c
   taken_back_extends a b c count g h later = record {
-    beside = record {
-      functions = refl;
-      observers = h.beside.observers ∙ g.beside.observers;
-      rooted = h.beside.rooted ∙ g.beside.rooted;
-      refused = h.beside.refused ∙ g.beside.refused;
-      ran = h.beside.ran ∙ g.beside.ran;
-      links = λ p q. h.beside.links p q ∙ g.beside.links p q;
-      roots = λ p. h.beside.roots p ∙ g.beside.roots p;
-      shown = λ n low. h.beside.shown n (omega (arith, low, later)) ∙ g.beside.shown n low;
-      chosen = λ n low. h.beside.chosen n (omega (arith, low, later)) ∙ g.beside.chosen n low;
-      built = λ n low. h.beside.built n (omega (arith, low, later)) ∙ g.beside.built n low;
-      last = λ n low. h.beside.last n (omega (arith, low, later)) ∙ g.beside.last n low;
-      cutoff = λ n low. h.beside.cutoff n (omega (arith, low, later)) ∙ g.beside.cutoff n low;
-      no_more_cutoffs = λ n equal. h.beside.no_more_cutoffs n (g.beside.no_more_cutoffs n equal);
-    };
+    beside = beside_on (Given a.nodes.given) (λ n. n.gen_ < count) (without_functions a) (without_functions b) (without_functions c)
+        (λ n low. omega (arith, low, later)) g.beside (beside_without (λ n. n.gen_ < count) b c h.beside);
     given = omega (arith, g.given, h.given);
     rows = λ n low. h.older n (omega (arith, low, later)) ∙ g.rows n low;
     outside = λ n r is. elim (below_or n.gen_ count) [
@@ -186,17 +175,15 @@ same_unit x y = refl
 -- where there are no functions all stays beside
 pub extends_beside : (a b : Standing (Unit {0})) → Extends a b → KeepsBesideGiven a b
 extends_beside a b h = record {
-  functions = same_unit b.functions a.functions;
+  top = record { functions = same_unit b.functions a.functions; rooted = h.beside.top.rooted; refused = h.beside.top.refused; ran = h.beside.top.ran };
   observers = h.beside.observers;
-  rooted = h.beside.rooted;
-  refused = h.beside.refused;
-  ran = h.beside.ran;
-  links = h.beside.links;
-  roots = h.beside.roots;
-  shown = h.beside.shown;
-  chosen = h.beside.chosen;
-  built = h.beside.built;
-  last = h.beside.last;
+  need = record { links = h.beside.need.links; roots = h.beside.need.roots };
+  of_nodes = record {
+    shown = h.beside.of_nodes.shown;
+    chosen = h.beside.of_nodes.chosen;
+    built = h.beside.of_nodes.built;
+    last = h.beside.of_nodes.last;
+  };
   cutoff = h.beside.cutoff;
   no_more_cutoffs = h.beside.no_more_cutoffs;
 }
@@ -367,12 +354,12 @@ module _ (k : Kept) (g : Standing (Unit {0})) (sound : arena.IsSound (arena_of k
   extends_keeps = record {
     rows = λ n r u is def. live_stays k.graph g sound more n r is;
     dead = λ n given is. more.rows n given ∙ is;
-    built = more.beside.built;
+    built = more.beside.of_nodes.built;
   }
 
   pub extends_scopes : ScopesBuilt (graph k.graph) → ScopesBuilt (graph g)
   extends_scopes built n r b is scope = elim (more.outside n r is) [
-    | inl was ↦ subst (λ (w : Option BuiltFor). IsSome w) (sym (more.beside.built b (sound.scopes n r b was scope))) (built n r b was scope)
+    | inl was ↦ subst (λ (w : Option BuiltFor). IsSome w) (sym (more.beside.of_nodes.built b (sound.scopes n r b was scope))) (built n r b was scope)
     | inr out ↦ absurd (let none : None ≡ Some b = sym out ∙ scope in cc)
   ]
 
@@ -380,7 +367,7 @@ module _ (k : Kept) (g : Standing (Unit {0})) (sound : arena.IsSound (arena_of k
   extends_lives n r is = (r, live_stays k.graph g sound more n r is)
 
   pub extends_built : (n : NodeId) (r : Row) → row_at (arena_of k) n ≡ Some r → (graph g).built n ≡ (graph k.graph).built n
-  extends_built n r is = more.beside.built n (sound.given n (rw is refl))
+  extends_built n r is = more.beside.of_nodes.built n (sound.given n (rw is refl))
 
 -- ---- what is kept
 

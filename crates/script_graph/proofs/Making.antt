@@ -371,7 +371,7 @@ module _ {F : Type 0} where
       unbuilt_at : (i : ℕ) (x : Open) → slice_get makes i ≡ Some (planned.Node x) → (i < length made) ⊎ (i ≡ length made)
           → (graph new).built (made_node (made ++ last_one ∷ []) i) ≡ None
       unbuilt_at i x at (inl less) =
-          ap (λ (n : NodeId). (graph new).built n) (old_node i less) ∙ (adds.beside.built (made_node made i) (old_given i x at less) ∙ h.unbuilt i x at less)
+          ap (λ (n : NodeId). (graph new).built n) (old_node i less) ∙ (adds.beside.of_nodes.built (made_node made i) (old_given i x at less) ∙ h.unbuilt i x at less)
       unbuilt_at i x at (inr is) = ap (λ (n : NodeId). (graph new).built n) (last_node i is) ∙ adds.unbuilt
 
       later_at : (i : ℕ) (x : Open) → slice_get makes i ≡ Some (planned.Node x) → (i < length made) ⊎ (i ≡ length made)

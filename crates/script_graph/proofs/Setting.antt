@@ -198,7 +198,7 @@ module _ (named : List ℕ → Option FnRef) (value : FnRef → List GraphValue 
         dead = λ n low is. sets.set.changes.others n
             (λ same. let none : row_at (arena_of k) (node_in k.nodes target) ≡ None = ap (row_at (arena_of k)) (sym same) ∙ is in
             none-some old.0 (sym none ∙ old.1)) ∙ is;
-        built = sets.beside.built;
+        built = sets.beside.of_nodes.built;
       }
 
       lives : (n : NodeId) (r : Row) → row_at (arena_of k) n ≡ Some r → (q : Row) × (row_at g.nodes n ≡ Some q)
@@ -216,7 +216,7 @@ module _ (named : List ℕ → Option FnRef) (value : FnRef → List GraphValue 
             let none : None ≡ Some b = sym (sym (ap (λ (q : Row). q.scope) was) ∙ old.2) ∙ (ap (λ (q : Row). q.scope) rows ∙ scope) in cc)
         | inr other ↦
             let was = sym (sets.set.changes.others n other) ∙ is in
-            subst (λ (x : Option BuiltFor). IsSome x) (sym (sets.beside.built b (sound.scopes n r b was scope))) (built n r b was scope)
+            subst (λ (x : Option BuiltFor). IsSome x) (sym (sets.beside.of_nodes.built b (sound.scopes n r b was scope))) (built n r b was scope)
       ]
 
       apart : (n : ℕ) (q : Value) → body_at s n ≡ Some (Variable q) → (n ≡ target → ⊥) → node_in k.nodes n ≡ node_in k.nodes target → ⊥
@@ -375,7 +375,7 @@ module _ (named : List ℕ → Option FnRef) (value : FnRef → List GraphValue 
           names = λ n d is. refl;
           rows = stays (h.represents whole);
           lives = lives (h.represents whole);
-          built = λ n q is. sets.beside.built n (sound.given n (rw is refl));
+          built = λ n q is. sets.beside.of_nodes.built n (sound.given n (rw is refl));
         }) grabs_live (scopes_still (h.represents whole)) (λ x among is. among) (h.settled whole)
 
     names_on : AreNames k.names s → AreNames k.names s'

@@ -74,7 +74,7 @@ module _ (k : Kept) (h : IsSound k) (sound : arena.IsSound (arena_of k)) where
     looks_on o is = subst (λ (os : List Looking). IsSome (standing.node_at os o)) (sym more.beside.observers) is
 
     unbroken_on : k.broken ≡ None → IsUnbroken g
-    unbroken_on whole = more.beside.refused ∙ h.unbroken whole
+    unbroken_on whole = more.beside.top.refused ∙ h.unbroken whole
 
     live_on : (n : ℕ) (d : Declared) → HasLiveNode (arena_of k) k.nodes n d → HasLiveNode g.nodes k.nodes n d
     live_on n d node = record {
@@ -312,5 +312,5 @@ module _ (k : Kept) (h : IsSound k) (sound : arena.IsSound (arena_of k)) where
       one_observer_each = h.one_observer_each;
       looking = λ o among. subst (λ (os : List Looking). IsSome (standing.node_at os o)) (sym sets.beside.observers) (h.looking o among);
       apart = h.apart;
-      unbroken = λ whole. sets.beside.refused ∙ h.unbroken whole;
+      unbroken = λ whole. sets.beside.top.refused ∙ h.unbroken whole;
     }

@@ -7,6 +7,7 @@ use Rattle.std.specs.List.{position_or_len}
 use Rattle.std.specs.Str.{bytes_eq}
 use Rattle.indexmap.specs.IndexMap.{swap_remove_by}
 use Rattle.graph.specs.Effects.{Ends}
+use Rattle.script_graph.proofs.Extending.{top_without, nodes_without}
 use Rattle.graph.specs.Standing.{Standing, node_at}
 use Rattle.inc_value.specs.declared.node.ObsId.{ObsId}
 use Rattle.script_model.specs.Check.{Names, Unobserve}
@@ -62,15 +63,9 @@ ends_so old new o h = record {
   node = h.node;
   was = h.was;
   observers = h.observers;
-  functions = refl;
+  top = top_without old new h.top;
   nodes = h.nodes;
-  rooted = h.rooted;
-  refused = h.refused;
-  ran = h.ran;
-  shown = h.shown;
-  chosen = h.chosen;
-  built = h.built;
-  last = h.last;
+  of_nodes = nodes_without (λ n. Unit {0}) old new h.of_nodes;
   cutoff = h.cutoff;
   fewer_links = h.fewer_links;
   fewer_roots = h.fewer_roots;

@@ -57,16 +57,15 @@ returns-then-place-self-clause-ended g c =
       node = c.in-Some.node;
       was = is;
       observers = c.end.ensures;
-      functions = refl;
+      top = record { functions = refl; rooted = refl; refused = refl; ran = ap (λ v. v.items) u.ran };
       nodes = u.arena;
-      rooted = refl;
-      refused = refl;
-      ran = ap (λ v. v.items) u.ran;
-      shown = λ n. ap (λ (m : Rows Progress). seen_of (at m (main n))) u.rows;
-      chosen = λ n. ap (λ (m : Rows Progress). outcome_in (at m (change n))) u.rows;
-      built = λ n. built_still c.self.inside.parts c.unroot.new.self n (ap (λ (a : Arena). row_at a n) u.arena)
-          (ap (λ (m : Rows Progress). outcome_in (at m (change n))) u.rows) (ap (λ (m : Rows NodeId). at m (change n)) u.right_sides);
-      last = λ n. ap (λ (m : Rows Progress). last_of (at m (main n))) u.rows;
+      of_nodes = record {
+        shown = λ n of. ap (λ (m : Rows Progress). seen_of (at m (main n))) u.rows;
+        chosen = λ n of. ap (λ (m : Rows Progress). outcome_in (at m (change n))) u.rows;
+        built = λ n of. built_still c.self.inside.parts c.unroot.new.self n (ap (λ (a : Arena). row_at a n) u.arena)
+            (ap (λ (m : Rows Progress). outcome_in (at m (change n))) u.rows) (ap (λ (m : Rows NodeId). at m (change n)) u.right_sides);
+        last = λ n of. ap (λ (m : Rows Progress). last_of (at m (main n))) u.rows;
+      };
       cutoff = λ n. ap (λ (m : Rows Progress). cutoff_in (at m (main n))) u.rows;
       fewer_links = u.unrooted.sweep.fewer;
       fewer_roots = roots_fewer _ _ (main c.in-Some.node) u.roots;

@@ -81,7 +81,7 @@ invariant_of-self-in-Err g c =
     let kept = c.in-Err.ensures.kept in
     let count = c.current_mark-mark.result.given in
     let since = c.current_mark-mark.ensures.mark in
-    let back = ap (λ fs. fs.bodies.items) c.take_back.ensures.beside.functions in
+    let back = ap (λ fs. fs.bodies.items) c.take_back.ensures.beside.top.functions in
     let keeps = subst (λ (bs : List Body). KeepsBodies bodies bs 64) (sym back) c.add_declared-declared.ensures.functions.bodies in
     rw (c.in-Err.ensures.names_kept, c.in-Err.ensures.nodes_kept) (returned_sound s.graph now s.names s.nodes.items s.observers.items s.room
     s.accepted s.broken bodies now.functions.bodies.items c.self.invariant c.keeps_sound.ensures.sound.nodes c.keeps_sound-in-Err.ensures.sound.nodes
@@ -126,7 +126,7 @@ returns-in-Err-clause-kept g c =
     let kept = c.in-Err.ensures.kept in
     let count = c.current_mark-mark.result.given in
     let since = c.current_mark-mark.ensures.mark in
-    let back = ap (λ fs. fs.bodies.items) c.take_back.ensures.beside.functions in
+    let back = ap (λ fs. fs.bodies.items) c.take_back.ensures.beside.top.functions in
     let keeps = subst (λ (bs : List Body). KeepsBodies bodies bs 64) (sym back) c.add_declared-declared.ensures.functions.bodies in
     rw (← c.self.view_is, c.in-Err.ensures.names_kept, c.in-Err.ensures.nodes_kept) (returned_stands s.graph now s.names s.nodes.items
     s.observers.items s.room s.accepted s.broken bodies now.functions.bodies.items c.self.invariant c.keeps_sound.ensures.sound.nodes

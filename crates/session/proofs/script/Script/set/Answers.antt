@@ -46,7 +46,7 @@ invariant_of-self g c =
     let sets = subst (λ (n : NodeId). Sets s.graph c.assign.new.self n c.in-Ok.value) node c.assign.ensures in
     let value = rw c.as_slice.ensures at c.in-Ok.ensures in
     let takes = node_takes _ c.self.invariant c.args.target _ fits c.keeps_sound.ensures.sound.nodes _ value c.at.result c.at.ensures in
-    rw (ap (λ fs. fs.bodies.items) c.assign.ensures.beside.functions)
+    rw (ap (λ fs. fs.bodies.items) c.assign.ensures.beside.top.functions)
     (set_sound s.graph c.assign.new.self s.names s.nodes.items s.observers.items s.room s.accepted s.broken s.graph.functions.bodies.items
     s.graph.functions.bodies.items c.self.invariant c.keeps_sound.ensures.sound.nodes c.keeps_sound-in-Ok.ensures.sound.nodes c.args.target c.in-Ok.value sets
     (subst (λ (n : NodeId). IsVariable s.graph.nodes n) node takes.variable))
@@ -58,7 +58,7 @@ returns-in-Ok-clause-set g c =
     let value = rw c.as_slice.ensures at c.in-Ok.ensures in
     let node = target_node _ c.args.target c.at.result c.at.ensures in
     let sets = subst (λ (n : NodeId). Sets s.graph c.assign.new.self n c.in-Ok.value) node c.assign.ensures in
-    rw (← c.self.view_is, ap (λ fs. fs.bodies.items) c.assign.ensures.beside.functions)
+    rw (← c.self.view_is, ap (λ fs. fs.bodies.items) c.assign.ensures.beside.top.functions)
     (λ m. set_stands s.graph c.assign.new.self s.names s.nodes.items s.observers.items s.room s.accepted s.broken s.graph.functions.bodies.items
     s.graph.functions.bodies.items c.self.invariant c.keeps_sound.ensures.sound.nodes c.keeps_sound-in-Ok.ensures.sound.nodes c.args.target c.in-Ok.value sets
     (constant_view c.args.value.now) fits

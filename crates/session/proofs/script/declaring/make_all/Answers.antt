@@ -67,7 +67,7 @@ make_one-requires-clause-ids g c =
     omega (arith, few, within, ids)
 
 pub make_one-requires-clause-unbroken : goal.make_one-requires-clause-unbroken
-make_one-requires-clause-unbroken g c = c.loop-make.invariant.made.making.extends.beside.refused ∙ c.requires.unbroken
+make_one-requires-clause-unbroken g c = c.loop-make.invariant.made.making.extends.beside.top.refused ∙ c.requires.unbroken
 
 pub loop-make-preserved : goal.loop-make-preserved
 loop-make-preserved g c =

@@ -34,16 +34,16 @@ pub returns-in-Ok-clause-made : goal.returns-in-Ok-clause-made
 returns-in-Ok-clause-made g c = rw c.in-Node.is c.in-Ok.ensures.added
 
 pub returns-in-Ok-clause-functions : goal.returns-in-Ok-clause-functions
-returns-in-Ok-clause-functions g c = rw c.in-Ok.ensures.added.beside.functions (functions_stay _ _ _ _)
+returns-in-Ok-clause-functions g c = rw c.in-Ok.ensures.added.beside.top.functions (functions_stay _ _ _ _)
 
 pub returns-in-Ok-clause-known : goal.returns-in-Ok-clause-known
-returns-in-Ok-clause-known g c = rw c.in-Ok.ensures.added.beside.functions (stay_known _ _)
+returns-in-Ok-clause-known g c = rw c.in-Ok.ensures.added.beside.top.functions (stay_known _ _)
 
 pub returns-in-Err-clause-kept : goal.returns-in-Err-clause-kept
 returns-in-Err-clause-kept g c = keeps_extends _ _ c.in-Err.ensures.kept
 
 pub returns-in-Err-clause-functions : goal.returns-in-Err-clause-functions
-returns-in-Err-clause-functions g c = rw c.in-Err.ensures.kept.beside.functions (functions_stay _ _ _ _)
+returns-in-Err-clause-functions g c = rw c.in-Err.ensures.kept.beside.top.functions (functions_stay _ _ _ _)
 
 pub returns-in-Err-clause-known : goal.returns-in-Err-clause-known
-returns-in-Err-clause-known g c = rw c.in-Err.ensures.kept.beside.functions (stay_known _ _)
+returns-in-Err-clause-known g c = rw c.in-Err.ensures.kept.beside.top.functions (stay_known _ _)
