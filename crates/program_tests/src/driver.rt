@@ -90,7 +90,19 @@ fn source_of(alloc: Global, script: &str, outside: &Outside) -> Option<MemSource
     }
 }
 
-/// Whether the run from the source writes the transcript and ends with the status.
+/// How many functions are called by what the transcript tells behind the stabilizes.
+fn calls_told(transcript: &str) -> u64 {
+    let mut told: u64 = 0;
+    for line in transcript.lines() {
+        if let Some(count) = line.strip_prefix("calls ") {
+            told = told.saturating_add(count.parse().unwrap_or(0));
+        }
+    }
+    told
+}
+
+/// Whether the run from the source writes the transcript, ends with the status, and calls functions only where the
+/// transcript tells that: a stabilize that is refused calls none.
 fn is_run(
     alloc: Global,
     source: &mut MemSource,
@@ -109,8 +121,11 @@ fn is_run(
                 &mut Counts::new(),
                 limit,
             );
+            let called = library.calls();
             drop(library);
-            let well = ended == status && sink.written() == transcript.as_bytes();
+            let well = ended == status
+                && called == calls_told(transcript)
+                && sink.written() == transcript.as_bytes();
             drop(sink);
             well
         }
@@ -118,7 +133,7 @@ fn is_run(
     }
 }
 
-/// Whether the run of the script does.
+/// Whether the run of the script does so.
 fn is_run_as_wanted(alloc: Global, script: &Script, outside: &Outside, status: u8) -> bool {
     match source_of(alloc, &script.text, outside) {
         Some(mut source) => {

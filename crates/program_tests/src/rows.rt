@@ -287,6 +287,15 @@ pub(super) const CHOICES: &[Row] = &[
         status: 1,
     },
     Row {
+        name: "a join that reads itself, observed last",
+        script: &[Lines::Once(
+            "var x int 1\nvar h node int &x\nlet j join(h)\nset h &j\nobserve o j\nstabilize\nshow o\n",
+            "ok\nok\nok\nok\nok\nrefused 20 cycle j j\nrefused 22 20\n",
+        )],
+        outside: USUAL,
+        status: 1,
+    },
+    Row {
         name: "ifs that read each other in turn",
         script: &[Lines::Once(
             "var c bool true\nvar u int 1\nvar hx node int &u\nvar hy node int &u\n\
@@ -345,6 +354,20 @@ pub(super) const LIMITS: &[Row] = &[
                 "observe o n128\nstabilize\nshow o\nlet n129 neg(n128)\nobserve p n129\nstabilize\n\
                  show o\n",
                 "ok\nstable 1\ncalls 128\no = 1\nok\nok\nrefused 21 height n129\nrefused 22 21\n",
+            ),
+        ],
+        outside: USUAL,
+        status: 1,
+    },
+    Row {
+        name: "the longest chain of folds, and one more",
+        script: &[
+            Lines::Once("var n0 int 1\n", "ok\n"),
+            Lines::Each((0, 128), ("", 0), "let n% fold add from 1 [n$]\n", "ok\n"),
+            Lines::Once(
+                "observe o n128\nstabilize\nshow o\nlet n129 fold add from 1 [n128]\nobserve p n129\n\
+                 stabilize\nshow o\n",
+                "ok\nstable 1\ncalls 128\no = 129\nok\nok\nrefused 21 height n129\nrefused 22 21\n",
             ),
         ],
         outside: USUAL,
