@@ -1,5 +1,5 @@
 //! A function of right sides that hold the left value.
-ghost use Rattle.std.specs.Prelude.{◌≡◌, IfSome};
+ghost use Rattle.std.specs.Prelude.{◌≡◌, ◌↔◌, IfSome, IsSome};
 ghost use Rattle.inc_value.specs.Value.{type_of};
 ghost use Rattle.inc_value.specs.declared.function.FnKind.TheVariants.{Map};
 ghost use Rattle.inc_value.specs.declared.ty.Ty.TheVariants.{Int};
@@ -26,7 +26,8 @@ pub struct NegOfLeft {
 impl NegOfLeft {
     /// Maps the left by the function, where that is a map of one integer to another.
     pub fn new(neg: &FnRef) -> Option<NegOfLeft>
-        ensures { IfSome result (λ s. s.neg ≡ neg.now) }
+        ensures made { IfSome result (λ s. s.neg ≡ neg.now) }
+        ensures fits { IsSome result ↔ ((neg.now.id.kind ≡ Map) × (neg.now.sig ≡ int_to_int)) }
     {
         if neg.id.kind != FnKind::Map || !is_int_to_int(neg.sig) {
             return None;

@@ -1,5 +1,5 @@
 //! A table of right sides.
-ghost use Rattle.std.specs.Prelude.{◌≡◌, IfSome};
+ghost use Rattle.std.specs.Prelude.{◌≡◌, ◌↔◌, IfSome, IsSome};
 ghost use Rattle.inc_value.specs.declared.function.FnKind.TheVariants.{Map, Rhs};
 ghost use Rattle.closure_examples.specs.Arithmetic.{int_to_int, ints_to_int};
 ghost use Rattle.closure_examples.specs.Making.{BuildsTerm, IsReady, captured};
@@ -65,7 +65,10 @@ fn entry_of(left: &Value) -> Entry
 impl Table {
     /// A table that calls a negation, a sum, and a function of right sides of an integer.
     pub fn new(neg: &FnRef, add: &FnRef, of_left: &FnRef) -> Option<Table>
-        ensures { IfSome result (λ t. (t.neg ≡ neg.now) × (t.add ≡ add.now) × (t.of_left ≡ of_left.now)) }
+        ensures made { IfSome result (λ t. (t.neg ≡ neg.now) × (t.add ≡ add.now) × (t.of_left ≡ of_left.now)) }
+        ensures fits { IsSome result ↔ ((neg.now.id.kind ≡ Map) × (neg.now.sig ≡ int_to_int)
+            × (add.now.id.kind ≡ Map) × (add.now.sig ≡ ints_to_int)
+            × (of_left.now.id.kind ≡ Rhs) × (of_left.now.sig ≡ int_to_int)) }
     {
         if neg.id.kind != FnKind::Map || !is_int_to_int(neg.sig) {
             return None;
