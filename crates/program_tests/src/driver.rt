@@ -101,8 +101,8 @@ fn calls_told(transcript: &str) -> u64 {
     told
 }
 
-/// Whether the run from the source writes the transcript, ends with the status, and calls functions only where the
-/// transcript tells that: a stabilize that is refused calls none.
+/// Whether the run from the source writes the transcript, ends with the status, and calls as many functions as the
+/// transcript tells: none in a stabilize that is refused.
 fn is_run(
     alloc: Global,
     source: &mut MemSource,
