@@ -106,17 +106,15 @@ module _ {A : Type 0} (names : Names) (nodes : List NodeId) (g : Standing A) (be
 
 -- ---- a right side that its own bind's main reads
 
--- the main of the owner reads it as a part
-pub is_own_root : {A : Type 0} (g : Standing A) (p : Point) (n top : NodeId) → IsOwner (graph g) n top → p.part ≡ Main → (top ≡ n → ⊥) → p.node ≡ top
-    → IsOwnRoot g p n
-is_own_root g p n top is part other node = (top, is, other, is_main p top part (sym node))
-
 -- a root that its bind's main reads has that owner
 pub own_root : {A : Type 0} (g : Standing A) (p : Point) (n top : NodeId) → IsOwner (graph g) n top → IsOwnRoot g p n
-    → (p.part ≡ Main) × (top ≡ n → ⊥) × (p.node ≡ top)
+    → (top ≡ n → ⊥) × (p ≡ main top)
 own_root g p n top is own =
     let same : own.0 ≡ top = one_owner (graph g) n own.0 top own.1 is in (
-      ap (λ (q : Point). q.part) own.3,
       λ e. own.2 (same ∙ e),
-      ap (λ (q : Point). q.node) own.3 ∙ same,
+      own.3 ∙ ap main same,
     )
+
+-- what isn't live has no owner whose main could read it
+pub no_root : {A : Type 0} (g : Standing A) (p : Point) (n : NodeId) → (IsLive g.nodes n → ⊥) → IsOwnRoot g p n → ⊥
+no_root g p n dead own = dead (owned_is_live (graph g) n own.0 own.1)

@@ -170,7 +170,16 @@ fn or_no_memory<T: Copy>(given: Result<T, GraphFault>) -> Result<T, AllocError>
 {
     match given {
         Ok(x) => Ok(x),
-        Err(GraphFault::Memory) => Err(AllocError),
-        Err(_) => unreachable!(),
+        Err(fault) => Err(no_memory(fault)),
+    }
+}
+
+/// The fault, where only memory may have been wanting.
+fn no_memory(fault: GraphFault) -> AllocError
+    requires { fault ≡ GraphFault.Memory }
+{
+    match fault {
+        GraphFault::Memory => AllocError,
+        _ => unreachable!(),
     }
 }

@@ -27,10 +27,10 @@ ghost use Rattle.script_model.specs.Step.{Moment, moved};
 ghost use Rattle.session.specs.Carried.{IsBeside};
 ghost use Rattle.session.specs.Making.{AreMade, IsServing, KeepsFunctions, StayKnown};
 
-use super::{Script, or_no_memory};
+use super::{Script, no_memory, or_no_memory};
 use formula_elab::{Made, Make, Plan, elaborate};
 use formula_lang::{Declaration, Formula, Kind, Names};
-use graph::{Graph, GraphFault};
+use graph::Graph;
 use inc_terms::Def;
 use inc_value::{NodeId, Ty};
 use indexed_nodes::IndexedNodes;
@@ -260,10 +260,7 @@ fn keep_body<L: Library>(graph: &mut Graph<ScriptFns<L>>, body: Body) -> Result<
         Ok(function) => Ok(Made::Fn(function)),
         Err((fault, body)) => {
             drop(body);
-            match fault {
-                GraphFault::Memory => Err(AllocError),
-                _ => unreachable!(),
-            }
+            Err(no_memory(fault))
         }
     }
 }

@@ -2,6 +2,7 @@
 ghost use Rattle.std.specs.Prelude.{ℕ, ◌≡◌, ◌↔◌, ◌<◌, ◌++◌, List, [], length, slice_get, IfOk, IfSome, IfNone, OnOk, OnErr, IsTrue, None, Some};
 ghost use Rattle.std.specs.List.{flat_map};
 ghost use Rattle.script_graph.specs.Stabilizing.{CyclePasses, IsCycleMet, IsOwnRoot, IsPassed, PassesAll, closed};
+ghost use Rattle.inc_terms.specs.Depend.{main};
 ghost use Rattle.session.specs.Naming.{closing_name, either_of};
 ghost use Rattle.session.specs.Replies.{HaveTargets, IsOwnNode, IsReferredName, cycle_line, name_in, named_of, referred_node};
 
@@ -102,10 +103,17 @@ fn passed<L: Library>(
 fn is_own_root<L: Library>(graph: &Graph<ScriptFns<L>>, point: Point, node: NodeId) -> bool
     ensures { IsTrue result ↔ IsOwnRoot graph.now point node }
 {
-    match (graph.owner(node), point.part) {
-        (Some(bind), Part::Main) => bind != node && point.node == bind,
-        (Some(_), Part::Change) | (None, _) => false,
+    match graph.owner(node) {
+        Some(bind) => bind != node && is_main_of(point, bind),
+        None => false,
     }
+}
+
+/// Whether the point is the main of the node.
+fn is_main_of(point: Point, node: NodeId) -> bool
+    ensures { IsTrue result ↔ (point ≡ main node) }
+{
+    point.part == Part::Main && point.node == node
 }
 
 /// Appends the reply to a stabilize that was refused for a cycle: the declarations that its points pass, by their names, and the first of them once

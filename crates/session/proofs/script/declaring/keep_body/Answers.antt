@@ -1,5 +1,4 @@
-use Rattle.std.proofs.Common.{refl, ap, rules}
-use Rattle.std.proofs.lemmas.Grind.{common_steps}
+use Rattle.std.proofs.Common.{refl, ap}
 use Rattle.graph.specs.Standing.{without_functions}
 use Rattle.node_arena.specs.RightSide.{RightSide}
 use Rattle.session.proofs.Refused.{wants_memory, not_both, not_full}
@@ -9,12 +8,11 @@ pub more-requires : goal.more-requires
 more-requires g c = record { keepable = c.requires.usable }
 
 -- an unbroken graph with room is without memory where it keeps nothing
-pub unreachable-requires : goal.unreachable-requires
-unreachable-requires g c =
+pub no_memory-requires : goal.no_memory-requires
+no_memory-requires g c =
     let e = c.in-Err.ensures in
-    let memory = wants_memory _ e.keeping (λ cause is. not_both _ _ c.requires.unbroken ((e.broken cause).0 is).1)
-    (λ many. not_full _ (e.too_many.0 many).1 c.requires.bodies) in
-    search (rules, common_steps)
+    wants_memory _ e.keeping (λ cause is. not_both _ _ c.requires.unbroken ((e.broken cause).0 is).1)
+    (λ many. not_full _ (e.too_many.0 many).1 c.requires.bodies)
 
 pub returns-in-Ok-clause-made : goal.returns-in-Ok-clause-made
 returns-in-Ok-clause-made g c =

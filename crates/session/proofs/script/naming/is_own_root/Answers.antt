@@ -1,16 +1,15 @@
-use Rattle.std.proofs.Common.{rules, ◌≡◌, IsTrue}
-use Rattle.session.proofs.Owned.{is_own_root, own_root}
+use Rattle.std.proofs.Common.{◌≡◌, rules}
+use Rattle.session.proofs.Owned.{no_root, own_root}
 use Rattle.session.proofs.script.naming.is_own_root.Goals as goal
 
 pub returns-then-ne : goal.returns-then-ne
 returns-then-ne g c =
-    let s = c.args.graph.now in
-    let p = c.args.point in
-    let n = c.args.node in
-    let h = c.in-Some-Main in
-    let apart : h.bind ≡ n → ⊥ = search rules in
-    let there : IsTrue c.eq.result → p.node ≡ h.bind = search rules in
-    let back : p.node ≡ h.bind → IsTrue c.eq.result = search rules in (
-      λ same. is_own_root s p n h.bind h.ensures.live h.is-1 apart (there same),
-      λ own. back (own_root s p n h.bind h.ensures.live own).2,
+    let top = c.in-Some.bind in
+    let owner = c.in-Some.ensures.live in
+    let apart : top ≡ c.args.node → ⊥ = search rules in (
+      λ same. (top, owner, apart, c.is_main_of.ensures.0 same),
+      λ own. c.is_main_of.ensures.1 (own_root c.args.graph.now c.args.point c.args.node top owner own).1,
     )
+
+pub returns-in-None : goal.returns-in-None
+returns-in-None g c = (λ is. absurd cc, λ own. absurd (no_root c.args.graph.now c.args.point c.args.node c.in-None.ensures.dead own))
