@@ -1,23 +1,14 @@
 -- Faults of the crates below, told apart.
 use Rattle.std.proofs.Common.{◌≡◌, Ok, Err, refl, sym, ap, subst, ◌∙◌}
-use Rattle.std.specs.Prelude.{Result, IfOk, OnOk, IsErrOf, ◌↔◌}
-use Rattle.inc_value.specs.declared.node.NodeId.{NodeId}
-use Rattle.graph.specs.Fault.{of_add, of_set}
+use Rattle.std.specs.Prelude.{Result, OnOk, IsErrOf, ◌↔◌}
+use Rattle.graph.specs.Fault.{of_set}
 use Rattle.graph.specs.declared.fault.GraphFault.{GraphFault}
 use Rattle.graph.specs.declared.fault.GraphFault.TheVariants as fault
-use Rattle.node_arena.specs.declared.arena.AddFault.{AddFault}
-use Rattle.node_arena.specs.declared.arena.AddFault.TheVariants as add
 use Rattle.node_arena.specs.declared.arena.variable.SetFault.{SetFault}
 use Rattle.node_arena.specs.declared.arena.variable.SetFault.TheVariants as set
 
 pub same_err : {T E : Type 0} {a b : E} → ◌≡◌ {A = Result T E} (Err a) (Err b) → a ≡ b
 same_err e = cc
-
-pub add_wrong_type : (e : AddFault) → of_add e ≡ fault.WrongType → e ≡ add.WrongType
-add_wrong_type add.Unknown h = absurd cc
-add_wrong_type add.WrongType h = refl
-add_wrong_type add.Full h = absurd cc
-add_wrong_type add.Memory h = absurd cc
 
 pub set_unknown : (e : SetFault) → of_set e ≡ fault.Unknown → e ≡ set.Unknown
 set_unknown set.Unknown h = refl
@@ -57,23 +48,7 @@ set_variable S (Ok u) unknown not_var s = (
 )
 set_variable S (Err e) unknown not_var s = tt
 
-abbrev pub AddPasses : {T : Type 0} → Result T AddFault → Result T GraphFault → Type 0
-AddPasses (Ok u) q = q ≡ Ok u
-AddPasses (Err e) q = q ≡ Err (of_add e)
-
-pub add_passed : {T P U : Type 0} (r : Result T AddFault) (q : Result T GraphFault) (s : AddFault) (f : GraphFault) → AddPasses r q
-    → ((e : AddFault) → of_add e ≡ f → e ≡ s) → of_add s ≡ f → (r ≡ Err s) ↔ P → U → (q ≡ Err f) ↔ (U × P)
-add_passed (Ok u) q s f m only is both unbroken = ((λ h. absurd (let x = sym m ∙ h in cc)), (λ k. absurd (let x = both.1 k.1 in cc)))
-add_passed (Err e) q s f m only is both unbroken = (
-  (λ h. (unbroken, both.0 (ap Err (only e (same_err (sym m ∙ h)))))),
-  (λ k. m ∙ ap Err (ap of_add (same_err (both.1 k.1)) ∙ is)),
-)
-
--- what such an answer says of a new id
+-- what such an answer says beside
 pub ok_passes : {T : Type 0} (P : Type 0) (r : Result T SetFault) (q : Result T GraphFault) → Passes r q → OnOk r P → OnOk q P
 ok_passes P (Ok v) q is p = subst (λ (x : Result _ GraphFault). OnOk x P) (sym is) p
 ok_passes P (Err e) q is p = subst (λ (x : Result _ GraphFault). OnOk x P) (sym is) p
-
-pub id_passes : (P : NodeId → Type 0) (r : Result NodeId AddFault) (q : Result NodeId GraphFault) → AddPasses r q → IfOk r P → IfOk q P
-id_passes P (Ok id) q is p = subst (λ (x : Result NodeId GraphFault). IfOk x P) (sym is) p
-id_passes P (Err e) q is p = subst (λ (x : Result NodeId GraphFault). IfOk x P) (sym is) p

@@ -4,6 +4,7 @@ pub mod Observing
 pub mod Seeing
 pub mod Sound
 pub mod Faulting
+pub mod Adding
 pub mod Sounding
 pub mod Stabilizing
 pub mod Rounding

@@ -1,5 +1,6 @@
 -- What calls do to a graph, and what they leave.
-use Rattle.std.specs.Prelude.{◌≡◌, ◌≢◌, ◌⊎◌, ◌+◌, ◌<◌, ◌≤◌, ◌++◌, ℕ, Bool, IsTrue, true, false, [], ◌∷◌, length, slice_set, None, Some}
+use Rattle.std.specs.Prelude.{◌≡◌, ◌≢◌, ◌⊎◌, ◌↔◌, ◌+◌, ◌<◌, ◌≤◌, ◌++◌, ℕ, Bool, IsTrue, true, false, [], ◌∷◌, length, slice_set, None, Some}
+use Rattle.std.specs.Prelude.{Result, IfOk, IfErr, OnErr, IsErrOf}
 use Rattle.inc_value.specs.declared.function.FnRef.{FnRef}
 use Rattle.inc_value.specs.declared.node.ObsId.{ObsId}
 use Rattle.inc_value.specs.declared.node.NodeId.{NodeId}
@@ -13,7 +14,7 @@ use Rattle.map_nodes.specs.declared.cutoff.Cutoff.TheVariants.{Equal}
 use Rattle.node_arena.specs.Arena.{Arena, row_at, Changes, IsLive, IsFull, IsSet, NamesGiven}
 use Rattle.node_arena.specs.RightSide.{RightSide, AreFit}
 use Rattle.node_arena.specs.Typing.{Makes}
-use Rattle.graph.specs.Standing.{Standing, graph, node_at, shown_of, chosen_by, called_last, cutoff_of, times_linked, times_rooted}
+use Rattle.graph.specs.Standing.{Standing, IsUnbroken, IsBroken, graph, node_at, shown_of, chosen_by, called_last, cutoff_of, times_linked, times_rooted}
 use Rattle.graph.specs.declared.fault.Kept.{Kept}
 use Rattle.graph.specs.declared.fault.GraphFault.{GraphFault}
 use Rattle.graph.specs.declared.fault.GraphFault.TheVariants as fault
@@ -32,6 +33,10 @@ CallsKnown known right a def = Unit {0}
 -- no live node that was given since the count stands in a scope
 abbrev pub NoneScopedSince : Arena → ℕ → Type 0
 NoneScopedSince a count = (n : NodeId) (r : Row) → row_at a n ≡ Some r → count ≤ n.gen_ → r.scope ≡ None
+
+-- why a node may not be added
+abbrev pub IsAddFault : GraphFault → Type 0
+IsAddFault e = ((cause : Kept) × (e ≡ fault.Broken cause)) ⊎ (e ≡ fault.Unknown) ⊎ (e ≡ fault.WrongType) ⊎ (e ≡ fault.Full) ⊎ (e ≡ fault.Memory)
 
 module _ {F : Type 0} where
   -- the functions stay, what the last accepted stabilize told and what broke the graph
@@ -96,6 +101,27 @@ module _ {F : Type 0} where
     pub uncalled : called_last new id ≡ None
     pub equal : cutoff_of new id ≡ Equal
 
+  -- what the call answers that adds a node of a definition, with a type: under which id it was added, or the first of what stands in the way, or that
+  -- there is no memory. Where it is refused nothing changed
+  pub record AnswersAdd (old new : Standing F) (def : Def) (ty : Ty) (answer : Result NodeId GraphFault) : Type 0 where
+    pub added : IfOk answer (λ id. Adds old new id (top def ty))
+    pub broken : (cause : Kept) → IsErrOf answer (fault.Broken cause) ↔ IsBroken old cause
+    pub unknown : IsErrOf answer fault.Unknown ↔ (IsUnbroken old × NamesUnknown old def)
+    pub wrong_type : IsErrOf answer fault.WrongType ↔ (IsUnbroken old × IsMistyped old def ty)
+    pub full : IsErrOf answer fault.Full ↔ (IsUnbroken old × HasNoRoom old def ty)
+    pub adding : IfErr answer IsAddFault
+    pub err : OnErr answer (KeepsAll old new)
+
+  -- why a list of nodes isn't copied: the graph is broken, or there is no memory
+  abbrev pub RefusesList : Standing F → GraphFault → Type 0
+  RefusesList s e = ((cause : Kept) × IsBroken s cause × (e ≡ fault.Broken cause)) ⊎ (IsUnbroken s × (e ≡ fault.Memory))
+
+  -- the same of a call that copies a list of nodes first, for which there may be no memory
+  pub record AnswersListed (old new : Standing F) (def : Def) (ty : Ty) (answer : Result NodeId GraphFault) : Type 0 where
+    pub added : IfOk answer (λ id. Adds old new id (top def ty))
+    pub err : OnErr answer (KeepsAll old new)
+    pub exact : AnswersAdd old new def ty answer ⊎ (IsUnbroken old × IsErrOf answer fault.Memory)
+
   -- ---- nodes that are set and taken back
 
   -- a variable was set
@@ -141,10 +167,7 @@ module _ {F : Type 0} where
     pub fewer_links : (p q : Point) → times_linked new p q ≤ times_linked old p q
     pub fewer_roots : (p : Point) → times_rooted new p ≤ times_rooted old p
 
--- why a node may not be added, set or observed, and why no function is kept; why an observer may not be ended, and why not asked
-abbrev pub IsAddFault : GraphFault → Type 0
-IsAddFault e = ((cause : Kept) × (e ≡ fault.Broken cause)) ⊎ (e ≡ fault.Unknown) ⊎ (e ≡ fault.WrongType) ⊎ (e ≡ fault.Full) ⊎ (e ≡ fault.Memory)
-
+-- why a node may not be set or observed, and why no function is kept; why an observer may not be ended, and why not asked
 abbrev pub IsKeepFault : GraphFault → Type 0
 IsKeepFault e = ((cause : Kept) × (e ≡ fault.Broken cause)) ⊎ (e ≡ fault.TooMany) ⊎ (e ≡ fault.Memory)
 

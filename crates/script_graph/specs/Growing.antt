@@ -30,7 +30,7 @@ use Rattle.formula_elab.specs.declared.opened.Open.TheVariants as open_def
 use Rattle.formula_elab.specs.declared.opened.Part.{Part}
 use Rattle.formula_elab.specs.declared.opened.Part.TheVariants as part
 use Rattle.formula_elab.specs.declared.plan.Planned.TheVariants as planned
-use Rattle.graph.specs.Effects.{top, Adds, KeepsBesideGiven}
+use Rattle.graph.specs.Effects.{top, Adds, CallsKnown, KeepsBesideGiven}
 use Rattle.graph.specs.Standing.{Standing, graph, without_functions}
 use Rattle.node_arena.specs.Arena.{Arena, row_at, live, NamesGiven}
 use Rattle.node_arena.specs.Building.{Use}
@@ -44,7 +44,6 @@ use Rattle.script_functions.specs.Keeping.{makers, side_in}
 pub use Rattle.script_functions.specs.Keeping.{KeepsBodies}
 use Rattle.script_functions.specs.Lines.{line_uses}
 use Rattle.script_model.specs.Values.{seen_value}
-use Rattle.script_graph.specs.Today.{CallsFit}
 
 -- a value refers to a node of its base type or a dead one, if to any
 abbrev pub RefersToFit : Arena → Value → Type 0
@@ -112,7 +111,7 @@ AllPlannedFit known a makes = (i : ℕ) (x : Planned) → slice_get makes i ≡ 
 pub record IsWelcome (known : FnRef → Bool) (right : FnRef → RightSide) (a : Arena) (d : Def) (ty : Ty) : Type 0 where
   pub named : NamesGiven a.given d
   pub makes : Makes a d ty
-  pub calls : CallsFit known right a d
+  pub calls : CallsKnown known right a d
 
 -- what is to be made is such a definition, or a body that can be kept beside the functions
 abbrev pub IsWelcomeMake : (FnRef → Bool) → (FnRef → RightSide) → Arena → Make → Type 0

@@ -1,15 +1,13 @@
 -- What is so of scripts of today's forms alone, and goes with one later form or another.
-use Rattle.std.specs.Prelude.{◌≡◌, ◌<◌, ◌≤◌, ℕ, Bool, IsTrue, false, List, [], ◌∷◌, Option, None, Some}
+use Rattle.std.specs.Prelude.{◌≡◌, ◌<◌, ◌≤◌, ℕ, Bool, false, List, [], ◌∷◌, Option, None, Some}
 use Rattle.inc_value.specs.declared.function.FnRef.{FnRef}
 use Rattle.inc_value.specs.declared.node.NodeId.{NodeId}
 use Rattle.inc_value.specs.declared.value.Value.{Value}
 use Rattle.inc_terms.specs.Graph as graph
-use Rattle.inc_terms.specs.Graph.{Graph, Row, Def}
+use Rattle.inc_terms.specs.Graph.{Graph, Row}
 use Rattle.formula_elab.specs.Today.{IsLaidOutBody}
 use Rattle.graph.specs.Standing.{cutoff_of, graph as graph_of_standing}
 use Rattle.map_nodes.specs.declared.cutoff.Cutoff.TheVariants.{Equal}
-use Rattle.node_arena.specs.Arena.{Arena}
-use Rattle.node_arena.specs.RightSide.{AreFit, RightSide}
 use Rattle.script_model.specs.Formula.{Formula, Formulas, Body, State, Observer, body_at, Literal, Name, Apply, Fold, If, Join, Bind, End, More, Variable, Computed, Grab, Unwatched}
 use Rattle.script_model.specs.Leaves.{EveryReference, EveryLeafOf}
 use Rattle.script_model.specs.Settle.{Notice}
@@ -50,15 +48,6 @@ pub record IsTodaysObserver (x : Observer) : Type 0 where
 -- no notice comes
 abbrev pub NoNotices : List Notice → Type 0
 NoNotices notices = notices ≡ []
-
--- ---- the graph: no clock, no freezes, no experts
-
--- the function of a map or a fold is known, whatever its kind; that of a bind lists nodes that fit
-abbrev pub CallsFit : (FnRef → Bool) → (FnRef → RightSide) → Arena → Def → Type 0
-CallsFit known right a (graph.Map f kids) = IsTrue (known f)
-CallsFit known right a (graph.Fold f v kids) = IsTrue (known f)
-CallsFit known right a (graph.Bind left f captures) = IsTrue (known f) × AreFit a (right f).ids
-CallsFit known right a def = Unit {0}
 
 -- ---- beside the graph: no freezes, and no experts that were made stale
 

@@ -1,5 +1,5 @@
 //! Binds, whose right sides functions build, and functions that are kept beside the others.
-ghost use Rattle.std.specs.Prelude.{◌≡◌, ◌⊎◌, ◌↔◌, ◌<◌, Some, IfOk, IfErr, OnOk, OnErr, IsErrOf, IsTrue, IsOk};
+ghost use Rattle.std.specs.Prelude.{◌≡◌, ◌↔◌, ◌<◌, Some, IfOk, IfErr, OnOk, OnErr, IsErrOf, IsTrue, IsOk};
 ghost use Rattle.inc_value.specs.declared.node.NodeId.{NodeId};
 ghost use Rattle.inc_value.specs.declared.function.FnRef.{FnRef as AFunction};
 ghost use Rattle.inc_terms.specs.Graph.{Bind};
@@ -7,12 +7,12 @@ ghost use Rattle.inc_terms.specs.Within.{Given};
 ghost use Rattle.node_arena.specs.RightSide.{AreFit, IsKeepable, Means, KeepsMeanings, one_taken};
 ghost use Rattle.node_arena.specs.Typing.{Fits};
 ghost use Rattle.graph.specs.Standing.{IsUnbroken, IsBroken, graph, root_in};
-ghost use Rattle.graph.specs.Effects.{top, NamesUnknown, IsMistyped, HasNoRoom, KeepsAll, IsAddFault, IsKeepFault, Adds};
+ghost use Rattle.graph.specs.Effects.{IsKeepFault, AnswersListed};
 ghost use Rattle.graph.specs.declared.fault.Kept.{Kept as ACause};
 
 use super::Graph;
 use crate::fault::{GraphFault, more_fault};
-use inc_terms::{Def, Nodes};
+use inc_terms::Def;
 use inc_value::{FnRef, NodeId, Ty};
 use node_arena::Functions;
 
@@ -29,25 +29,9 @@ impl<F: Functions> Graph<F> {
     ) -> Result<NodeId, GraphFault>
         requires known { IsTrue (F.known self.old.functions function) }
         requires fit { AreFit self.old.nodes (F.right self.old.functions function).ids }
-        ensures broken { (cause : ACause) → IsErrOf result (GraphFault.Broken cause) ↔ IsBroken self.old cause }
-        ensures added { IfOk result (λ id. Adds self.old self.new id (top (Bind left function captures.now) function.sig.gives)) }
-        ensures unknown { IsErrOf result GraphFault.Unknown
-            → IsUnbroken self.old × NamesUnknown self.old (Bind left function captures.now) }
-        ensures unknown_told { IsUnbroken self.old → NamesUnknown self.old (Bind left function captures.now)
-            → IsErrOf result GraphFault.Unknown ⊎ IsErrOf result GraphFault.Memory }
-        ensures wrong_type { IsErrOf result GraphFault.WrongType
-            → IsUnbroken self.old × IsMistyped self.old (Bind left function captures.now) function.sig.gives }
-        ensures wrong_type_told { IsUnbroken self.old → IsMistyped self.old (Bind left function captures.now) function.sig.gives
-            → IsErrOf result GraphFault.WrongType ⊎ IsErrOf result GraphFault.Memory }
-        ensures full { IsErrOf result GraphFault.Full
-            → IsUnbroken self.old × HasNoRoom self.old (Bind left function captures.now) function.sig.gives }
-        ensures full_told { IsUnbroken self.old → HasNoRoom self.old (Bind left function captures.now) function.sig.gives
-            → IsErrOf result GraphFault.Full ⊎ IsErrOf result GraphFault.Memory }
-        ensures adding { IfErr result IsAddFault }
-        ensures err { OnErr result (KeepsAll self.old self.new) }
+        ensures { AnswersListed self.old self.new (Bind left function captures.now) function.sig.gives result }
     {
-        self.check()?;
-        let captures = Nodes::from_slice(self.alloc, captures)?;
+        let captures = self.listed(captures)?;
         let def = Def::Bind {
             left,
             function,

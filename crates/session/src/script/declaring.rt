@@ -9,13 +9,11 @@ ghost use Rattle.formula_elab.specs.declared.make.Made.{Made};
 ghost use Rattle.formula_lang.specs.CommandView.{body_view};
 ghost use Rattle.formula_lang.specs.Fits.{BodyFits, DeclarationFits};
 ghost use Rattle.formula_lang.specs.NamesView.{kind_view};
-ghost use Rattle.graph.specs.Effects.{top, Adds, KeepsAll};
 ghost use Rattle.graph.specs.Standing.{IsUnbroken};
-ghost use Rattle.inc_terms.specs.Code.{def_of};
 ghost use Rattle.inc_value.specs.declared.ty.Ty.{Ty as ATy};
 ghost use Rattle.node_arena.specs.Arena.{live};
 ghost use Rattle.node_arena.specs.RightSide.{AreUsable};
-ghost use Rattle.script_graph.specs.Growing.{AllPlannedFit, Extends, IsBodyKept, IsMadeIn, IsWelcome, IsWelcomeMake, functions_over};
+ghost use Rattle.script_graph.specs.Growing.{AllPlannedFit, Extends, IsBodyKept, IsMadeIn, IsWelcomeMake, functions_over};
 ghost use Rattle.script_graph.specs.Kept.{arena_of};
 ghost use Rattle.script_graph.specs.Sound.{HaveNodes};
 ghost use Rattle.script_graph.specs.State.{MatchesMoment};
@@ -30,8 +28,7 @@ ghost use Rattle.session.specs.Making.{AreMade, IsServing, KeepsFunctions, StayK
 use super::{Script, no_memory, or_no_memory};
 use formula_elab::{Made, Make, Plan, elaborate};
 use formula_lang::{Declaration, Formula, Kind, Names};
-use graph::Graph;
-use inc_terms::Def;
+use graph::{Graph, GraphFault};
 use inc_value::{NodeId, Ty};
 use indexed_nodes::IndexedNodes;
 use node_arena::Library;
@@ -234,7 +231,7 @@ fn make_one<L: Library>(graph: &mut Graph<ScriptFns<L>>, make: Make) -> Result<M
 {
     match make {
         Make::Body(body) => keep_body(graph, body),
-        Make::Node(def, ty) => match add(graph, def, ty) {
+        Make::Node(def, ty) => match or_no_memory(graph.add(def, ty)) {
             Ok(node) => Ok(Made::Node(node)),
             Err(fault) => Err(fault),
         },
@@ -262,32 +259,6 @@ fn keep_body<L: Library>(graph: &mut Graph<ScriptFns<L>>, body: Body) -> Result<
             drop(body);
             Err(no_memory(fault))
         }
-    }
-}
-
-/// Adds a node of a type, whose children are there and fit.
-fn add<L: Library>(graph: &mut Graph<ScriptFns<L>>, def: Def, ty: Ty) -> Result<NodeId, AllocError>
-    requires unbroken { IsUnbroken graph.old }
-    requires welcome { IsWelcome (is_known (L.known graph.old.functions.library) (makers graph.old.functions.bodies.items)) (side_in (makers graph.old.functions.bodies.items)) graph.old.nodes (def_of def) ty }
-    requires room { live graph.old.nodes < 1048576 }
-    requires ids { graph.old.nodes.given < 2 ^ 64 - 1 }
-    ensures added { IfOk result (λ node. Adds graph.old graph.new node (top (def_of def) ty)) }
-    ensures kept { OnErr result (KeepsAll graph.old graph.new) }
-{
-    match def {
-        Def::Const(value) => or_no_memory(graph.constant(value)),
-        Def::Var(value) => or_no_memory(graph.var(value)),
-        Def::Map(function, kids) => or_no_memory(graph.map(function, kids.as_slice())),
-        Def::Fold(function, initial, kids) => {
-            or_no_memory(graph.fold(function, initial, kids.as_slice()))
-        }
-        Def::If { test, yes, no } => or_no_memory(graph.if_(ty, test, yes, no)),
-        Def::Join(child) => or_no_memory(graph.join(ty, child)),
-        Def::Bind {
-            left,
-            function,
-            captures,
-        } => or_no_memory(graph.bind(left, function, captures.as_slice())),
     }
 }
 

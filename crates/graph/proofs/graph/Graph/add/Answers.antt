@@ -1,7 +1,4 @@
 use Rattle.std.proofs.Common.{inl, Err, refl, sym, ap, subst, ◌∙◌}
-use Rattle.node_arena.specs.declared.arena.AddFault.TheVariants as add
-use Rattle.graph.specs.declared.fault.GraphFault.TheVariants as fault
-use Rattle.graph.proofs.Faulting.{AddPasses, add_passed, add_wrong_type, id_passes}
 use Rattle.inc_terms.specs.Code.{def_of}
 use Rattle.inc_terms.specs.Depend.{main, change}
 use Rattle.necessity.specs.Need.{Roots, root_times}
@@ -9,6 +6,7 @@ use Rattle.inc_value.specs.declared.node.NodeId.{NodeId}
 use Rattle.point_map.specs.Rows.{Rows, at}
 use Rattle.inc_terms.specs.Within.{Given}
 use Rattle.node_outcomes.specs.Row.{outcome_in}
+use Rattle.graph.proofs.Adding.{Passes, answers_as, answers_broken}
 use Rattle.graph.proofs.Seeing.{beside_as, built_still}
 use Rattle.graph.proofs.Sounding.{AddAnswers, adds_of, sound_still, answer_ready, answer_given, answer_fit}
 use Rattle.graph.proofs.graph.Graph.add.Goals as goal
@@ -38,19 +36,15 @@ invariant_of-self g c = (
       c.self.invariant.1.kept.work c.self.invariant.3),
 )
 
-pub returns-clause-wrong_type : goal.returns-clause-wrong_type
-returns-clause-wrong_type g c = rw (← c.self.view_is) (add_passed c.add-added.result c.match-added.result add.WrongType fault.WrongType
-    (elim c.match-added.branch [
-      | in-Ok-added w ↦ subst (λ r. AddPasses r c.match-added.result) (sym w.in-Ok-added.is) w.result-is
-      | in-Err-added w ↦ subst (λ r. AddPasses r c.match-added.result) (sym w.in-Err-added.is) (w.result-is ∙ ap Err w.add_fault.ensures)
-    ]) add_wrong_type refl c.add-added.ensures.wrong_type (rw (← c.self.view_is) at c.in-Ok.ensures.unbroken))
+pub returns-in-Err : goal.returns-in-Err
+returns-in-Err g c = let b = c.in-Err.ensures.broken in answers_broken _ (def_of c.args.def) c.args.ty b.0 b.1 _ b.2
 
-pub returns-clause-added : goal.returns-clause-added
-returns-clause-added g c =
+pub returns : goal.returns
+returns g c =
     let a = c.add-added.ensures in
-    let passes : AddPasses c.add-added.result c.match-added.result = elim c.match-added.branch [
-      | in-Ok-added w ↦ subst (λ r. AddPasses r c.match-added.result) (sym w.in-Ok-added.is) w.result-is
-      | in-Err-added w ↦ subst (λ r. AddPasses r c.match-added.result) (sym w.in-Err-added.is) (w.result-is ∙ ap Err w.add_fault.ensures)
+    let passes : Passes c.add-added.result c.match-added.result = elim c.match-added.branch [
+      | in-Ok-added w ↦ subst (λ r. Passes r c.match-added.result) (sym w.in-Ok-added.is) w.result-is
+      | in-Err-added w ↦ subst (λ r. Passes r c.match-added.result) (sym w.in-Err-added.is) (w.result-is ∙ ap Err w.add_fault.ensures)
     ] in
     let answers : AddAnswers c.self.inside.parts.arena c.add-added.new.self.arena (def_of c.args.def) c.args.ty c.add-added.result
     = record { added = a.adds.added; given = a.adds.given; err = a.adds.err; fresh = a.adds.id; unknown = a.unknown.1 } in
@@ -59,5 +53,6 @@ returns-clause-added g c =
     (λ n given. built_still c.self.inside.parts c.add-added.new.self n (a.adds.keeps n given) (ap outcome_in (a.adds.rows (change n) given))
     (ap (λ (m : Rows NodeId). at m (change n)) a.adds.right_sides))
     (λ n. inl (a.adds.cutoffs n)) in
-    rw (← c.self.view_is) (id_passes _ c.add-added.result c.match-added.result passes
-    (adds_of _ _ (def_of c.args.def) c.args.ty c.add-added.result _ refl refl refl answers a.adds.row beside))
+    rw (← c.self.view_is) (answers_as _ _ (def_of c.args.def) c.args.ty (rw (← c.self.view_is) at c.in-Ok.ensures.unbroken)
+    c.add-added.result c.match-added.result passes beside
+    (adds_of _ _ (def_of c.args.def) c.args.ty c.add-added.result _ refl refl refl answers a.adds.row beside) a.adds.err a.unknown a.wrong_type a.full)
