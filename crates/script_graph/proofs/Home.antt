@@ -36,7 +36,6 @@ inside_bind g f v e = absurd (cc)
 
 module _ (named : List ℕ → Option FnRef) (value : FnRef → List GraphValue → GraphValue) (s : State) (k : Kept) (g : Standing (Unit {0}))
     (c : IsStabilize (meanings_of named value) s k g) where
-
   abbrev y : Both
   y = middle (meanings_of named value) s k g
 
