@@ -24,6 +24,7 @@ use Rattle.node_outcomes.specs.declared.row.Stage.{Stage}
 use Rattle.node_outcomes.specs.declared.row.Stage.TheVariants as code
 use Rattle.wiring.specs.Graph.{graph_at, rowless}
 use Rattle.wiring.specs.Kept.{IsKept}
+use Rattle.wiring.specs.TakingOff.{LosesLinks}
 use Rattle.wiring.specs.Wiring.{KeepsGraph, KeepsLists, KeepsPlaces, IsMarked, IsEnqueued, OnlyLoses, HasMore, IsBehindGate, IsConfirmedAt}
 use Rattle.wiring.specs.declared.work.Work.{Work}
 use Rattle.wiring.proofs.Deciding.{need_same}
@@ -209,7 +210,7 @@ module _ (arena : Arena) (old new : Work) (p waited : Point) (to : Stage) (links
   need_mid : (a : Point) → Needed old.graph a → Needed l.mid a
   need_mid a n = need_same old.graph l.mid l.graph.links l.graph.roots a n
 
-  pub lowered_loses : OnlyLoses old.graph new.graph
+  lowered_loses : OnlyLoses old.graph new.graph
   lowered_loses = record {
     less = need_before;
     links = fewer_links;
@@ -296,6 +297,9 @@ module _ (arena : Arena) (old new : Work) (p waited : Point) (to : Stage) (links
       pairs = λ n r row some. pairs_same old new lists_are n (kept.pairs n r row some);
       scoped = λ n r row some. scoped_same old new lists_are n (kept.scoped n r row some);
     }
+
+    pub lowered_stays : LosesLinks arena old new
+    lowered_stays = record { kept = lowered_kept; places = lowered_places; loses = lowered_loses; rest = l.rest }
 
   -- ---- what was confirmed
 

@@ -1,5 +1,6 @@
 -- A main is given its links to its children's mains, one after the other.
 use Rattle.std.proofs.Common.{◌≡◌, inl, inr, ℕ, zero, suc, ◌+◌, ◌<◌, ◌≤◌, List, [], ◌∷◌, map, length, drop, get_or, Option, None, Some, refl, sym, ap, subst, ◌∙◌, drop-cons, arith, add-one}
+use Rattle.std.specs.Prelude.{Result, Ok, Err, IsErrAnd, IsTrue, IsFalse, Bool}
 use Rattle.inc_value.specs.declared.node.NodeId.{NodeId}
 use Rattle.inc_value.specs.declared.node.Part.TheVariants.{Main}
 use Rattle.inc_value.specs.declared.node.Point.{Point}
@@ -20,20 +21,21 @@ use Rattle.stabilize_round.specs.State.{State, Start}
 use Rattle.stabilize_round.specs.Steps.{Wired, plainly}
 use Rattle.stabilize_round.proofs.Machine.{moves_keep}
 use Rattle.stabilize_round.proofs.Steps.{wired_moves}
+use Rattle.wiring.specs.Answers.{WireAnswers, ConnectAnswers}
 use Rattle.wiring.specs.Growing.{Grows}
 use Rattle.wiring.specs.Kept.{IsKept}
 use Rattle.node_outcomes.specs.Row.{stage_in}
 use Rattle.wiring.specs.Stands.{Stands, hand, Counts}
-use Rattle.wiring.specs.Wiring.{IsDue, Connects, LosesNeed, ConnectRefused, Wires, WireRefused, KeepsPlaces, GateRan, AreUnlinked}
+use Rattle.wiring.specs.Wiring.{IsDue, WireRefused, KeepsPlaces, GateRan, AreUnlinked}
 use Rattle.wiring.specs.declared.refused.Refused.{Refused}
 use Rattle.node_outcomes.specs.declared.row.Stage.TheVariants as code
 use Rattle.wiring.specs.declared.work.Work.{Work}
 use Rattle.wiring.proofs.Flat.{no_targets}
-use Rattle.wiring.proofs.Growing.{grows_then}
-use Rattle.wiring.proofs.Holding.{has_links_same}
+use Rattle.wiring.proofs.Answering.{same_places, grows_here, grows_along}
 use Rattle.wiring.proofs.Lifting.{fixed_due, gates_after, full_finishes}
 use Rattle.wiring.proofs.Raising.{wired_then, wired_after, wired_settled, leaves_hand}
 use Rattle.wiring.proofs.Sight.{code_def}
+use Rattle.wiring.proofs.TakingAll.{places_then}
 
 -- the definition's children
 pub reads_kids : (G : Graph) (n : NodeId) (d : declared.Def) → subject_of (def_of d) ≡ None → fixed_reads G n (def_of d) Main ≡ map main (kids (def_of d))
@@ -77,16 +79,8 @@ handed_none arena old p all need kept = record {
   row = refl;
   needed = need;
   kept = kept;
-  places = record { rows = λ a. refl; roots = λ a. refl; deaths = refl; round = refl };
-  grows = λ points covers. omega arith;
-}
-
-pub places_then : (a b c : Work) → KeepsPlaces a b → KeepsPlaces b c → KeepsPlaces a c
-places_then a b c first next = record {
-  rows = λ p. next.rows p ∙ first.rows p;
-  roots = λ p. next.roots p ∙ first.roots p;
-  deaths = next.deaths ∙ first.deaths;
-  round = next.round ∙ first.round;
+  places = same_places old;
+  grows = grows_here old;
 }
 
 module _ (arena : Arena) (p : Point) (is_main : p.part ≡ Main) (r : Row) (row : row_at arena p.node ≡ Some r) (one : subject_of r.def ≡ None)
@@ -110,43 +104,73 @@ module _ (arena : Arena) (p : Point) (is_main : p.part ≡ Main) (r : Row) (row 
         nowhere : Among q [] → ⊥
         nowhere h = h
 
-    pub kid_on : (new : Work) → Connects arena mid new p q → at new.rows p ≡ at mid.rows p → Needed new.graph p → IsKept arena new → KeepsPlaces mid new
-        → Grows mid new → IsHanded arena old new p all rest
-    kid_on new connects row_is need kept places grows = record {
-      hands = λ F z s counts inv on unlinked.
-          let a = kid_due F z s counts inv on unlinked in
-          let b = connects F z a.0 counts rest a.2 in
-          (b.0, wired_then F z s a.0 b.0 a.1 b.1, b.2, b.3);
-      row = row_is ∙ so.row;
-      needed = need;
-      kept = kept;
-      places = places_then old mid new so.places places;
-      grows = grows_then old mid new (has_links_same mid old (λ a. sym (so.places.rows a)) (sym so.places.deaths)) so.grows grows;
-    }
+    module _ (new : Work) where
+      kid_places : KeepsPlaces mid new → KeepsPlaces old new
+      kid_places places = places_then old mid new so.places places
 
-    pub kid_gone : (new : Work) → LosesNeed arena mid new p q → Wires arena old new (Some (hand p all))
-    kid_gone new gone F z s counts inv on unlinked =
-        let a = kid_due F z s counts inv on unlinked in
-        let b = gone F z a.0 counts rest a.2 in
-        (b.0, wired_then F z s a.0 b.0 a.1 b.1, b.2, b.3)
+      kid_grows : Grows mid new → Grows old new
+      kid_grows grows = grows_along old mid new so.places so.grows grows
 
-    pub kid_refused : (new : Work) (e : Refused) → ConnectRefused arena mid new p q e → WireRefused arena old new (Some (hand p all)) e
-    kid_refused new e refused F z s counts inv on unlinked =
-        let a = kid_due F z s counts inv on unlinked in
-        let b = refused F z a.0 counts rest a.2 in
-        (b.0, Some (hand p (q ∷ rest)), wired_then F z s a.0 b.0 a.1 b.1, b.2, b.3)
+      module _ {on : Bool} (a : ConnectAnswers arena mid new p q (Ok on)) where
+        pub kid_on : IsTrue on → IsHanded arena old new p all rest
+        kid_on t = record {
+          hands = λ F z s counts inv on unlinked.
+              let b = kid_due F z s counts inv on unlinked in
+              let d = a.linked t F z b.0 counts rest b.2 in
+              (d.0, wired_then F z s b.0 d.0 b.1 d.1, d.2, d.3);
+          row = a.row t ∙ so.row;
+          needed = (a.needed t).0;
+          kept = a.kept;
+          places = kid_places a.places;
+          grows = kid_grows a.pushed;
+        }
+
+        pub kid_gone : {A : Type 0} (x : A) → IsFalse on → WireAnswers arena old new (Some (hand p all)) (Ok x)
+        kid_gone x off = record {
+          wired = λ F z s counts inv on unlinked.
+              let b = kid_due F z s counts inv on unlinked in
+              let d = (a.gone off).0 F z b.0 counts rest b.2 in
+              (d.0, wired_then F z s b.0 d.0 b.1 d.1, d.2, d.3);
+          refused = tt;
+          places = kid_places a.places;
+          kept = a.kept;
+          pushed = kid_grows a.pushed;
+        }
+
+      pub kid_refused : {A : Type 0} (r : Result A Refused) (e : Refused) → IsErrAnd r (λ y. y ≡ e) → ConnectAnswers arena mid new p q (Err e)
+          → WireAnswers arena old new (Some (hand p all)) r
+      kid_refused (Ok x) e is a = absurd is
+      kid_refused (Err y) e is a = record {
+        wired = tt;
+        refused = subst (WireRefused arena old new (Some (hand p all))) (sym is) refuses;
+        places = kid_places a.places;
+        kept = a.kept;
+        pushed = tt;
+      }
+        where
+          refuses : WireRefused arena old new (Some (hand p all)) e
+          refuses F z s counts inv on unlinked =
+              let b = kid_due F z s counts inv on unlinked in
+              let d = a.refused F z b.0 counts rest b.2 in
+              (d.0, Some (hand p (q ∷ rest)), wired_then F z s b.0 d.0 b.1 d.1, d.2, d.3)
 
 -- all links are on
-pub handed_last : (arena : Arena) (old new : Work) (p : Point) (all : List Point) → stage_in (at old.rows p) ≡ Some code.Full → IsHanded arena old new p all []
-    → Wires arena old new (Some (hand p all))
-handed_last arena old new p all full so F z s counts inv on unlinked =
-    let a = so.hands F z s counts inv on unlinked in
-    let out = leaves_hand F z a.0 arena new counts p a.2 a.3 (full_finishes a.0 arena new counts p a.2 (ap stage_in so.row ∙ full)) in
-    (out.0, wired_after F z s a.0 out.0 a.1 out.1, out.2, out.3)
+pub handed_last : {A : Type 0} (x : A) (arena : Arena) (old new : Work) (p : Point) (all : List Point) → stage_in (at old.rows p) ≡ Some code.Full
+    → IsHanded arena old new p all [] → WireAnswers arena old new (Some (hand p all)) (Ok x)
+handed_last x arena old new p all full so = record {
+  wired = λ F z s counts inv on unlinked.
+      let a = so.hands F z s counts inv on unlinked in
+      let out = leaves_hand F z a.0 arena new counts p a.2 a.3 (full_finishes a.0 arena new counts p a.2 (ap stage_in so.row ∙ full)) in
+      (out.0, wired_after F z s a.0 out.0 a.1 out.1, out.2, out.3);
+  refused = tt;
+  places = so.places;
+  kept = so.kept;
+  pushed = so.grows;
+}
 
 -- ---- lists
 
-pub kid_among : (ns : List NodeId) (i : ℕ) (d : NodeId) → i < length ns → Among (main (get_or ns i d)) (map main ns)
+kid_among : (ns : List NodeId) (i : ℕ) (d : NodeId) → i < length ns → Among (main (get_or ns i d)) (map main ns)
 kid_among [] i d below = absurd (omega (arith, below))
 kid_among (n ∷ ns) zero d below = inl refl
 kid_among (n ∷ ns) (suc i) d below = inr (kid_among ns i d (omega (arith, below)))
@@ -156,7 +180,7 @@ id_among [] i d below = absurd (omega (arith, below))
 id_among (n ∷ ns) zero d below = inl refl
 id_among (n ∷ ns) (suc i) d below = inr (id_among ns i d (omega (arith, below)))
 
-pub next_owed : (ns : List NodeId) (i : ℕ) (d : NodeId) → i < length ns → map main (drop i ns) ≡ main (get_or ns i d) ∷ map main (drop (i + 1) ns)
+next_owed : (ns : List NodeId) (i : ℕ) (d : NodeId) → i < length ns → map main (drop i ns) ≡ main (get_or ns i d) ∷ map main (drop (i + 1) ns)
 next_owed ns i d below = rw (add-one, drop-cons ns i d) refl
 
 pub drop_none : (ns : List NodeId) (i : ℕ) → length ns ≤ i → drop i ns ≡ []
@@ -164,3 +188,19 @@ drop_none [] zero end = refl
 drop_none [] (suc i) end = refl
 drop_none (n ∷ ns) zero end = absurd (omega (arith, end))
 drop_none (n ∷ ns) (suc i) end = drop_none ns i (omega (arith, end))
+
+-- ---- the next child
+
+-- it is of those that are read, and owed first
+pub record IsNext (arena : Arena) (old now : Work) (p : Point) (r : Row) (all : List Point) (q : Point) (rest : List Point) : Type 0 where
+  pub among : Among q (map main (kids r.def))
+  pub handed : IsHanded arena old now p all (q ∷ rest)
+
+pub next_kid : (arena : Arena) (old now : Work) (p : Point) (r : Row) (ns : List NodeId) (i : ℕ) (d : NodeId) (q : Point) → ns ≡ kids r.def
+    → q ≡ main (get_or ns i d) → i < length ns → IsHanded arena old now p (map main ns) (map main (drop i ns))
+    → IsNext arena old now p r (map main ns) q (map main (drop (i + 1) ns))
+next_kid arena old now p r ns i d q all is below so = record {
+  among = subst (λ (xs : List NodeId). Among q (map main xs)) all (subst (λ (x : Point). Among x (map main ns)) (sym is) (kid_among ns i d below));
+  handed = subst (λ (xs : List Point). IsHanded arena old now p (map main ns) xs)
+      (next_owed ns i d below ∙ ap (λ (x : Point). x ∷ map main (drop (i + 1) ns)) (sym is)) so;
+}

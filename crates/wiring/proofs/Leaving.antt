@@ -18,7 +18,7 @@ use Rattle.wiring.specs.Wiring.{KeepsRound, KeepsLists, Looks, Wires, WiresTaken
 use Rattle.wiring.specs.declared.refused.Refused.{Refused}
 use Rattle.wiring.specs.declared.work.Work.{Work}
 use Rattle.wiring.proofs.Growing.{link_points, links_are_listed}
-use Rattle.wiring.proofs.Handed.{places_then}
+use Rattle.wiring.proofs.TakingAll.{places_then}
 use Rattle.wiring.proofs.Holding.{has_links_same, links_same}
 use Rattle.wiring.proofs.Raising.{nothing, wired_then, wired_after, leaves_hand}
 use Rattle.wiring.proofs.Unlinked.{held_unlinked}

@@ -28,6 +28,7 @@ pub mod Gating
 pub mod Ghosts
 pub mod Pairing
 pub mod Attaching
+pub mod Answering
 pub mod Handed
 pub mod Levelling
 pub mod Retrying

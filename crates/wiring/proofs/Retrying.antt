@@ -1,6 +1,6 @@
 -- A link that was refused is tried again, once some of what wasn't confirmed is off, or all.
 use Rattle.std.proofs.Common.{◌≡◌, ◌⊎◌, inl, inr, ℕ, ◌+◌, ◌<◌, ◌≤◌, Bool, true, false, cond, List, [], ◌∷◌, length, Option, None, Some, refl, sym, ap, subst, ◌∙◌, arith}
-use Rattle.std.specs.Prelude.{not, option_map}
+use Rattle.std.specs.Prelude.{not, option_map, Ok, Err}
 use Rattle.std.proofs.lemmas.Nat.{mul-le}
 use Rattle.std.proofs.lemmas.Option.{none-some}
 use Rattle.inc_value.specs.declared.node.NodeId.{NodeId}
@@ -30,6 +30,7 @@ use Rattle.stabilize_round.proofs.Parts.{bool_cases}
 use Rattle.stabilize_round.proofs.Points.{same_or_other, at_same, at_other}
 use Rattle.stabilize_round.specs.Counts.{number_of}
 use Rattle.wiring.specs.Deciding.{is_needed}
+use Rattle.wiring.specs.Answers.{ConnectAnswers}
 use Rattle.wiring.specs.Growing.{Grows, unneeded}
 use Rattle.wiring.specs.Graph.{HasLinks}
 use Rattle.wiring.specs.Kept.{IsKept}
@@ -38,8 +39,9 @@ use Rattle.node_outcomes.specs.Row.{with_stage, settled_in, stage_in}
 use Rattle.node_outcomes.specs.declared.row.Progress.{Progress}
 use Rattle.node_outcomes.specs.declared.row.Stage.{Stage}
 use Rattle.node_outcomes.specs.declared.row.Stage.TheVariants as code
+use Rattle.wiring.specs.TakingOff.{RowsSpared, TakesMore}
 use Rattle.wiring.specs.Stands.{Stands, Hand, hand, Counts}
-use Rattle.wiring.specs.Wiring.{IsDue, IsLevelled, IsSpared, IsPutBack, HasMore, IsTarget, MayRead, KeepsPlaces, TakesOff, Links, Connects, ConnectRefused, LosesNeed, is_gated, is_still, hand_now, AreUnlinked}
+use Rattle.wiring.specs.Wiring.{IsDue, IsLevelled, IsSpared, IsPutBack, HasMore, IsTarget, MayRead, KeepsPlaces, TakesOff, Links, is_gated, is_still, hand_now, AreUnlinked}
 use Rattle.wiring.specs.declared.refused.Refused.{Refused}
 use Rattle.wiring.specs.declared.work.Work.{Work}
 use Rattle.wiring.proofs.Deciding.{decides_needed}
@@ -50,7 +52,7 @@ use Rattle.wiring.proofs.Levelling.{low_wiring, low_stands, refused_at_once}
 use Rattle.wiring.proofs.PuttingBack.{gate_once, gated_now, more_isnt_gated}
 use Rattle.wiring.proofs.Raising.{wired_then, wired_after}
 use Rattle.wiring.proofs.Telling.{barred_before}
-use Rattle.wiring.proofs.TakingAll.{RowsSpared, rows_keep, places_then}
+use Rattle.wiring.proofs.TakingAll.{rows_keep, places_then}
 use Rattle.wiring.proofs.Unlinked.{off_unlinked, spend_unlinked, finished_unlinked}
 
 -- ---- what the moves that take off keep
@@ -394,20 +396,18 @@ pub record IsOffNow (arena : Arena) (old mid new : Work) (p : Point) : Type 0 wh
   pub fewer : new.retries < old.retries
 
 pub is_off_now : (arena : Arena) (old mid new : Work) (p : Point) → IsLevelled old mid → mid.retries ≡ old.retries → Needed old.graph p
-    → IsSpared arena old p → KeepsPlaces old mid → TakesOff arena mid new → IsInStep new.graph → RowsSpared arena mid new
-    → KeepsPlaces mid new → new.retries < mid.retries → new ≡ record mid { graph = new.graph; rows = new.rows; retries = new.retries }
-    → IsOffNow arena old mid new p
-is_off_now arena old mid new p l same need spared first off in_step rows places fewer rest = record {
+    → IsSpared arena old p → KeepsPlaces old mid → TakesMore arena mid new → new.retries < mid.retries → IsOffNow arena old mid new p
+is_off_now arena old mid new p l same need spared first more fewer = record {
   levelled = l;
   some = omega (arith, fewer, same);
   need = levelled_need old mid l p need;
   spared = levelled_spared arena old mid l p spared;
-  off = off;
-  step = in_step;
-  rows = rows;
-  round = places.round;
-  places = places_then old mid new first places;
-  grows = spent_grows old mid new same l.todo fewer (ap (λ (w : Work). w.todo.items) rest);
+  off = more.taken;
+  step = more.kept.step;
+  rows = more.rows;
+  round = more.places.round;
+  places = places_then old mid new first more.places;
+  grows = spent_grows old mid new same l.todo fewer (ap (λ (w : Work). w.todo.items) more.rest);
   fewer = omega (arith, fewer, same);
 }
 
@@ -478,34 +478,62 @@ module _ (arena : Arena) (old now : Work) (p q : Point) (so : IsTrying arena old
       }
 
   -- it isn't, or waits for its gate
-  pub lost_trying : (mid new : Work) → IsOffNow arena now mid new p → (IsStill mid new p → ⊥)
-      → LosesNeed arena old new p q × KeepsPlaces old new × Grows old new × (new.retries < old.retries)
-  lost_trying mid new o lost = (
-    λ F z s counts rest due.
-        let a = so.due F z s counts rest due in
-        let b = left_hand F z a.0 arena now mid new counts p q rest a.2 o.levelled o.some o.need o.spared o.off o.step o.rows o.round lost in
-        (b.0, wired_then F z s a.0 b.0 a.1 b.1, b.2, b.3),
-    places_then old now new so.places o.places,
-    grows_then old now new has_links so.grows o.grows,
-    let a = so.retries in let b = o.fewer in omega (arith, a, b),
-  )
+  pub lost_answers : (mid new : Work) → IsOffNow arena now mid new p → (IsStill mid new p → ⊥) → IsBarred mid p q → IsKept arena new
+      → ConnectAnswers arena old new p q (Ok false)
+  lost_answers mid new o lost bar kept = record {
+    linked = λ t. absurd (let e = t in cc);
+    needed = λ t. absurd (let e = t in cc);
+    reads = λ t. absurd (let e = t in cc);
+    gone = λ f. (
+      λ F z s counts rest due.
+          let a = so.due F z s counts rest due in
+          let b = left_hand F z a.0 arena now mid new counts p q rest a.2 o.levelled o.some o.need o.spared o.off o.step o.rows o.round lost in
+          (b.0, wired_then F z s a.0 b.0 a.1 b.1, b.2, b.3),
+      let a = so.retries in let b = o.fewer in omega (arith, a, b),
+    );
+    refused = tt;
+    barred = λ fewer. first_barred mid o.levelled bar;
+    row = λ t. absurd (let e = t in cc);
+    places = places_then old now new so.places o.places;
+    kept = kept;
+    pushed = grows_then old now new has_links so.grows o.grows;
+  }
 
   -- the link is on
-  pub on_trying : (new : Work) → Links arena now new p q → Connects arena old new p q
-  on_trying new links F z s counts rest due =
-      let a = so.due F z s counts rest due in
-      let b = links F z a.0 counts rest a.2 in
-      (b.0, wired_after F z s a.0 b.0 a.1 b.1, b.2, b.3)
+  pub on_answers : (new : Work) → Links arena now new p q → Needed new.graph p × Needed new.graph q → Reads new.graph.links p q
+      → at new.rows p ≡ at now.rows p → new.retries ≡ now.retries → KeepsPlaces now new → IsKept arena new → Grows now new
+      → ConnectAnswers arena old new p q (Ok true)
+  on_answers new links need reads same as_now places kept grows = record {
+    linked = λ t F z s counts rest due.
+        let a = so.due F z s counts rest due in
+        let b = links F z a.0 counts rest a.2 in
+        (b.0, wired_after F z s a.0 b.0 a.1 b.1, b.2, b.3);
+    needed = λ t. need;
+    reads = λ t. reads;
+    gone = λ f. absurd (let e = f in cc);
+    refused = tt;
+    barred = was_barred new as_now;
+    row = λ t. same ∙ so.row;
+    places = places_then old now new so.places places;
+    kept = kept;
+    pushed = grows_then old now new has_links so.grows grows;
+  }
 
   -- its refusal is final
-  pub refused_trying : (new : Work) → IsLevelled now new → (e : Refused) → RefusedBy new p q e → ConnectRefused arena old new p q e
-  refused_trying new l e why F z s counts rest due =
-      let a = so.due F z s counts rest due in
-      let b = refused_at_once F z a.0 arena now new counts p q rest a.2 l so.needed e why in
-      (b.0, wired_then F z s a.0 b.0 a.1 b.1, b.2, b.3)
-
-  pub later_places : (new : Work) → KeepsPlaces now new → KeepsPlaces old new
-  later_places new places = places_then old now new so.places places
-
-  pub later_grows : (new : Work) → Grows now new → Grows old new
-  later_grows new grows = grows_then old now new has_links so.grows grows
+  pub final_answers : (new : Work) → IsLevelled now new → (e : Refused) → RefusedBy new p q e → new.retries ≡ now.retries → KeepsPlaces now new
+      → IsKept arena new → ConnectAnswers arena old new p q (Err e)
+  final_answers new l e why as_now places kept = record {
+    linked = tt;
+    needed = tt;
+    reads = tt;
+    gone = tt;
+    refused = λ F z s counts rest due.
+        let a = so.due F z s counts rest due in
+        let b = refused_at_once F z a.0 arena now new counts p q rest a.2 l so.needed e why in
+        (b.0, wired_then F z s a.0 b.0 a.1 b.1, b.2, b.3);
+    barred = was_barred new as_now;
+    row = tt;
+    places = places_then old now new so.places places;
+    kept = kept;
+    pushed = tt;
+  }

@@ -31,7 +31,8 @@ use Rattle.node_outcomes.specs.declared.row.Stage.{Stage}
 use Rattle.node_outcomes.specs.declared.row.Stage.TheVariants as code
 use Rattle.wiring.specs.Kept.{IsKept}
 use Rattle.wiring.specs.Stands.{Stands, Hand, Counts}
-use Rattle.wiring.specs.Wiring.{OnlyLoses, GoesBack, IsPutBack, IsSpared, IsBehindGate, HasMore, TakesOne, TakesOff, IsConfirmedAt, KeepsPlaces, hand_now}
+use Rattle.wiring.specs.TakingOff.{LosesLinks, RowsSpared, TakesSome, TakesMore}
+use Rattle.wiring.specs.Wiring.{OnlyLoses, GoesBack, IsPutBack, IsBehindGate, HasMore, TakesOne, TakesOff, IsConfirmedAt, KeepsPlaces, hand_now}
 use Rattle.wiring.specs.declared.work.Work.{Work}
 use Rattle.wiring.proofs.Flat.{no_targets}
 use Rattle.wiring.proofs.InHand.{KeepsSpared, gated_none, still_spared, hand_spared, same_hand, change_settled}
@@ -64,6 +65,22 @@ loses_then f g h a b = record {
 pub places_then : (old mid new : Work) → KeepsPlaces old mid → KeepsPlaces mid new → KeepsPlaces old new
 places_then old mid new a b = record { rows = λ p. b.rows p ∙ a.rows p; roots = λ p. b.roots p ∙ a.roots p; deaths = b.deaths ∙ a.deaths; round = b.round ∙ a.round }
 
+pub loses_nothing : (arena : Arena) (work : Work) → IsKept arena work → LosesLinks arena work work
+loses_nothing arena work kept = record {
+  kept = kept;
+  places = record { rows = λ p. refl; roots = λ p. refl; deaths = refl; round = refl };
+  loses = loses_none work.graph;
+  rest = refl;
+}
+
+pub loses_links : (arena : Arena) (old mid new : Work) → LosesLinks arena old mid → LosesLinks arena mid new → LosesLinks arena old new
+loses_links arena old mid new a b = record {
+  kept = b.kept;
+  places = places_then old mid new a.places b.places;
+  loses = loses_then old.graph mid.graph new.graph a.loses b.loses;
+  rest = b.rest ∙ ap (λ (w : Work). record w { graph = new.graph; rows = new.rows }) a.rest;
+}
+
 -- what was put back waits still, while links come off
 pub back_then : (arena : Arena) (old mid new : Work) (p : Point) (bind : NodeId) → GoesBack arena old mid p bind → at new.rows p ≡ at mid.rows p
     → OnlyLoses mid.graph new.graph → GoesBack arena old new p bind
@@ -95,33 +112,6 @@ pub not_back_twice : (arena : Arena) (old mid new : Work) (p : Point) (bind othe
 not_back_twice arena old mid new p bind other g h = gated_none (at old.rows p) (subst (λ (x : Option Progress). HasMore (stage_in x)) g.now h.more)
 
 -- ---- what holds while links are taken off
-
--- so it is once the first nodes in scopes, and the first of two points, were looked at
-pub record AreTaken (arena : Arena) (old now : Work) (gates changes : ℕ) : Type 0 where
-  pub kept : IsKept arena now
-  pub places : KeepsPlaces old now
-  pub taken : TakesOne arena old now
-  pub loses : OnlyLoses old.graph now.graph
-  pub rows : (p : Point) → IsSpared arena old p → (at now.rows p ≡ at old.rows p) ⊎ IsPutBack arena old now p
-  pub behind : (i : ℕ) (n : NodeId) → i < gates → slice_get old.scoped.nodes i ≡ Some n → (p : Point) → p.node ≡ n → IsBehindGate arena now p
-  pub confirmed : (i : ℕ) (n : NodeId) → i < changes → slice_get old.pairs.nodes i ≡ Some n → IsConfirmedAt arena now n
-  pub rest : now ≡ record old { graph = now.graph; rows = now.rows }
-
-pub none_taken : (arena : Arena) (work : Work) → IsKept arena work → AreTaken arena work work 0 0
-none_taken arena work kept = record {
-  kept = kept;
-  places = record { rows = λ p. refl; roots = λ p. refl; deaths = refl; round = refl };
-  taken = nothing_taken arena work kept.step;
-  loses = loses_none work.graph;
-  rows = λ p s. inl refl;
-  behind = λ i n l. absurd (omega (arith, l));
-  confirmed = λ i n l. absurd (omega (arith, l));
-  rest = refl;
-}
-
--- rows of what is spared are as they were, or it was put back
-abbrev pub RowsSpared : Arena → Work → Work → Type 0
-RowsSpared arena old new = (p : Point) → IsSpared arena old p → (at new.rows p ≡ at old.rows p) ⊎ IsPutBack arena old new p
 
 pub rows_keep : (arena : Arena) (old new : Work) → RowsSpared arena old new → KeepsSpared arena old new
 rows_keep arena old new rows p s = elim (rows p s) [ inl e ↦ inl e | inr b ↦ inr b.back.now ]
@@ -161,50 +151,44 @@ module _ (arena : Arena) (old mid new : Work) (first : RowsSpared arena old mid)
     ]
   ]
 
+-- nothing was taken off
+pub takes_nothing : (arena : Arena) (work : Work) → IsKept arena work → TakesSome arena work work
+takes_nothing arena work kept = record { stays = loses_nothing arena work kept; taken = nothing_taken arena work kept.step; rows = λ p s. inl refl }
+
+-- some, and then some more
+pub takes_both : (arena : Arena) (old mid new : Work) → TakesSome arena old mid → TakesSome arena mid new → TakesSome arena old new
+takes_both arena old mid new a b = record {
+  stays = loses_links arena old mid new a.stays b.stays;
+  taken = takes_then arena old mid new (rows_keep arena old mid a.rows) a.stays.places.round (rows_keep arena mid new b.rows) a.stays.kept.step
+      b.stays.kept.step b.stays.loses.less a.taken b.taken;
+  rows = rows_then arena old mid new a.rows a.stays.places.round b.stays.loses b.rows;
+}
+
+-- so it is once the first nodes in scopes, and the first of two points, were looked at
+pub record AreTaken (arena : Arena) (old now : Work) (gates changes : ℕ) : Type 0 where
+  pub some : TakesSome arena old now
+  pub behind : (i : ℕ) (n : NodeId) → i < gates → slice_get old.scoped.nodes i ≡ Some n → (p : Point) → p.node ≡ n → IsBehindGate arena now p
+  pub confirmed : (i : ℕ) (n : NodeId) → i < changes → slice_get old.pairs.nodes i ≡ Some n → IsConfirmedAt arena now n
+
+pub none_taken : (arena : Arena) (work : Work) → IsKept arena work → AreTaken arena work work 0 0
+none_taken arena work kept = record {
+  some = takes_nothing arena work kept;
+  behind = λ i n l. absurd (omega (arith, l));
+  confirmed = λ i n l. absurd (omega (arith, l));
+}
+
 -- one more was looked at
-module _ (arena : Arena) (old mid new : Work) (gates changes : ℕ) (so : AreTaken arena old mid gates changes) (kept : IsKept arena new)
-    (places : KeepsPlaces mid new) (taken : TakesOne arena mid new) (loses : OnlyLoses mid.graph new.graph) (rows : RowsSpared arena mid new)
-    (rest : new ≡ record mid { graph = new.graph; rows = new.rows }) where
-  keeps : KeepsSpared arena old mid
-  keeps = rows_keep arena old mid so.rows
-
-  taken_both : TakesOne arena old new
-  taken_both = takes_then arena old mid new keeps so.places.round (rows_keep arena mid new rows) so.kept.step kept.step loses.less so.taken taken
-
-  rows_both : RowsSpared arena old new
-  rows_both = rows_then arena old mid new so.rows so.places.round loses rows
-
-  rest_both : new ≡ record old { graph = new.graph; rows = new.rows }
-  rest_both = rest ∙ ap (λ (w : Work). record w { graph = new.graph; rows = new.rows }) so.rest
-
-  -- a node of any kind
-  pub more_taken : AreTaken arena old new 0 0
-  more_taken = record {
-    kept = kept;
-    places = places_then old mid new so.places places;
-    taken = taken_both;
-    loses = loses_then old.graph mid.graph new.graph so.loses loses;
-    rows = rows_both;
-    behind = λ i n l. absurd (omega (arith, l));
-    confirmed = λ i n l. absurd (omega (arith, l));
-    rest = rest_both;
-  }
-
+module _ (arena : Arena) (old mid new : Work) (gates changes : ℕ) (so : AreTaken arena old mid gates changes) (one : TakesSome arena mid new) where
   -- a node in a scope
   pub more_behind : (n : NodeId) → slice_get old.scoped.nodes gates ≡ Some n → ((p : Point) → p.node ≡ n → IsBehindGate arena new p)
       → ((p : Point) → IsBehindGate arena mid p → IsBehindGate arena new p) → changes ≡ 0 → AreTaken arena old new (gates + 1) changes
   more_behind n there behind fewer none = record {
-    kept = kept;
-    places = places_then old mid new so.places places;
-    taken = taken_both;
-    loses = loses_then old.graph mid.graph new.graph so.loses loses;
-    rows = rows_both;
+    some = takes_both arena old mid new so.some one;
     behind = λ i m l is p e. elim (last_or i gates l) [
       | inl less ↦ fewer p (so.behind i m less is p e)
       | inr same ↦ behind p (e ∙ sym (one_there old.scoped.nodes gates i n m same there is))
     ];
     confirmed = λ i m l. absurd (omega (arith, l, none));
-    rest = rest_both;
   }
 
   -- a node of two points
@@ -212,53 +196,13 @@ module _ (arena : Arena) (old mid new : Work) (gates changes : ℕ) (so : AreTak
       → ((m : NodeId) → IsConfirmedAt arena mid m → IsConfirmedAt arena new m)
       → ((p : Point) → IsBehindGate arena mid p → IsBehindGate arena new p) → AreTaken arena old new gates (changes + 1)
   more_confirmed n there confirmed fewer behind = record {
-    kept = kept;
-    places = places_then old mid new so.places places;
-    taken = taken_both;
-    loses = loses_then old.graph mid.graph new.graph so.loses loses;
-    rows = rows_both;
+    some = takes_both arena old mid new so.some one;
     behind = λ i m l is p e. behind p (so.behind i m l is p e);
     confirmed = λ i m l is. elim (last_or i changes l) [
       | inl less ↦ fewer m (so.confirmed i m less is)
       | inr same ↦ subst (λ (x : NodeId). IsConfirmedAt arena new x) (one_there old.pairs.nodes changes i n m same there is) confirmed
     ];
-    rest = rest_both;
   }
-
--- some was taken off
-pub some_taken : (arena : Arena) (old mid : Work) → IsKept arena old → IsKept arena mid → KeepsPlaces old mid → TakesOne arena old mid
-    → OnlyLoses old.graph mid.graph → RowsSpared arena old mid → mid ≡ record old { graph = mid.graph; rows = mid.rows } → AreTaken arena old mid 0 0
-some_taken arena old mid kept kept1 places taken loses rows rest = more_taken arena old old mid 0 0 (none_taken arena old kept) kept1 places taken loses rows rest
-
--- a node in a scope was looked at, and then its right side
-pub node_off : (arena : Arena) (old mid new : Work) → IsKept arena old → IsKept arena mid → KeepsPlaces old mid → TakesOne arena old mid
-    → OnlyLoses old.graph mid.graph → RowsSpared arena old mid → mid ≡ record old { graph = mid.graph; rows = mid.rows } → IsKept arena new
-    → KeepsPlaces mid new → TakesOne arena mid new → OnlyLoses mid.graph new.graph → RowsSpared arena mid new
-    → new ≡ record mid { graph = new.graph; rows = new.rows } → AreTaken arena old new 0 0
-node_off arena old mid new kept kept1 places1 taken1 loses1 rows1 rest1 kept2 places2 taken2 loses2 rows2 rest2 =
-    more_taken arena old mid new 0 0 (some_taken arena old mid kept kept1 places1 taken1 loses1 rows1 rest1)
-    kept2 places2 taken2 loses2 rows2 rest2
-
--- some was taken off, and then the rest
-module _ (arena : Arena) (old mid new : Work) (so : AreTaken arena old mid 0 0) (rows : RowsSpared arena mid new) (in_step : IsInStep new.graph)
-    (loses : OnlyLoses mid.graph new.graph) where
-  spared_some : KeepsSpared arena old mid
-  spared_some = rows_keep arena old mid so.rows
-
-  pub off_then : TakesOff arena mid new → TakesOff arena old new
-  off_then next F z s counts held inv some spared st =
-      let a = so.taken F z s counts held inv spared st in
-      let same : mid.retries ≡ old.retries = ap (λ (w : Work). w.retries) so.rest in
-      let left : 0 < a.0.retries = let e = a.2.retries in let f = st.retries in omega (arith, e, f, same, some) in
-      let b = next F z a.0 counts (hand_now old mid held) (moves_keep F z s a.0 (off_moves F z s a.0 a.1) inv) left
-      (hand_spared arena old mid spared_some so.places.round so.kept.step held spared) a.2 in (
-        b.0,
-        b.1,
-        joined (TakingOff F z) s a.0 b.0 a.1 b.2,
-        b.3,
-        subst (λ (h : Option Hand). Stands arena new counts h b.1)
-            (same_hand arena old mid spared_some so.places.round new (rows_keep arena mid new rows) so.kept.step in_step loses.less held spared) b.4,
-      )
 
 -- ---- fewer links may be tried again
 
@@ -311,12 +255,6 @@ some_left s left some = record {
   rights = λ none n r p row need full among. absurd (omega (arith, some, none));
 }
 
-pub some_spent : (arena : Arena) (old mid new : Work) (left : ℕ) → AreTaken arena old mid 0 0 → new ≡ record mid { retries = left } → 0 < left
-    → left < mid.retries → TakesOff arena old new
-some_spent arena old mid new left so only some fewer =
-    let same : mid.retries ≡ old.retries = ap (λ (w : Work). w.retries) so.rest in
-    taken_spent arena old mid new left so.taken same (λ any. omega (arith, same, fewer)) only (λ counts held t k. some_left t left some)
-
 -- ---- refusals become final
 
 no_subject_no_right : (G : Graph) (n : NodeId) (def : Def) (x : Option Outcome) (p : Point) → Among p (targets G n def x) → subject_of def ≡ None → ⊥
@@ -354,7 +292,7 @@ module _ (arena : Arena) (old last new : Work) (gates changes : ℕ) (so : AreTa
 
     -- a needed point of a live node has a row
     live_there : (p : Point) (r : Row) → row_at arena p.node ≡ Some r → Needed last.graph p → Holds last.rows p
-    live_there p r row need = elim (so.kept.leaves p (so.kept.step.there p need)) [
+    live_there p r row need = elim (so.some.stays.kept.leaves p (so.some.stays.kept.step.there p need)) [
       | inl there ↦ there
       | inr leaf ↦ absurd (none-some r (sym leaf.0 ∙ row))
     ]
@@ -390,8 +328,8 @@ module _ (arena : Arena) (old last new : Work) (gates changes : ℕ) (so : AreTa
         let place = among_place n old.pairs.nodes (kept.pairs n r row sub) in
         let below : place.0 < changes = let l = place.1 in omega (arith, l, all_changes) in
         let own : is_some (at last.rows (change n)) ≡ true =
-        so.kept.rows (change n) ∙ (ap (λ (x : Option Row). has_part x Change) row ∙ sub) in
-        let mine : is_some (at last.rows (main n)) ≡ true = so.kept.rows (main n) ∙ ap (λ (x : Option Row). has_part x Main) row in
+        so.some.stays.kept.rows (change n) ∙ (ap (λ (x : Option Row). has_part x Change) row ∙ sub) in
+        let mine : is_some (at last.rows (main n)) ≡ true = so.some.stays.kept.rows (main n) ∙ ap (λ (x : Option Row). has_part x Main) row in
         k.settled (change n) ∙ so.confirmed place.0 n below place.2 r p row ((k.needed (main n)).0 need)
         (full_stage n full (at last.rows (main n)) refl mine)
         (subst (λ (x : Option Outcome). Among p (targets (graph_at arena last) n r.def x)) (out_is n (at last.rows (change n)) refl own)
@@ -403,18 +341,20 @@ module _ (arena : Arena) (old last new : Work) (gates changes : ℕ) (so : AreTa
       rights = λ e n r p row need full among. confirmed n r p (node_row n r row) need full among;
     }
 
-  pub all_taken : TakesOff arena old new
-  all_taken = taken_spent arena old last new 0 so.taken (ap (λ (w : Work). w.retries) so.rest) (λ some. some) only is_strict
+  all_taken : TakesOff arena old new
+  all_taken = taken_spent arena old last new 0 so.some.taken (ap (λ (w : Work). w.retries) so.some.stays.rest) (λ some. some) only is_strict
 
--- what may be tried again apart, what was taken off leaves all else
-pub taken_rest : (old last new : Work) (left : ℕ) → last ≡ record old { graph = last.graph; rows = last.rows } → new ≡ record last { retries = left }
+-- ---- how many links may be tried again
+
+-- that apart, what was taken off leaves all else
+taken_rest : (old last new : Work) (left : ℕ) → last ≡ record old { graph = last.graph; rows = last.rows } → new ≡ record last { retries = left }
     → new ≡ record old { graph = new.graph; rows = new.rows; retries = new.retries }
 taken_rest old last new left first only =
     subst (λ (w : Work). w ≡ record old { graph = w.graph; rows = w.rows; retries = w.retries }) (sym only)
     (ap (λ (w : Work). record w { retries = left }) first)
 
 -- how many links may be tried again leaves the rest kept
-pub spent_kept : (arena : Arena) (last new : Work) (left : ℕ) → new ≡ record last { retries = left } → IsKept arena last → IsKept arena new
+spent_kept : (arena : Arena) (last new : Work) (left : ℕ) → new ≡ record last { retries = left } → IsKept arena last → IsKept arena new
 spent_kept arena last new left only k = subst (λ (w : Work). IsKept arena w) (sym only) (record {
   step = k.step;
   rows = k.rows;
@@ -438,12 +378,12 @@ spent_kept arena last new left only k = subst (λ (w : Work). IsKept arena w) (s
 })
 
 -- and where rows and roots are
-pub spent_places : (old last new : Work) (left : ℕ) → new ≡ record last { retries = left } → KeepsPlaces old last → KeepsPlaces old new
+spent_places : (old last new : Work) (left : ℕ) → new ≡ record last { retries = left } → KeepsPlaces old last → KeepsPlaces old new
 spent_places old last new left only k = subst (λ (w : Work). KeepsPlaces old w) (sym only)
     (record { rows = k.rows; roots = k.roots; deaths = k.deaths; round = k.round })
 
 -- and what was put back
-pub spent_rows : (arena : Arena) (old last new : Work) (left : ℕ) → new ≡ record last { retries = left } → RowsSpared arena old last → RowsSpared arena old new
+spent_rows : (arena : Arena) (old last new : Work) (left : ℕ) → new ≡ record last { retries = left } → RowsSpared arena old last → RowsSpared arena old new
 spent_rows arena old last new left only rows p s = subst (λ (w : Work). (at w.rows p ≡ at old.rows p) ⊎ IsPutBack arena old w p) (sym only) (elim (rows p s) [
   | inl e ↦ inl e
   | inr b ↦ inr (record {
@@ -459,3 +399,58 @@ spent_rows arena old last new left only rows p s = subst (λ (w : Work). (at w.r
     unsettled = b.unsettled;
   })
 ])
+
+-- ---- some was taken off, or all
+
+-- all that wasn't confirmed
+pub all_more : (arena : Arena) (old last new : Work) (gates changes : ℕ) → AreTaken arena old last gates changes → gates ≡ length old.scoped.nodes
+    → changes ≡ length old.pairs.nodes → IsKept arena old → new ≡ record last { retries = 0 } → TakesMore arena old new
+all_more arena old last new gates changes so all_gates all_changes kept only = record {
+  taken = all_taken arena old last new gates changes so all_gates all_changes kept only;
+  kept = spent_kept arena last new 0 only so.some.stays.kept;
+  places = spent_places old last new 0 only so.some.stays.places;
+  rest = taken_rest old last new 0 so.some.stays.rest only;
+  rows = spent_rows arena old last new 0 only so.some.rows;
+}
+
+-- some, while links may be tried again
+pub some_more : (arena : Arena) (old mid new : Work) (left : ℕ) → TakesSome arena old mid → new ≡ record mid { retries = left } → 0 < left
+    → left < mid.retries → TakesMore arena old new
+some_more arena old mid new left so only some fewer =
+    let same : mid.retries ≡ old.retries = ap (λ (w : Work). w.retries) so.stays.rest in record {
+      taken = taken_spent arena old mid new left so.taken same (λ any. omega (arith, same, fewer)) only (λ counts held t k. some_left t left some);
+      kept = spent_kept arena mid new left only so.stays.kept;
+      places = spent_places old mid new left only so.stays.places;
+      rest = taken_rest old mid new left so.stays.rest only;
+      rows = spent_rows arena old mid new left only so.rows;
+    }
+
+-- some, and then the rest
+module _ (arena : Arena) (old mid new : Work) (so : TakesSome arena old mid) (next : TakesMore arena mid new) (loses : OnlyLoses mid.graph new.graph) where
+  spared_some : KeepsSpared arena old mid
+  spared_some = rows_keep arena old mid so.rows
+
+  off_then : TakesOff arena old new
+  off_then F z s counts held inv some spared st =
+      let a = so.taken F z s counts held inv spared st in
+      let same : mid.retries ≡ old.retries = ap (λ (w : Work). w.retries) so.stays.rest in
+      let left : 0 < a.0.retries = let e = a.2.retries in let f = st.retries in omega (arith, e, f, same, some) in
+      let b = next.taken F z a.0 counts (hand_now old mid held) (moves_keep F z s a.0 (off_moves F z s a.0 a.1) inv) left
+      (hand_spared arena old mid spared_some so.stays.places.round so.stays.kept.step held spared) a.2 in (
+        b.0,
+        b.1,
+        joined (TakingOff F z) s a.0 b.0 a.1 b.2,
+        b.3,
+        subst (λ (h : Option Hand). Stands arena new counts h b.1)
+            (same_hand arena old mid spared_some so.stays.places.round new (rows_keep arena mid new next.rows) so.stays.kept.step next.kept.step loses.less
+            held spared) b.4,
+      )
+
+  pub more_then : TakesMore arena old new
+  more_then = record {
+    taken = off_then;
+    kept = next.kept;
+    places = places_then old mid new so.stays.places next.places;
+    rest = next.rest ∙ ap (λ (w : Work). record w { graph = new.graph; rows = new.rows; retries = new.retries }) so.stays.rest;
+    rows = rows_then arena old mid new so.rows so.stays.places.round loses next.rows;
+  }

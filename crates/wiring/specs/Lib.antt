@@ -8,5 +8,7 @@ pub mod Refusing
 pub mod Wiring
 pub mod Turning
 pub mod Growing
+pub mod Answers
+pub mod TakingOff
 pub mod Scoped
 pub mod Rooting

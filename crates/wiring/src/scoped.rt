@@ -1,5 +1,5 @@
 //! Nodes in the scopes of binds: what waits for a gate, and what dies.
-ghost use Rattle.std.specs.Prelude.{◌≡◌, ◌≢◌, ◌⊎◌, ◌↔◌, ◌++◌, ℕ, [], ◌∷◌, None, Some, false, true, IsTrue, OnOk, OnErr, IsSome};
+ghost use Rattle.std.specs.Prelude.{◌≡◌, ◌⊎◌, ◌↔◌, ℕ, [], None, Some, false, IsTrue, OnOk, OnErr, IsSome};
 ghost use Rattle.inc_value.specs.Choice.{Among};
 ghost use Rattle.inc_value.specs.Counts.{raised};
 ghost use Rattle.inc_value.specs.declared.node.NodeId.{NodeId as ANode};
@@ -19,7 +19,8 @@ ghost use Rattle.wiring.specs.Graph.{died_at, rowless};
 ghost use Rattle.wiring.specs.Kept.{IsKept};
 ghost use Rattle.wiring.specs.Places.{ChangesNode, for_parts, pairs_with};
 ghost use Rattle.wiring.specs.Scoped.{HasLoosened, IsBuried, IsPointBuried, AreTold, IsReleased};
-ghost use Rattle.wiring.specs.Wiring.{KeepsGraph, KeepsRound, KeepsPlaces, TakesOne, IsBehindGate, IsAtGate, GoesBack, IsPutBack, WaitsFor, HasMore, OnlyLoses};
+ghost use Rattle.wiring.specs.TakingOff.{LosesLinks};
+ghost use Rattle.wiring.specs.Wiring.{KeepsGraph, KeepsRound, TakesOne, IsBehindGate, IsAtGate, GoesBack, IsPutBack, WaitsFor};
 
 use crate::settled::{Rowless, Untold};
 use crate::work::Work;
@@ -80,15 +81,12 @@ impl Work {
     /// alone. The gate is put into the heap for them.
     pub fn put_back_unconfirmed(&mut self, arena: &Arena, node: NodeId)
         requires kept { IsKept arena.now self.old }
-        ensures kept { IsKept arena.now self.new }
-        ensures places { KeepsPlaces self.old self.new }
+        ensures stays { LosesLinks arena.now self.old self.new }
         ensures taken { TakesOne arena.now self.old self.new }
         ensures behind { (p : APoint) → p.node ≡ node → IsBehindGate arena.now self.new p }
         ensures fewer { (p : APoint) → IsBehindGate arena.now self.old p → IsBehindGate arena.now self.new p }
-        ensures loses { OnlyLoses self.old.graph self.new.graph }
         ensures rows { (p : APoint) → (at self.new.rows p ≡ at self.old.rows p)
             ⊎ ((p.node ≡ node) × IsPutBack arena.now self.old self.new p) }
-        ensures rest { self.new ≡ record self.old { graph = self.new.graph; rows = self.new.rows } }
     {
         let Some(row) = arena.get(node) else {
             return;
@@ -105,16 +103,13 @@ impl Work {
     pub fn put_back_node(&mut self, arena: &Arena, node: NodeId, bind: NodeId)
         requires kept { IsKept arena.now self.old }
         requires row { (r : ARow) × (row_at arena.now node ≡ Some r) × (r.scope ≡ Some bind) }
-        ensures kept { IsKept arena.now self.new }
-        ensures places { KeepsPlaces self.old self.new }
+        ensures stays { LosesLinks arena.now self.old self.new }
         ensures taken { settled_in self.old.round (at self.old.rows (change bind)) ≡ false → TakesOne arena.now self.old self.new }
         ensures behind { (p : APoint) → p.node ≡ node → IsAtGate self.new p }
-        ensures loses { OnlyLoses self.old.graph self.new.graph }
         ensures heap { (p : APoint) → Holds self.new.graph.heap p
             → Holds self.old.graph.heap p ⊎ ((p.node ≡ node) ⊎ (p ≡ change bind)) }
         ensures rows { (p : APoint) → (at self.new.rows p ≡ at self.old.rows p)
             ⊎ ((p.node ≡ node) × GoesBack arena.now self.old self.new p bind) }
-        ensures rest { self.new ≡ record self.old { graph = self.new.graph; rows = self.new.rows } }
     {
         self.put_back(arena, main_point(node), bind);
         self.put_back(arena, change_point(node), bind);
@@ -125,16 +120,13 @@ impl Work {
     fn put_back(&mut self, arena: &Arena, p: Point, bind: NodeId)
         requires kept { IsKept arena.now self.old }
         requires row { (r : ARow) × (row_at arena.now p.node ≡ Some r) × (r.scope ≡ Some bind) }
-        ensures kept { IsKept arena.now self.new }
-        ensures places { KeepsPlaces self.old self.new }
+        ensures stays { LosesLinks arena.now self.old self.new }
         ensures taken { settled_in self.old.round (at self.old.rows (change bind)) ≡ false → TakesOne arena.now self.old self.new }
         ensures behind { IsAtGate self.new p }
-        ensures loses { OnlyLoses self.old.graph self.new.graph }
         ensures heap { (a : APoint) → Holds self.new.graph.heap a
             → Holds self.old.graph.heap a ⊎ ((a ≡ p) ⊎ (a ≡ change bind)) }
         ensures rows { (a : APoint) → (at self.new.rows a ≡ at self.old.rows a)
             ⊎ ((a ≡ p) × GoesBack arena.now self.old self.new p bind) }
-        ensures rest { self.new ≡ record self.old { graph = self.new.graph; rows = self.new.rows } }
     {
         let _ = arena;
         if self.graph.is_needed(p) && has_more_than_gate(&self.rows, p) {

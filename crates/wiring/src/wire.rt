@@ -15,15 +15,16 @@ ghost use Rattle.necessary_graph.specs.Part.{Needed, IsInStep};
 ghost use Rattle.node_arena.specs.Arena.{row_at};
 ghost use Rattle.node_outcomes.specs.Row.{stage_in, settled_in};
 ghost use Rattle.link_table.specs.Links.{Reads};
+ghost use Rattle.wiring.specs.Answers.{WireAnswers, TakenAnswers, GateAnswers, AsksGate, ConnectAnswers};
 ghost use Rattle.wiring.specs.Growing.{Grows};
 ghost use Rattle.wiring.specs.Kept.{IsKept};
-ghost use Rattle.wiring.specs.Refusing.{IsBarred, IsWhy, TellsFault};
+ghost use Rattle.wiring.specs.Refusing.{IsWhy, TellsFault};
 ghost use Rattle.wiring.specs.Rooting.{PutsRootOn};
 ghost use Rattle.wiring.specs.Stands.{hand};
+ghost use Rattle.wiring.specs.TakingOff.{TakesSome, TakesMore};
 ghost use Rattle.wiring.specs.Turning.{IsWaiting};
-ghost use Rattle.wiring.specs.Wiring.{GateRan, LacksLinks, MayRead, StaysInHand, WiresTaken};
-ghost use Rattle.wiring.specs.Wiring.{Links, Connects, LosesNeed, ConnectRefused, Wires, WireRefused, IsWoken, Looks, IsSpared, IsTarget};
-ghost use Rattle.wiring.specs.Wiring.{TakesOne, TakesOff, OnlyLoses, IsPutBack};
+ghost use Rattle.wiring.specs.Wiring.{GateRan, LacksLinks, MayRead};
+ghost use Rattle.wiring.specs.Wiring.{Links, Wires, WireRefused, IsWoken, Looks, IsSpared, IsTarget};
 ghost use Rattle.wiring.specs.Wiring.{PutsRoots, RootRefused, KeepsPlaces, IsLevelled, Attaches, AttachRefused};
 
 use crate::refused::Refused;
@@ -105,11 +106,7 @@ impl Work {
     fn wire_one(&mut self, arena: &Arena, p: Point) -> Result<(), Refused>
         requires needed { Needed self.old.graph p }
         requires kept { IsKept arena.now self.old }
-        ensures wired { OnOk result (WiresTaken arena.now self.old self.new p) }
-        ensures refused { IfErr result (WireRefused arena.now self.old self.new (Some (hand p []))) }
-        ensures places { KeepsPlaces self.old self.new }
-        ensures kept { IsKept arena.now self.new }
-        ensures pushed { OnOk result (Grows self.old self.new) }
+        ensures { TakenAnswers arena.now self.old self.new p result }
     {
         let Some(row) = arena.get(p.node) else {
             return self.wire_ghost(arena, p);
@@ -125,11 +122,7 @@ impl Work {
         requires needed { Needed self.old.graph p }
         requires dead { row_at arena.now p.node ≡ None }
         requires kept { IsKept arena.now self.old }
-        ensures wired { OnOk result (Wires arena.now self.old self.new (Some (hand p []))) }
-        ensures refused { IfErr result (WireRefused arena.now self.old self.new (Some (hand p []))) }
-        ensures places { KeepsPlaces self.old self.new }
-        ensures kept { IsKept arena.now self.new }
-        ensures pushed { OnOk result (Grows self.old self.new) }
+        ensures { WireAnswers arena.now self.old self.new (Some (hand p [])) result }
     {
         let Some(bind) = self.deaths.scope_of(p.node) else {
             return Ok(());
@@ -149,15 +142,7 @@ impl Work {
         requires row { (r : ARow) × (row_at arena.now p.node ≡ Some r) × (r.scope ≡ scope) }
         requires there { Holds self.old.rows p }
         requires kept { IsKept arena.now self.old }
-        ensures in_hand { IfOk result (λ on. IsTrue on → StaysInHand arena.now self.old self.new p) }
-        ensures left { IfOk result (λ on. IsFalse on → WiresTaken arena.now self.old self.new p) }
-        ensures refused { IfErr result (WireRefused arena.now self.old self.new (Some (hand p []))) }
-        ensures lacking { IfOk result (λ on. IsTrue on → LacksLinks arena.now self.new p) }
-        ensures ran { IfOk result (λ on. IsTrue on → GateRan arena.now self.new p) }
-        ensures needed { IfOk result (λ on. IsTrue on → Needed self.new.graph p) }
-        ensures places { KeepsPlaces self.old self.new }
-        ensures kept { IsKept arena.now self.new }
-        ensures pushed { OnOk result (Grows self.old self.new) }
+        ensures { GateAnswers arena.now self.old self.new p result }
     {
         let Some(bind) = scope else {
             return Ok(lacks_links(&self.rows, p));
@@ -178,15 +163,7 @@ impl Work {
         requires row { (r : ARow) × (row_at arena.now p.node ≡ Some r) × (r.scope ≡ Some bind) }
         requires bare { stage_in (at self.old.rows p) ≡ Some Stage.Bare }
         requires kept { IsKept arena.now self.old }
-        ensures in_hand { IfOk result (λ on. IsTrue on → StaysInHand arena.now self.old self.new p) }
-        ensures left { IfOk result (λ on. IsFalse on → Wires arena.now self.old self.new (Some (hand p []))) }
-        ensures refused { IfErr result (WireRefused arena.now self.old self.new (Some (hand p []))) }
-        ensures gated { IfOk result (λ on. IsTrue on → stage_in (at self.new.rows p) ≡ Some Stage.Gated) }
-        ensures ran { IfOk result (λ on. IsTrue on → settled_in self.new.round (at self.new.rows (change bind)) ≡ true) }
-        ensures needed { IfOk result (λ on. IsTrue on → Needed self.new.graph p) }
-        ensures places { KeepsPlaces self.old self.new }
-        ensures kept { IsKept arena.now self.new }
-        ensures pushed { OnOk result (Grows self.old self.new) }
+        ensures { GateAnswers arena.now self.old self.new p result }
     {
         set_stage(&mut self.rows, p, Stage::Gated);
         if !self.connect(arena, p, change_point(bind))? {
@@ -201,12 +178,7 @@ impl Work {
         requires row { (r : ARow) × (row_at arena.now p.node ≡ Some r) × (r.scope ≡ Some bind) }
         requires gated { stage_in (at self.old.rows p) ≡ Some Stage.Gated }
         requires kept { IsKept arena.now self.old }
-        ensures ran { IsTrue result → settled_in self.new.round (at self.new.rows (change bind)) ≡ true }
-        ensures stays { IsTrue result → self.new ≡ self.old }
-        ensures left { IsFalse result → Wires arena.now self.old self.new (Some (hand p [])) }
-        ensures places { KeepsPlaces self.old self.new }
-        ensures kept { IsKept arena.now self.new }
-        ensures pushed { Grows self.old self.new }
+        ensures { AsksGate arena.now self.old self.new p bind result }
     {
         let _ = arena;
         let gate = change_point(bind);
@@ -226,11 +198,7 @@ impl Work {
         requires lacking { LacksLinks arena.now self.old p }
         requires ran { GateRan arena.now self.old p }
         requires kept { IsKept arena.now self.old }
-        ensures wired { OnOk result (Wires arena.now self.old self.new (Some (hand p []))) }
-        ensures refused { IfErr result (WireRefused arena.now self.old self.new (Some (hand p []))) }
-        ensures places { KeepsPlaces self.old self.new }
-        ensures kept { IsKept arena.now self.new }
-        ensures pushed { OnOk result (Grows self.old self.new) }
+        ensures { WireAnswers arena.now self.old self.new (Some (hand p [])) result }
     {
         match (p.part, def.subject()) {
             (Part::Main, None) => {
@@ -256,11 +224,7 @@ impl Work {
         requires full { stage_in (at self.old.rows p) ≡ Some Stage.Full }
         requires ran { GateRan arena.now self.old p }
         requires kept { IsKept arena.now self.old }
-        ensures wired { OnOk result (Wires arena.now self.old self.new (Some (hand p (map main kids.now)))) }
-        ensures refused { IfErr result (WireRefused arena.now self.old self.new (Some (hand p (map main kids.now)))) }
-        ensures places { KeepsPlaces self.old self.new }
-        ensures kept { IsKept arena.now self.new }
-        ensures pushed { OnOk result (Grows self.old self.new) }
+        ensures { WireAnswers arena.now self.old self.new (Some (hand p (map main kids.now))) result }
     {
         for kid in kids {
             if !self.connect(arena, p, main_point(*kid))? {
@@ -277,11 +241,7 @@ impl Work {
         requires lacking { LacksLinks arena.now self.old (main node) }
         requires ran { GateRan arena.now self.old (main node) }
         requires kept { IsKept arena.now self.old }
-        ensures wired { OnOk result (Wires arena.now self.old self.new (Some (hand (main node) []))) }
-        ensures refused { IfErr result (WireRefused arena.now self.old self.new (Some (hand (main node) []))) }
-        ensures places { KeepsPlaces self.old self.new }
-        ensures kept { IsKept arena.now self.new }
-        ensures pushed { OnOk result (Grows self.old self.new) }
+        ensures { WireAnswers arena.now self.old self.new (Some (hand (main node) [])) result }
     {
         let own = change_point(node);
         set_stage(&mut self.rows, main_point(node), Stage::Static);
@@ -327,16 +287,7 @@ impl Work {
         requires spared { IsSpared arena.now self.old p }
         requires target { IsTarget arena.now self.old q }
         requires kept { IsKept arena.now self.old }
-        ensures linked { IfOk result (λ on. IsTrue on → Connects arena.now self.old self.new p q) }
-        ensures needed { IfOk result (λ on. IsTrue on → Needed self.new.graph p × Needed self.new.graph q) }
-        ensures reads { IfOk result (λ on. IsTrue on → Reads self.new.graph.links p q) }
-        ensures gone { IfOk result (λ on. IsFalse on → LosesNeed arena.now self.old self.new p q × (self.new.retries < self.old.retries)) }
-        ensures refused { IfErr result (ConnectRefused arena.now self.old self.new p q) }
-        ensures barred { self.new.retries < self.old.retries → IsBarred self.old p q }
-        ensures row { IfOk result (λ on. IsTrue on → at self.new.rows p ≡ at self.old.rows p) }
-        ensures kept { IsKept arena.now self.new }
-        ensures places { KeepsPlaces self.old self.new }
-        ensures pushed { OnOk result (Grows self.old self.new) }
+        ensures { ConnectAnswers arena.now self.old self.new p q result }
     {
         while let Err(fault) = self.try_link(arena, p, q) {
             if self.is_final(&fault) {
@@ -369,13 +320,8 @@ impl Work {
     fn make_way(&mut self, arena: &Arena, points: &[Point])
         requires kept { IsKept arena.now self.old }
         requires some { 0 < self.old.retries }
-        ensures taken { TakesOff arena.now self.old self.new }
+        ensures taken { TakesMore arena.now self.old self.new }
         ensures fewer { self.new.retries < self.old.retries }
-        ensures kept { IsKept arena.now self.new }
-        ensures places { KeepsPlaces self.old self.new }
-        ensures rest { self.new ≡ record self.old { graph = self.new.graph; rows = self.new.rows; retries = self.new.retries } }
-        ensures rows { (a : APoint) → IsSpared arena.now self.old a → (at self.new.rows a ≡ at self.old.rows a)
-            ⊎ IsPutBack arena.now self.old self.new a }
     {
         let took = self.take_off_along(arena, points);
         if took && self.retries > 1 {
@@ -389,13 +335,7 @@ impl Work {
     /// fewer links then.
     fn take_off_along(&mut self, arena: &Arena, points: &[Point]) -> bool
         requires kept { IsKept arena.now self.old }
-        ensures taken { TakesOne arena.now self.old self.new }
-        ensures kept { IsKept arena.now self.new }
-        ensures places { KeepsPlaces self.old self.new }
-        ensures loses { OnlyLoses self.old.graph self.new.graph }
-        ensures rest { self.new ≡ record self.old { graph = self.new.graph; rows = self.new.rows } }
-        ensures rows { (a : APoint) → IsSpared arena.now self.old a → (at self.new.rows a ≡ at self.old.rows a)
-            ⊎ IsPutBack arena.now self.old self.new a }
+        ensures { TakesSome arena.now self.old self.new }
     {
         let mut took = false;
         for p in points {
@@ -411,13 +351,7 @@ impl Work {
     /// Takes off the links of a node that weren't confirmed in this round.
     fn take_off_at(&mut self, arena: &Arena, node: NodeId)
         requires kept { IsKept arena.now self.old }
-        ensures taken { TakesOne arena.now self.old self.new }
-        ensures kept { IsKept arena.now self.new }
-        ensures places { KeepsPlaces self.old self.new }
-        ensures loses { OnlyLoses self.old.graph self.new.graph }
-        ensures rest { self.new ≡ record self.old { graph = self.new.graph; rows = self.new.rows } }
-        ensures rows { (a : APoint) → IsSpared arena.now self.old a → (at self.new.rows a ≡ at self.old.rows a)
-            ⊎ IsPutBack arena.now self.old self.new a }
+        ensures { TakesSome arena.now self.old self.new }
     {
         self.put_back_unconfirmed(arena, node);
         self.take_off(arena, node);

@@ -1,5 +1,5 @@
 //! What a stabilize works on beside the nodes: who is needed, how far each point has come, and what is to be done.
-ghost use Rattle.std.specs.Prelude.{◌≡◌, ◌≢◌, ◌⊎◌, ◌↔◌, ◌<◌, ◌≤◌, ◌++◌, ℕ, [], ◌∷◌, None, Some, IsTrue, IsFalse};
+ghost use Rattle.std.specs.Prelude.{◌≡◌, ◌≢◌, ◌⊎◌, ◌↔◌, ◌<◌, ◌≤◌, ℕ, [], None, Some, IsTrue, IsFalse};
 ghost use Rattle.std.specs.Prelude.{IfOk, OnOk, OnErr, vec_len, vec_capacity};
 ghost use Rattle.inc_value.specs.Choice.{Among};
 ghost use Rattle.inc_value.specs.declared.node.NodeId.{NodeId as ANode};
@@ -19,9 +19,10 @@ ghost use Rattle.node_outcomes.specs.Row.{IsRewritten, with_outcome};
 ghost use Rattle.stabilize_round.specs.State.{all_retries};
 ghost use Rattle.wiring.specs.Kept.{IsKept};
 ghost use Rattle.wiring.specs.Places.{ChangesNode, for_parts, pairs_with};
+ghost use Rattle.wiring.specs.TakingOff.{LosesLinks, TakesMore};
 ghost use Rattle.wiring.specs.Turning.{IsAttached, IsWaiting, IsLoosened, HasTurned};
 ghost use Rattle.wiring.specs.Wiring.{KeepsGraph, KeepsRound, IsEnqueued, AreEnqueued, IsTold, IsWoken, Looks};
-ghost use Rattle.wiring.specs.Wiring.{IsMarked, OnlyLoses, IsSpared, IsBehindGate, IsPutBack, TakesOff, TakesOne, IsConfirmedAt, KeepsPlaces};
+ghost use Rattle.wiring.specs.Wiring.{IsMarked, OnlyLoses, IsSpared, IsBehindGate, TakesOne, IsConfirmedAt};
 ghost use Rattle.wiring.specs.Graph.{rowless, died_at};
 ghost use Rattle.wiring.specs.Scoped.{IsReleased};
 
@@ -401,14 +402,9 @@ impl Work {
     /// at once. This takes no memory.
     pub fn take_off_unconfirmed(&mut self, arena: &Arena)
         requires kept { IsKept arena.now self.old }
-        ensures taken { TakesOff arena.now self.old self.new }
+        ensures taken { TakesMore arena.now self.old self.new }
         ensures strict { self.new.retries ≡ 0 }
-        ensures kept { IsKept arena.now self.new }
-        ensures places { KeepsPlaces self.old self.new }
         ensures loses { OnlyLoses self.old.graph self.new.graph }
-        ensures rest { self.new ≡ record self.old { graph = self.new.graph; rows = self.new.rows; retries = self.new.retries } }
-        ensures rows { (p : APoint) → IsSpared arena.now self.old p → (at self.new.rows p ≡ at self.old.rows p)
-            ⊎ IsPutBack arena.now self.old self.new p }
     {
         for place in 0..self.scoped.len() {
             let node = self.scoped.at(place);
@@ -424,15 +420,12 @@ impl Work {
     /// Takes a node's right side off, if its change didn't run in this round, and puts the change into the heap.
     pub(crate) fn take_off(&mut self, arena: &Arena, node: NodeId)
         requires kept { IsKept arena.now self.old }
-        ensures kept { IsKept arena.now self.new }
-        ensures places { KeepsPlaces self.old self.new }
+        ensures stays { LosesLinks arena.now self.old self.new }
         ensures taken { TakesOne arena.now self.old self.new }
-        ensures loses { OnlyLoses self.old.graph self.new.graph }
         ensures confirmed { IsConfirmedAt arena.now self.new node }
         ensures fewer { (n : ANode) → IsConfirmedAt arena.now self.old n → IsConfirmedAt arena.now self.new n }
         ensures behind { (p : APoint) → IsBehindGate arena.now self.old p → IsBehindGate arena.now self.new p }
         ensures spared { (p : APoint) → IsSpared arena.now self.old p → at self.new.rows p ≡ at self.old.rows p }
-        ensures rest { self.new ≡ record self.old { graph = self.new.graph; rows = self.new.rows } }
     {
         let Some(row) = arena.get(node) else {
             return;

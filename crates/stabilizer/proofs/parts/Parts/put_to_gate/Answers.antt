@@ -22,4 +22,5 @@ returns-in-Some-clause-put c =
     let r = scope_row c.args.self.now.arena c.args.node c.in-Some.scope (sym c.scope_of.ensures ∙ c.in-Some.is) in
     let b = c.put_back_node.ensures in
     put_to_gate c.args.self.now.arena c.args.self.now.work c.put_back_node.new.self c.keep_gate.new.self.work c.keep_gate-in-Some.new.self.work
-    c.args.node c.in-Some.scope r.0 r.1 r.2 b.kept b.places b.taken b.behind b.loses b.heap b.rows b.rest (first c) (last c)
+    c.args.node c.in-Some.scope r.0 r.1 r.2 b.stays.kept b.stays.places b.taken b.behind b.stays.loses b.heap b.rows
+    b.stays.rest (first c) (last c)

@@ -13,9 +13,9 @@ use Rattle.necessary_graph.specs.Sweep.{IsReduced}
 use Rattle.wiring.specs.Wiring.{IsMarked, HasMore}
 use Rattle.wiring.specs.declared.work.Work.{Work}
 use Rattle.wiring.proofs.Deciding.{need_same}
-use Rattle.wiring.proofs.GoingBack.{IsLowered, lowered_kept, lowered_places, lowered_loses, lowered_heap}
+use Rattle.wiring.proofs.GoingBack.{IsLowered, lowered_stays, lowered_heap}
 use Rattle.wiring.proofs.PuttingBack.{put_lowered, put_taken, goes_back, at_gate, gate_there, more_there}
-use Rattle.wiring.proofs.TakingAll.{loses_none}
+use Rattle.wiring.proofs.TakingAll.{loses_nothing}
 use Rattle.wiring.proofs.TakingOne.{nothing_taken}
 use Rattle.wiring.proofs.work.Work.put_back.Goals as goal
 
@@ -62,18 +62,10 @@ module _ (c : goal.After-reduce) where
   gate n = let r = c.requires.row in
       gate_there c.args.arena.now c.args.self.now c.reduce.new.self c.args.p c.args.bind r.0 r.1 r.2 c.requires.kept reduced.links back more need
 
-pub returns-then-has_more_than_gate-clause-kept : goal.returns-then-has_more_than_gate-clause-kept
-returns-then-has_more_than_gate-clause-kept c =
-    lowered_kept c.args.arena.now c.args.self.now c.reduce.new.self c.args.p (change c.args.bind) code.Gated (reduced c).links (back c)
+pub returns-then-has_more_than_gate-clause-stays : goal.returns-then-has_more_than_gate-clause-stays
+returns-then-has_more_than_gate-clause-stays c =
+    lowered_stays c.args.arena.now c.args.self.now c.reduce.new.self c.args.p (change c.args.bind) code.Gated (reduced c).links (back c)
     c.requires.kept (more_there (at c.args.self.now.rows c.args.p) (more c)) (gate c)
-
-pub returns-then-has_more_than_gate-clause-places : goal.returns-then-has_more_than_gate-clause-places
-returns-then-has_more_than_gate-clause-places c =
-    lowered_places c.args.arena.now c.args.self.now c.reduce.new.self c.args.p (change c.args.bind) code.Gated (reduced c).links (back c)
-
-pub returns-then-has_more_than_gate-clause-loses : goal.returns-then-has_more_than_gate-clause-loses
-returns-then-has_more_than_gate-clause-loses c =
-    lowered_loses c.args.arena.now c.args.self.now c.reduce.new.self c.args.p (change c.args.bind) code.Gated (reduced c).links (back c)
 
 pub returns-then-has_more_than_gate-clause-heap : goal.returns-then-has_more_than_gate-clause-heap
 returns-then-has_more_than_gate-clause-heap c q h =
@@ -103,16 +95,13 @@ returns-then-has_more_than_gate-clause-rows c a =
       | inr ne ↦ inl ((back c).rows.others a ne)
     ]
 
-pub returns-then-has_more_than_gate-clause-rest : goal.returns-then-has_more_than_gate-clause-rest
-returns-then-has_more_than_gate-clause-rest c = (back c).rest
-
 -- ---- nothing is done
 
 pub returns-else-is_needed-clause-taken : goal.returns-else-is_needed-clause-taken
 returns-else-is_needed-clause-taken c unsettled = nothing_taken c.args.arena.now c.args.self.now c.requires.kept.step
 
-pub returns-else-is_needed-clause-loses : goal.returns-else-is_needed-clause-loses
-returns-else-is_needed-clause-loses c = loses_none c.args.self.now.graph
+pub returns-else-is_needed-clause-stays : goal.returns-else-is_needed-clause-stays
+returns-else-is_needed-clause-stays c = loses_nothing c.args.arena.now c.args.self.now c.requires.kept
 
 pub returns-else-is_needed-clause-rows : goal.returns-else-is_needed-clause-rows
 returns-else-is_needed-clause-rows c a = inl refl

@@ -1,12 +1,11 @@
-use Rattle.std.proofs.Common.{◌≡◌, ◌⊎◌, inl, inr, Some, sym, ap, subst, ◌∙◌}
+use Rattle.std.proofs.Common.{◌≡◌, ◌⊎◌, inl, inr, Some, sym, ap, subst}
 use Rattle.inc_value.specs.declared.node.Point.{Point}
 use Rattle.inc_terms.specs.Depend.{main, change}
 use Rattle.inc_terms.specs.Graph.{Row}
 use Rattle.node_arena.specs.Arena.{row_at}
 use Rattle.wiring.specs.Wiring.{IsAtGate}
-use Rattle.wiring.specs.declared.work.Work.{Work}
 use Rattle.wiring.proofs.NodeBack.{BackAt, node_back, node_at_gate, node_taken}
-use Rattle.wiring.proofs.TakingAll.{loses_then, places_then}
+use Rattle.wiring.proofs.TakingAll.{loses_links}
 use Rattle.wiring.proofs.work.Work.put_back_node.Goals as goal
 
 pub put_back-requires-clause-row : goal.put_back-requires-clause-row
@@ -25,32 +24,25 @@ module _ (c : goal.After-put_back-2) where
   second = subst (λ (x : Point). BackAt c.args.arena.now c.put_back.new.self c.put_back-2.new.self x c.args.bind) c.change_point.ensures
       c.put_back-2.ensures.rows
 
-pub returns-clause-rest : goal.returns-clause-rest
-returns-clause-rest c = c.put_back-2.ensures.rest
-    ∙ ap (λ (w : Work). record w { graph = c.put_back-2.new.self.graph; rows = c.put_back-2.new.self.rows }) c.put_back.ensures.rest
-
-pub returns-clause-places : goal.returns-clause-places
-returns-clause-places c = places_then c.args.self.now c.put_back.new.self c.put_back-2.new.self c.put_back.ensures.places c.put_back-2.ensures.places
-
-pub returns-clause-loses : goal.returns-clause-loses
-returns-clause-loses c = loses_then c.args.self.now.graph c.put_back.new.self.graph c.put_back-2.new.self.graph c.put_back.ensures.loses
-    c.put_back-2.ensures.loses
+pub returns-clause-stays : goal.returns-clause-stays
+returns-clause-stays c =
+    loses_links c.args.arena.now c.args.self.now c.put_back.new.self c.put_back-2.new.self c.put_back.ensures.stays c.put_back-2.ensures.stays
 
 pub returns-clause-rows : goal.returns-clause-rows
 returns-clause-rows c = node_back c.args.arena.now c.args.self.now c.put_back.new.self c.put_back-2.new.self c.args.node c.args.bind (first c) (second c)
-    c.put_back-2.ensures.loses
+    c.put_back-2.ensures.stays.loses
 
 pub returns-clause-behind : goal.returns-clause-behind
 returns-clause-behind c =
     node_at_gate c.args.arena.now c.args.self.now c.put_back.new.self c.put_back-2.new.self c.args.node c.args.bind (first c) (second c)
-    c.put_back-2.ensures.loses
+    c.put_back-2.ensures.stays.loses
     (subst (λ (x : Point). IsAtGate c.put_back.new.self x) c.main_point.ensures c.put_back.ensures.behind)
     (subst (λ (x : Point). IsAtGate c.put_back-2.new.self x) c.change_point.ensures c.put_back-2.ensures.behind)
 
 pub returns-clause-taken : goal.returns-clause-taken
 returns-clause-taken c =
     node_taken c.args.arena.now c.args.self.now c.put_back.new.self c.put_back-2.new.self c.args.node c.args.bind (first c) (second c)
-    c.put_back-2.ensures.loses c.put_back.ensures.places.round c.put_back.ensures.kept.step c.put_back-2.ensures.kept.step c.put_back.ensures.taken
+    c.put_back-2.ensures.stays.loses c.put_back.ensures.stays.places.round c.put_back.ensures.stays.kept.step c.put_back-2.ensures.stays.kept.step c.put_back.ensures.taken
     c.put_back-2.ensures.taken
 
 at_point : (c : goal.After-put_back-2) (q : Point) → (q ≡ main c.args.node) ⊎ (q ≡ change c.args.bind) → (q.node ≡ c.args.node) ⊎ (q ≡ change c.args.bind)

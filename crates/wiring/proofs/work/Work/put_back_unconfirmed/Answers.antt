@@ -5,7 +5,7 @@ use Rattle.node_arena.specs.Arena.{row_of}
 use Rattle.point_map.specs.Rows.{at}
 use Rattle.node_outcomes.specs.Row.{settled_in}
 use Rattle.wiring.proofs.NodeBack.{dead_behind, alone_behind, ran_behind, gate_behind, node_falls, falls_behind, back_unconfirmed}
-use Rattle.wiring.proofs.TakingAll.{loses_none}
+use Rattle.wiring.proofs.TakingAll.{loses_nothing}
 use Rattle.wiring.proofs.TakingOne.{nothing_taken}
 use Rattle.wiring.proofs.work.Work.put_back_unconfirmed.Goals as goal
 
@@ -17,8 +17,8 @@ returns-in_default-clause-taken c = nothing_taken c.args.arena.now c.args.self.n
 pub returns-in_default-clause-behind : goal.returns-in_default-clause-behind
 returns-in_default-clause-behind c = dead_behind c.args.arena.now c.args.self.now c.args.node (sym c.in_default.ensures)
 
-pub returns-in_default-clause-loses : goal.returns-in_default-clause-loses
-returns-in_default-clause-loses c = loses_none c.args.self.now.graph
+pub returns-in_default-clause-stays : goal.returns-in_default-clause-stays
+returns-in_default-clause-stays c = loses_nothing c.args.arena.now c.args.self.now c.requires.kept
 
 pub returns-in_default-clause-rows : goal.returns-in_default-clause-rows
 returns-in_default-clause-rows c p = inl refl
@@ -32,8 +32,8 @@ pub returns-in_default-scope-clause-behind : goal.returns-in_default-scope-claus
 returns-in_default-scope-clause-behind c =
     alone_behind c.args.arena.now c.args.self.now c.args.node (row_of c.in-Some.row.now) (sym c.in-Some.ensures) c.in_default-scope.is
 
-pub returns-in_default-scope-clause-loses : goal.returns-in_default-scope-clause-loses
-returns-in_default-scope-clause-loses c = loses_none c.args.self.now.graph
+pub returns-in_default-scope-clause-stays : goal.returns-in_default-scope-clause-stays
+returns-in_default-scope-clause-stays c = loses_nothing c.args.arena.now c.args.self.now c.requires.kept
 
 pub returns-in_default-scope-clause-rows : goal.returns-in_default-scope-clause-rows
 returns-in_default-scope-clause-rows c p = inl refl
@@ -49,8 +49,8 @@ returns-else-not-was_settled-clause-behind c =
     (subst (λ (x : Point). settled_in c.args.self.now.round (at c.args.self.now.rows x) ≡ true) c.change_point.ensures
     (sym c.was_settled.ensures ∙ c.if-not-was_settled.false))
 
-pub returns-else-not-was_settled-clause-loses : goal.returns-else-not-was_settled-clause-loses
-returns-else-not-was_settled-clause-loses c = loses_none c.args.self.now.graph
+pub returns-else-not-was_settled-clause-stays : goal.returns-else-not-was_settled-clause-stays
+returns-else-not-was_settled-clause-stays c = loses_nothing c.args.arena.now c.args.self.now c.requires.kept
 
 pub returns-else-not-was_settled-clause-rows : goal.returns-else-not-was_settled-clause-rows
 returns-else-not-was_settled-clause-rows c p = inl refl
@@ -76,7 +76,7 @@ pub returns-then-not-was_settled-clause-fewer : goal.returns-then-not-was_settle
 returns-then-not-was_settled-clause-fewer c =
     falls_behind c.args.arena.now c.args.self.now c.put_back_node.new.self
     (node_falls c.args.arena.now c.args.self.now c.put_back_node.new.self c.args.node c.in-Some-scope.bind c.put_back_node.ensures.rows)
-    c.put_back_node.ensures.places.round c.put_back_node.ensures.loses
+    c.put_back_node.ensures.stays.places.round c.put_back_node.ensures.stays.loses
 
 pub returns-then-not-was_settled-clause-rows : goal.returns-then-not-was_settled-clause-rows
 returns-then-not-was_settled-clause-rows c =

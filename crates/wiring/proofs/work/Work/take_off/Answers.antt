@@ -14,8 +14,8 @@ use Rattle.node_outcomes.specs.Choosing.{right_in}
 use Rattle.node_outcomes.specs.declared.row.Stage.TheVariants as code
 use Rattle.wiring.specs.Turning.{IsAttached}
 use Rattle.wiring.specs.Wiring.{IsMarked}
-use Rattle.wiring.proofs.GoingBack.{IsLowered, lowered_kept, lowered_places, lowered_loses, lowered_confirmed, lowered_behind}
-use Rattle.wiring.proofs.TakingAll.{loses_none}
+use Rattle.wiring.proofs.GoingBack.{IsLowered, lowered_stays, lowered_confirmed, lowered_behind}
+use Rattle.wiring.proofs.TakingAll.{loses_nothing}
 use Rattle.wiring.proofs.TakingOne.{nothing_taken, one_taken, loose_lowered, right_has_subject, spared_rows}
 use Rattle.wiring.proofs.work.Work.take_off.Goals as goal
 
@@ -25,17 +25,17 @@ some_of (Some m) e = (m, refl)
 
 -- ---- nothing is taken off
 
+pub returns-in_default-clause-stays : goal.returns-in_default-clause-stays
+returns-in_default-clause-stays c = loses_nothing c.args.arena.now c.args.self.now c.requires.kept
+
 pub returns-in_default-clause-taken : goal.returns-in_default-clause-taken
 returns-in_default-clause-taken c = nothing_taken c.args.arena.now c.args.self.now c.requires.kept.step
 
-pub returns-in_default-clause-loses : goal.returns-in_default-clause-loses
-returns-in_default-clause-loses c = loses_none c.args.self.now.graph
+pub returns-else-is_attached-clause-stays : goal.returns-else-is_attached-clause-stays
+returns-else-is_attached-clause-stays c = loses_nothing c.args.arena.now c.args.self.now c.requires.kept
 
 pub returns-else-is_attached-clause-taken : goal.returns-else-is_attached-clause-taken
 returns-else-is_attached-clause-taken c = nothing_taken c.args.arena.now c.args.self.now c.requires.kept.step
-
-pub returns-else-is_attached-clause-loses : goal.returns-else-is_attached-clause-loses
-returns-else-is_attached-clause-loses c = loses_none c.args.self.now.graph
 
 -- ---- the right side is
 
@@ -84,16 +84,10 @@ returns-then-is_some-clause-spared c =
     spared_rows c.args.arena.now c.args.self.now c.schedule.new.self c.drop_right.new.self c.args.node (r c) _ (live c) (ap is_some (subject c).1)
     (attached c) (unsettled c) c.schedule.ensures.rest c.drop_right.ensures.loosened
 
-pub returns-then-is_some-clause-rest : goal.returns-then-is_some-clause-rest
-returns-then-is_some-clause-rest c = (back c).1.rest
-
-pub returns-then-is_some-clause-places : goal.returns-then-is_some-clause-places
-returns-then-is_some-clause-places c =
-    lowered_places c.args.arena.now c.args.self.now c.drop_right.new.self (main c.args.node) (change c.args.node) code.Static (back c).0 (back c).1
-
-pub returns-then-is_some-clause-loses : goal.returns-then-is_some-clause-loses
-returns-then-is_some-clause-loses c =
-    lowered_loses c.args.arena.now c.args.self.now c.drop_right.new.self (main c.args.node) (change c.args.node) code.Static (back c).0 (back c).1
+pub returns-then-is_some-clause-stays : goal.returns-then-is_some-clause-stays
+returns-then-is_some-clause-stays c =
+    lowered_stays c.args.arena.now c.args.self.now c.drop_right.new.self (main c.args.node) (change c.args.node) code.Static (back c).0 (back c).1
+    c.requires.kept (mine c) (λ need. own c)
 
 pub returns-then-is_some-clause-fewer : goal.returns-then-is_some-clause-fewer
 returns-then-is_some-clause-fewer c =
@@ -104,8 +98,3 @@ pub returns-then-is_some-clause-behind : goal.returns-then-is_some-clause-behind
 returns-then-is_some-clause-behind c =
     lowered_behind c.args.arena.now c.args.self.now c.drop_right.new.self (main c.args.node) (change c.args.node) code.Static (back c).0 (back c).1
     (inr (attached c).stage)
-
-pub returns-then-is_some-clause-kept : goal.returns-then-is_some-clause-kept
-returns-then-is_some-clause-kept c =
-    lowered_kept c.args.arena.now c.args.self.now c.drop_right.new.self (main c.args.node) (change c.args.node) code.Static (back c).0 (back c).1
-    c.requires.kept (mine c) (λ need. own c)

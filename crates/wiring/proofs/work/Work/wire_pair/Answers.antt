@@ -1,34 +1,26 @@
-use Rattle.std.proofs.Common.{◌≡◌, ◌∙◌, inl, sym, ap, subst, Option, Some, []}
-use Rattle.std.specs.Prelude.{is_some}
+use Rattle.std.proofs.Common.{◌≡◌, ◌∙◌, ◌∷◌, inl, sym, ap, subst, Option, Some, []}
+use Rattle.std.specs.Prelude.{Ok}
 use Rattle.inc_value.specs.declared.node.Part.TheVariants.{Main}
 use Rattle.inc_value.specs.declared.node.Point.{Point}
 use Rattle.inc_terms.specs.Depend.{main, change}
 use Rattle.inc_terms.specs.Graph.{Row}
-use Rattle.necessity.specs.Need.{Roots, root_times}
-use Rattle.point_map.specs.Rows.{Rows, at, Holds}
+use Rattle.point_map.specs.Rows.{at, Holds}
 use Rattle.node_outcomes.specs.Computing.{has_part}
 use Rattle.node_outcomes.specs.Row.{IsRewritten, with_stage, stage_in}
-use Rattle.node_outcomes.specs.declared.row.Progress.{Progress}
 use Rattle.node_outcomes.specs.declared.row.Stage.TheVariants as code
-use Rattle.wiring.specs.Growing.{Grows}
+use Rattle.wiring.specs.Answers.{WireAnswers}
 use Rattle.wiring.specs.Kept.{IsKept}
 use Rattle.wiring.specs.Stands.{hand}
-use Rattle.wiring.specs.Wiring.{Wires, WireRefused, IsMarked, IsSpared, IsTarget, MayRead, StaysInHand, KeepsPlaces}
+use Rattle.wiring.specs.Wiring.{IsMarked, IsSpared, IsTarget, MayRead}
 use Rattle.wiring.specs.declared.work.Work.{Work}
+use Rattle.wiring.proofs.Answering.{IsOwed, staged_owed, refusal_answers, gone_answers, then_answers}
 use Rattle.wiring.proofs.Gating.{rowed_target, change_rowed}
-use Rattle.wiring.proofs.Growing.{grows_then}
-use Rattle.wiring.proofs.Handed.{places_then}
-use Rattle.wiring.proofs.Holding.{has_links_same}
-use Rattle.wiring.proofs.Lifting.{one_on, one_gone, one_refused, stays_wires}
+use Rattle.wiring.proofs.Lifting.{DueAfter}
 use Rattle.wiring.proofs.Pairing.{pair_kept, pair_static, pair_lifts, pair_due, pair_waits}
-use Rattle.wiring.proofs.Raising.{if_refusal, only_rows, staged_there, staged_places, staged_grows}
-use Rattle.wiring.proofs.Scheduling.{marked_kept, marked_grows}
+use Rattle.wiring.proofs.Raising.{only_rows, staged_there}
+use Rattle.wiring.proofs.Scheduling.{marked_kept, marked_places, marked_grows}
 use Rattle.wiring.proofs.work.Work.wire_pair.Goals as goal
 use Rattle.wiring.proofs.work.Work.wire_pair.Goals.{then-branch, else-branch}
-
--- its main has another stage
-rewritten : (old rows : Rows Progress) (p q : Point) → p ≡ q → IsRewritten old rows p (with_stage code.Static) → IsRewritten old rows q (with_stage code.Static)
-rewritten old rows p q is w = subst (λ (x : Point). IsRewritten old rows x (with_stage code.Static)) is w
 
 pub set_stage-requires : goal.set_stage-requires
 set_stage-requires c = record {
@@ -36,163 +28,89 @@ set_stage-requires c = record {
       (c.requires.kept.rows (main c.args.node) ∙ ap (λ (x : Option Row). has_part x Main) c.requires.row.1);
 }
 
+-- ---- its main has another stage
+
+module _ (c : goal.After-set_stage) where
+  abbrev r : Row
+  r = c.requires.row.0
+
+  abbrev mid : Work
+  mid = record c.args.self.now { rows = c.set_stage.new.rows }
+
+  w : IsRewritten c.args.self.now.rows c.set_stage.new.rows (main c.args.node) (with_stage code.Static)
+  w = subst (λ (x : Point). IsRewritten c.args.self.now.rows c.set_stage.new.rows x (with_stage code.Static)) c.main_point.ensures c.set_stage.ensures
+
+  rowed : Holds c.args.self.now.rows (main c.args.node)
+  rowed = c.requires.kept.rows (main c.args.node) ∙ ap (λ (x : Option Row). has_part x Main) c.requires.row.1
+
+  kept : IsKept c.args.arena.now mid
+  kept = pair_kept c.args.arena.now c.args.node r c.requires.row.1 c.requires.row.2 c.args.self.now c.requires.needed c.requires.lacking c.requires.ran
+      c.set_stage.new.rows w c.requires.kept
+
+  static : stage_in (at c.set_stage.new.rows (main c.args.node)) ≡ Some code.Static
+  static = pair_static c.args.arena.now c.args.node r c.requires.row.1 c.requires.row.2 c.args.self.now c.requires.needed c.requires.lacking
+      c.requires.ran c.set_stage.new.rows w rowed
+
+  owed : IsOwed c.args.arena.now c.args.self.now mid (main c.args.node) (change c.args.node ∷ [])
+  owed = staged_owed c.args.arena.now c.args.self.now c.set_stage.new.rows (main c.args.node) code.Static (change c.args.node ∷ []) w
+      (pair_lifts c.args.arena.now c.args.node r c.requires.row.1 c.requires.row.2 c.args.self.now c.requires.needed c.requires.lacking c.requires.ran
+      c.set_stage.new.rows w)
+
+  due : DueAfter c.args.arena.now c.args.self.now mid (main c.args.node) (change c.args.node)
+  due = pair_due c.args.arena.now c.args.node r c.requires.row.1 c.requires.row.2 c.args.self.now c.requires.needed c.requires.lacking c.requires.ran
+      c.set_stage.new.rows w
+
 pub connect-requires-clause-reader : goal.connect-requires-clause-reader
 connect-requires-clause-reader c =
-    let arena = c.args.arena.now in
-    let n = c.args.node in
-    let r = c.requires.row in
-    let old = c.args.self.now in
-    let rows = c.set_stage.new.rows in
-    let w = rewritten old.rows rows c.main_point.result (main n) c.main_point.ensures c.set_stage.ensures in
-    let mid : Work = record old { rows = rows } in
-    let rowed : Holds old.rows (main n) = c.requires.kept.rows (main n) ∙ ap (λ (x : Option Row). has_part x Main) r.1 in
-    subst (λ (x : Point). MayRead mid x c.change_point-own.result) (sym c.main_point-2.ensures)
-    (inl (staged_there old mid (main n) code.Static w (only_rows old rows) (main n) ∙ rowed))
+    subst (λ (x : Point). MayRead (mid c) x c.change_point-own.result) (sym c.main_point-2.ensures)
+    (inl (staged_there c.args.self.now (mid c) (main c.args.node) code.Static (w c) (only_rows c.args.self.now c.set_stage.new.rows) (main c.args.node)
+    ∙ rowed c))
 
 pub connect-requires-clause-spared : goal.connect-requires-clause-spared
 connect-requires-clause-spared c =
-    let arena = c.args.arena.now in
-    let n = c.args.node in
-    let r = c.requires.row in
-    let old = c.args.self.now in
-    let rows = c.set_stage.new.rows in
-    let w = rewritten old.rows rows c.main_point.result (main n) c.main_point.ensures c.set_stage.ensures in
-    let mid : Work = record old { rows = rows } in
-    let rowed : Holds old.rows (main n) = c.requires.kept.rows (main n) ∙ ap (λ (x : Option Row). has_part x Main) r.1 in
-    let now = pair_static arena n r.0 r.1 r.2 old c.requires.needed c.requires.lacking c.requires.ran rows w rowed in
-    subst (λ (x : Point). IsSpared arena mid x) (sym c.main_point-2.ensures) (λ part full. absurd (let e = full in cc))
+    let now = static c in
+    subst (λ (x : Point). IsSpared c.args.arena.now (mid c) x) (sym c.main_point-2.ensures) (λ part full. absurd (let e = full in cc))
 
 pub connect-requires-clause-kept : goal.connect-requires-clause-kept
-connect-requires-clause-kept c =
-    let n = c.args.node in
-    let old = c.args.self.now in
-    let rows = c.set_stage.new.rows in
-    let w = rewritten old.rows rows c.main_point.result (main n) c.main_point.ensures c.set_stage.ensures in
-    pair_kept c.args.arena.now n c.requires.row.0 c.requires.row.1 c.requires.row.2 old c.requires.needed c.requires.lacking c.requires.ran rows w c.requires.kept
+connect-requires-clause-kept c = kept c
 
 pub connect-requires-clause-target : goal.connect-requires-clause-target
 connect-requires-clause-target c =
-    let arena = c.args.arena.now in
-    let n = c.args.node in
-    let r = c.requires.row in
-    let old = c.args.self.now in
-    let rows = c.set_stage.new.rows in
-    let w = rewritten old.rows rows c.main_point.result (main n) c.main_point.ensures c.set_stage.ensures in
-    let mid : Work = record old { rows = rows } in
-    let kept = pair_kept arena n r.0 r.1 r.2 old c.requires.needed c.requires.lacking c.requires.ran rows w c.requires.kept in
-    subst (λ (x : Point). IsTarget arena mid x) (sym c.change_point-own.ensures) (rowed_target arena mid (change n) kept (change_rowed arena mid n r.0 kept r.1 r.2))
+    subst (λ (x : Point). IsTarget c.args.arena.now (mid c) x) (sym c.change_point-own.ensures)
+    (rowed_target c.args.arena.now (mid c) (change c.args.node) (kept c)
+    (change_rowed c.args.arena.now (mid c) c.args.node (r c) (kept c) c.requires.row.1 c.requires.row.2))
 
-pub returns-in_err-connect-clause-refused : goal.returns-in_err-connect-clause-refused
-returns-in_err-connect-clause-refused c =
-    let arena = c.args.arena.now in
-    let n = c.args.node in
-    let r = c.requires.row in
-    let old = c.args.self.now in
-    let rows = c.set_stage.new.rows in
-    let w = rewritten old.rows rows c.main_point.result (main n) c.main_point.ensures c.set_stage.ensures in
-    let mid : Work = record old { rows = rows } in
-    let con = c.connect.new.self in
-    let e = c.in_err-connect.field-0.0 in
-    if_refusal (WireRefused arena old con (Some (hand (main n) []))) e c.from_residual.result c.from_residual.ensures.1
-    (one_refused arena old mid (main n) (change n)
-    (pair_lifts arena n r.0 r.1 r.2 old c.requires.needed c.requires.lacking c.requires.ran rows w)
-    (pair_due arena n r.0 r.1 r.2 old c.requires.needed c.requires.lacking c.requires.ran rows w) con e
-    (rw (c.main_point-2.ensures, c.change_point-own.ensures) at c.in_err-connect.ensures.refused))
+-- ---- its change's link was asked for
 
-pub returns-clause-wired : goal.returns-clause-wired
-returns-clause-wired c =
+pub returns-in_err-connect : goal.returns-in_err-connect
+returns-in_err-connect c =
+    refusal_answers c.args.arena.now c.args.self.now (mid c) (main c.args.node) (change c.args.node) (owed c) (due c) c.connect.new.self
+    c.from_residual.result c.in_err-connect.field-0.0 c.from_residual.ensures.1
+    (rw (c.main_point-2.ensures, c.change_point-own.ensures) at c.in_err-connect.ensures)
+
+pub returns : goal.returns
+returns c =
     let arena = c.args.arena.now in
     let n = c.args.node in
-    let r = c.requires.row in
     let old = c.args.self.now in
-    let rows = c.set_stage.new.rows in
-    let w = rewritten old.rows rows c.main_point.result (main n) c.main_point.ensures c.set_stage.ensures in
-    let mid : Work = record old { rows = rows } in
+    let row = c.requires.row in
     let con = c.connect.new.self in
-    let lifts = pair_lifts arena n r.0 r.1 r.2 old c.requires.needed c.requires.lacking c.requires.ran rows w in
-    let due = pair_due arena n r.0 r.1 r.2 old c.requires.needed c.requires.lacking c.requires.ran rows w in
+    let on = rw (c.main_point-2.ensures, c.change_point-own.ensures) at c.in_ok-connect.ensures in
     elim c.if-branch.branch [
       | then-branch b ↦
           let t = b.if-branch.true in
           let next = b.schedule.new.self in
-          let need = c.in_ok-connect.ensures.needed t in
-          let marked : IsMarked con.graph next.graph (change n) = rw c.change_point-own.ensures at b.schedule.ensures.scheduled in
-          let static = pair_static arena n r.0 r.1 r.2 old c.requires.needed c.requires.lacking c.requires.ran rows w (c.requires.kept.rows (main n) ∙ ap (λ (x : Option Row). has_part x Main) r.1) in
-          let now = ap stage_in (rw c.main_point-2.ensures at (c.in_ok-connect.ensures.row t)) ∙ static in
-          let stays : StaysInHand arena old con (main n) = one_on arena old mid (main n) (change n) lifts due con
-          (rw (c.main_point-2.ensures, c.change_point-own.ensures) at (c.in_ok-connect.ensures.linked t)) in
-          subst (λ (x : Work). Wires arena old x (Some (hand (main n) []))) (sym b.self-is)
-          (stays_wires arena old con next (main n) stays
-          (pair_waits arena n r.0 r.1 r.2 con next (rw c.main_point-2.ensures at need.0) (rw c.change_point-own.ensures at need.1) now marked b.schedule.ensures.rest))
-      | else-branch b ↦
-          subst (λ (x : Work). Wires arena old x (Some (hand (main n) []))) (sym b.self-is)
-          (one_gone arena old mid (main n) (change n) lifts due con
-          (rw (c.main_point-2.ensures, c.change_point-own.ensures) at (c.in_ok-connect.ensures.gone b.if-branch.false).0))
-    ]
-
-pub returns-clause-kept : goal.returns-clause-kept
-returns-clause-kept c =
-    let r = c.requires.row in
-    let con = c.connect.new.self in
-    elim c.if-branch.branch [
-      | then-branch b ↦
-          subst (λ (x : Work). IsKept c.args.arena.now x) (sym b.self-is)
-          (marked_kept (change c.args.node) con b.schedule.new.self (rw c.change_point-own.ensures at b.schedule.ensures.scheduled) b.schedule.ensures.rest
-          c.args.arena.now (change_rowed c.args.arena.now con c.args.node r.0 c.in_ok-connect.ensures.kept r.1 r.2) b.schedule.ensures.step c.in_ok-connect.ensures.kept)
-      | else-branch b ↦ subst (λ (x : Work). IsKept c.args.arena.now x) (sym b.self-is) c.in_ok-connect.ensures.kept
-    ]
-
-pub returns-clause-pushed : goal.returns-clause-pushed
-returns-clause-pushed c =
-    let n = c.args.node in
-    let old = c.args.self.now in
-    let rows = c.set_stage.new.rows in
-    let w = rewritten old.rows rows c.main_point.result (main n) c.main_point.ensures c.set_stage.ensures in
-    let mid : Work = record old { rows = rows } in
-    let con = c.connect.new.self in
-    let first : Grows old con = staged_grows old mid (main n) code.Static w (only_rows old rows) con c.in_ok-connect.ensures.pushed in
-    let places = c.in_ok-connect.ensures.places in
-    elim c.if-branch.branch [
-      | then-branch b ↦
-          let next = b.schedule.new.self in
-          let marked : IsMarked con.graph next.graph (change n) = rw c.change_point-own.ensures at b.schedule.ensures.scheduled in
-          subst (λ (x : Work). Grows old x) (sym b.self-is)
-          (grows_then old con next
-          (has_links_same con old (λ a. sym (places.rows a ∙ staged_there old mid (main n) code.Static w (only_rows old rows) a)) (sym places.deaths)) first
-          (marked_grows (change n) con next marked b.schedule.ensures.rest c.in_ok-connect.ensures.kept.step b.schedule.ensures.step))
-      | else-branch b ↦ subst (λ (x : Work). Grows old x) (sym b.self-is) first
-    ]
-
--- ---- where all stays
-
-pub returns-in_err-connect-clause-places : goal.returns-in_err-connect-clause-places
-returns-in_err-connect-clause-places c =
-    let n = c.args.node in
-    let old = c.args.self.now in
-    let rows = c.set_stage.new.rows in
-    let w = rewritten old.rows rows c.main_point.result (main n) c.main_point.ensures c.set_stage.ensures in
-    let mid : Work = record old { rows = rows } in
-    places_then old mid c.connect.new.self (staged_places old mid (main n) code.Static w (only_rows old rows)) c.connect.ensures.places
-
-pub returns-clause-places : goal.returns-clause-places
-returns-clause-places c =
-    let n = c.args.node in
-    let old = c.args.self.now in
-    let rows = c.set_stage.new.rows in
-    let w = rewritten old.rows rows c.main_point.result (main n) c.main_point.ensures c.set_stage.ensures in
-    let mid : Work = record old { rows = rows } in
-    let con = c.connect.new.self in
-    let first = places_then old mid con (staged_places old mid (main n) code.Static w (only_rows old rows)) c.connect.ensures.places in
-    elim c.if-branch.branch [
-      | then-branch b ↦
-          let next = b.schedule.new.self in
-          let roots = b.schedule.ensures.scheduled.graph.roots in
           let rest = b.schedule.ensures.rest in
-          subst (λ (x : Work). KeepsPlaces old x) (sym b.self-is) (places_then old con next first (record {
-            rows = λ a. ap (λ (x : Work). is_some (at x.rows a)) rest;
-            roots = λ a. ap (λ (r : Roots). root_times r a) roots;
-            deaths = ap (λ (x : Work). x.deaths) rest;
-            round = ap (λ (x : Work). x.round) rest;
-          }))
-      | else-branch b ↦ subst (λ (x : Work). KeepsPlaces old x) (sym b.self-is) first
+          let step = b.schedule.ensures.step in
+          let marked : IsMarked con.graph next.graph (change n) = rw c.change_point-own.ensures at b.schedule.ensures.scheduled in
+          let now = ap stage_in (on.row t) ∙ static c in
+          subst (λ (x : Work). WireAnswers arena old x (Some (hand (main n) [])) (Ok _)) (sym b.self-is)
+          (then_answers arena old (mid c) (main n) (change n) (owed c) (due c) con on _ t next
+          (pair_waits arena n (r c) row.1 row.2 con next (on.needed t).0 (on.needed t).1 now marked rest)
+          (marked_places (change n) con next marked rest)
+          (marked_kept (change n) con next marked rest arena (change_rowed arena con n (r c) on.kept row.1 row.2) step on.kept)
+          (marked_grows (change n) con next marked rest on.kept.step step))
+      | else-branch b ↦
+          subst (λ (x : Work). WireAnswers arena old x (Some (hand (main n) [])) (Ok _)) (sym b.self-is)
+          (gone_answers arena old (mid c) (main n) (change n) (owed c) (due c) con on _ b.if-branch.false)
     ]
