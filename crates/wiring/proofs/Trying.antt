@@ -1,6 +1,6 @@
 -- A link is tried: what stays where it is refused, and how the state follows where it is made.
 use Rattle.std.proofs.Common.{◌≡◌, ◌≢◌, ◌⊎◌, inl, inr, ℕ, ◌≤◌, ◌+◌, Bool, true, false, [], ◌∷◌, Option, None, Some, refl, sym, ap, subst, ◌∙◌, arith, length-append, ◌*◌}
-use Rattle.std.specs.Prelude.{length, is_some, option_map, ◌↔◌, IsTrue, IsFalse}
+use Rattle.std.specs.Prelude.{length, is_some, option_map, ◌↔◌, IsTrue, IsFalse, Ok, Err}
 use Rattle.inc_value.specs.declared.node.Part.{Part}
 use Rattle.inc_value.specs.declared.node.Point.{Point}
 use Rattle.inc_value.specs.Choice.{Reaches}
@@ -19,12 +19,15 @@ use Rattle.stabilize_round.specs.State.{State}
 use Rattle.stabilize_round.specs.Steps.{Wiring}
 use Rattle.stabilize_round.proofs.Parts.{bool_cases}
 use Rattle.stabilize_round.proofs.Points.{same_or_other}
+use Rattle.wiring.specs.Answers.{LinkAnswers}
 use Rattle.wiring.specs.Growing.{Grows, unneeded}
 use Rattle.node_outcomes.specs.Computing.{has_part}
 use Rattle.wiring.specs.Kept.{IsKept}
 use Rattle.node_outcomes.specs.Row.{IsRewritten, with_stage, outcome_in}
+use Rattle.height_order.specs.declared.heights.LinkFault.{LinkFault}
+use Rattle.wiring.specs.Refusing.{TellsFault}
 use Rattle.wiring.specs.Stands.{Stands, hand}
-use Rattle.wiring.specs.Wiring.{IsWoken, IsReached, Looks, Links as PutsOn, IsLevelled, IsTarget, KeepsLists, KeepsPlaces, AreUnlinked, MayRead}
+use Rattle.wiring.specs.Wiring.{IsWoken, IsReached, Looks, Links as PutsOn, IsLevelled, IsTarget, KeepsLists, AreUnlinked, MayRead}
 use Rattle.node_outcomes.specs.declared.row.Progress.{Progress}
 use Rattle.node_outcomes.specs.declared.row.Stage.TheVariants as code
 use Rattle.wiring.specs.declared.work.Work.{Work}
@@ -58,7 +61,6 @@ target_row arena old q k target = elim target.there [
 -- ---- a link was refused
 
 module _ (old new : Work) (l : IsLevelled old new) where
-
   levelled_needs : (p : Point) → Needed old.graph p → Needed new.graph p
   levelled_needs p n = needed_more old.graph new.graph (λ a r. let e = l.roots a in omega (arith, e, r)) (λ a b x. let e = l.links a b in omega (arith, e, x)) p n
 
@@ -326,13 +328,25 @@ module _ (old mid new : Work) (g : NecessaryPart) (q : Point) (newly : Bool) (lo
 -- ---- a link was put on
 
 module _ (old mid new : Work) (g : NecessaryPart) (p q : Point) (newly : Bool) (looks : Looks old mid)
+    (others : (a : Point) → a ≢ q → at mid.graph.heights a ≡ at old.graph.heights a) (points : KeepsPoints mid.graph.heights g.heights)
     (reached : IsReached mid.graph g q) (more : OneLinkMore mid.graph.links g.links p q) (roots : KeepsRoots mid.graph.roots g.roots)
-    (newly_is : IsFalse newly ↔ Needed mid.graph q)
-    (woken : IsTrue newly → IsWoken (record mid { graph = g }) new q) (same : IsFalse newly → new ≡ record mid { graph = g }) where
+    (newly_is : IsFalse newly ↔ Needed mid.graph q) (may : MayRead old p q)
+    (woken : IsTrue newly → IsWoken (record mid { graph = g }) new q) (same : IsFalse newly → new ≡ record mid { graph = g })
+    (step_is : IsInStep new.graph) where
   fresh : IsTrue newly → Needed mid.graph q → ⊥
   fresh t n = let f = newly_is.1 n in let e = t in cc
 
-  pub put_on : (arena : Arena) → IsKept arena old → IsTarget arena old q → Needed mid.graph p → PutsOn arena old new p q
+  -- what is linked was linked, or is the new link
+  links_before : (a b : Point) → Reads g.links a b → Reads old.graph.links a b ⊎ MayRead old a b
+  links_before a b r = elim (read_with mid.graph.links g.links p q more a b r) [
+    | inl before ↦ inl (omega (arith, looks.links a b, before))
+    | inr link ↦ inr (subst (λ (x : Point). MayRead old x b) (sym link.0) (subst (λ (y : Point). MayRead old p y) (sym link.1) may))
+  ]
+
+  with_link : IsGrown old new q
+  with_link = grown old mid new g q newly looks others points reached.needed reached.points links_before woken same step_is
+
+  put_on : (arena : Arena) → IsKept arena old → IsTarget arena old q → Needed mid.graph p → PutsOn arena old new p q
   put_on arena kept target need F z s counts rest due =
       let st = due.stands in
       let at_mid = looks_stands s arena old mid counts (Some (hand p (q ∷ rest))) looks st in
@@ -346,74 +360,39 @@ module _ (old mid new : Work) (g : NecessaryPart) (p q : Point) (newly : Bool) (
             (linked_stands F z s arena mid g counts p q rest at_mid reached more roots need due.depends due.confirmed (newly_is.0 f) due.unlinked)
       ]
 
-  -- roots stay
-  pub connected_roots : KeepsRoots old.graph.roots new.graph.roots
-  connected_roots a = elim (bool_cases newly) [
+  same_roots : KeepsRoots old.graph.roots new.graph.roots
+  same_roots a = elim (bool_cases newly) [
     | inl t ↦ ap (λ (r : Roots). root_times r a) (woken t).graph.roots ∙ (roots a ∙ looks.roots a)
     | inr f ↦ ap (λ (x : Work). root_times x.graph.roots a) (same f) ∙ (roots a ∙ looks.roots a)
   ]
 
-  need_part : (a : Point) → Needed old.graph a → Needed g a
-  need_part a n = (reached.needed a).1 (inl ((looks.needed a).1 n))
-
-  pub now_needed : (a : Point) → Needed old.graph a → Needed new.graph a
-  now_needed a n = elim (bool_cases newly) [
-    | inl t ↦ (same_need g new.graph (λ b. ap (λ (r : Roots). root_times r b) (woken t).graph.roots)
-        (λ b d. ap (λ (l : Links). times l b d) (woken t).graph.links) a).1 (need_part a n)
-    | inr f ↦ subst (λ (x : Work). Needed x.graph a) (sym (same f)) (need_part a n)
-  ]
-
-  pub kid_needed : Needed new.graph q
-  kid_needed = elim (bool_cases newly) [
-    | inl t ↦ (same_need g new.graph (λ b. ap (λ (r : Roots). root_times r b) (woken t).graph.roots)
-        (λ b d. ap (λ (l : Links). times l b d) (woken t).graph.links) q).1 ((reached.needed q).1 (inr refl))
-    | inr f ↦ subst (λ (x : Work). Needed x.graph q) (sym (same f)) ((reached.needed q).1 (inr refl))
-  ]
-
-  pub put_on_places : KeepsPlaces old new
-  put_on_places = record {
-    rows = λ a. elim (bool_cases newly) [
-      | inl t ↦ rewritten_there mid.rows new.rows q (with_stage code.Bare) (woken t).rows a ∙ ap is_some (looks.rows a)
-      | inr f ↦ ap (λ (x : Work). is_some (at x.rows a)) (same f) ∙ ap is_some (looks.rows a)
-    ];
-    roots = connected_roots;
-    deaths = elim (bool_cases newly) [
-      | inl t ↦ (woken t).round.deaths ∙ looks.round.deaths
-      | inr f ↦ ap (λ (x : Work). x.deaths) (same f) ∙ looks.round.deaths
-    ];
-    round = elim (bool_cases newly) [
-      | inl t ↦ (woken t).round.round ∙ looks.round.round
-      | inr f ↦ ap (λ (x : Work). x.round) (same f) ∙ looks.round.round
-    ];
-  }
-
-  pub put_on_retries : new.retries ≡ old.retries
-  put_on_retries = elim (bool_cases newly) [
+  same_retries : new.retries ≡ old.retries
+  same_retries = elim (bool_cases newly) [
     | inl t ↦ (woken t).round.retries ∙ looks.round.retries
     | inr f ↦ ap (λ (x : Work). x.retries) (same f) ∙ looks.round.retries
   ]
 
   -- rows of what was needed stay
-  pub connected_others : (a : Point) → Needed old.graph a → at new.rows a ≡ at old.rows a
-  connected_others a n = elim (bool_cases newly) [
+  needed_rows : (a : Point) → Needed old.graph a → at new.rows a ≡ at old.rows a
+  needed_rows a n = elim (bool_cases newly) [
     | inl t ↦ (woken t).rows.others a (λ e. fresh t (subst (Needed mid.graph) e ((looks.needed a).1 n))) ∙ looks.rows a
     | inr f ↦ ap (λ (x : Work). at x.rows a) (same f) ∙ looks.rows a
   ]
 
   -- a point that comes into the worklist is newly needed
-  pub put_on_grows : IsInStep old.graph → IsInStep new.graph → Grows old new
-  put_on_grows before after points covers =
-      let fewer = no_more_unneeded old.graph new.graph before after now_needed points in
-      let retries = put_on_retries in
+  grows : IsInStep old.graph → Grows old new
+  grows before points covers =
+      let fewer = no_more_unneeded old.graph new.graph before step_is with_link.needed points in
+      let retries = same_retries in
       rw retries (by newly refl fewer)
     where
       pushed : newly ≡ true → unneeded new.graph points ≤ unneeded old.graph points → HasLinks mid q
           → old.retries * (length points + 2) + (length new.todo.items + unneeded new.graph points)
           ≤ old.retries * (length points + 2) + (length old.todo.items + unneeded old.graph points)
       pushed t fewer has =
-          let less = fewer_unneeded old.graph new.graph before after now_needed points q
+          let less = fewer_unneeded old.graph new.graph before step_is with_link.needed points q
           (covers q (has_links_same mid old (λ a. sym (ap is_some (looks.rows a))) (sym looks.round.deaths) q has))
-          (λ n. fresh t ((looks.needed q).1 n)) kid_needed in
+          (λ n. fresh t ((looks.needed q).1 n)) with_link.also in
           let e = ap length looks.todo in
           let m = ap length ((woken t).pushed has) ∙ length-append mid.todo.items (q ∷ []) in
           omega (arith, m, e, less)
@@ -431,15 +410,39 @@ module _ (old mid new : Work) (g : NecessaryPart) (p q : Point) (newly : Bool) (
       ]
 
   -- the new link is on
-  pub reads_on : Reads new.graph.links p q
+  reads_on : Reads new.graph.links p q
   reads_on = elim (bool_cases newly) [
     | inl t ↦ subst (λ (l : Links). Reads l p q) (sym (woken t).graph.links) (let r = more.raised in omega (arith, r))
     | inr f ↦ subst (λ (x : Work). Reads x.graph.links p q) (sym (same f)) (let r = more.raised in omega (arith, r))
   ]
 
-  -- what is linked was linked, or is the new link
-  pub connected_links : MayRead old p q → (a b : Point) → Reads g.links a b → Reads old.graph.links a b ⊎ MayRead old a b
-  connected_links may a b r = elim (read_with mid.graph.links g.links p q more a b r) [
-    | inl before ↦ inl (omega (arith, looks.links a b, before))
-    | inr link ↦ inr (subst (λ (x : Point). MayRead old x b) (sym link.0) (subst (λ (y : Point). MayRead old p y) (sym link.1) may))
-  ]
+  pub put_on_answers : {A : Type 0} (x : A) (arena : Arena) → IsKept arena old → IsTarget arena old q → Needed old.graph p
+      → LinkAnswers arena old new p q (Ok x)
+  put_on_answers x arena kept target need = record {
+    linked = put_on arena kept target ((looks.needed p).1 need);
+    needed = (with_link.needed p need, with_link.also);
+    reads = reads_on;
+    rows = needed_rows;
+    levelled = tt;
+    why = tt;
+    retries = same_retries;
+    places = record { rows = with_link.held; roots = same_roots; deaths = with_link.deaths; round = with_link.round };
+    kept = grown_kept old new q with_link arena target kept;
+    pushed = grows kept.step;
+  }
+
+-- it wasn't
+pub levelled_answers : {A : Type 0} (e : LinkFault) (arena : Arena) (old new : Work) (p q : Point) → IsLevelled old new → IsKept arena old
+    → TellsFault new p q e → LinkAnswers {A = A} arena old new p q (Err e)
+levelled_answers e arena old new p q l kept why = record {
+  linked = tt;
+  needed = tt;
+  reads = tt;
+  rows = λ a need. l.rows a;
+  levelled = l;
+  why = why;
+  retries = l.round.retries;
+  places = record { rows = λ a. ap is_some (l.rows a); roots = l.roots; deaths = l.round.deaths; round = l.round.round };
+  kept = levelled_kept old new l arena kept;
+  pushed = tt;
+}

@@ -1,18 +1,19 @@
 -- What calls that give points their links answer, and what they leave.
-use Rattle.std.specs.Prelude.{◌≡◌, ◌<◌, Bool, true, [], Option, Some, Result, IfOk, OnOk, IfErr, IsTrue, IsFalse}
+use Rattle.std.specs.Prelude.{◌≡◌, ◌<◌, Bool, true, [], Option, Some, Result, IfOk, OnOk, IfErr, OnErr, IsTrue, IsFalse}
 use Rattle.inc_value.specs.declared.node.NodeId.{NodeId}
 use Rattle.inc_value.specs.declared.node.Point.{Point}
 use Rattle.inc_terms.specs.Depend.{change}
 use Rattle.link_table.specs.Links.{Reads}
 use Rattle.point_map.specs.Rows.{at}
+use Rattle.height_order.specs.declared.heights.LinkFault.{LinkFault}
 use Rattle.necessary_graph.specs.Part.{Needed}
 use Rattle.node_arena.specs.Arena.{Arena}
 use Rattle.node_outcomes.specs.Row.{settled_in}
 use Rattle.wiring.specs.Growing.{Grows}
 use Rattle.wiring.specs.Kept.{IsKept}
-use Rattle.wiring.specs.Refusing.{IsBarred}
+use Rattle.wiring.specs.Refusing.{IsBarred, TellsFault}
 use Rattle.wiring.specs.Stands.{Hand, hand}
-use Rattle.wiring.specs.Wiring.{Connects, LosesNeed, ConnectRefused, Wires, WiresTaken, WireRefused, StaysInHand, LacksLinks, GateRan, KeepsPlaces}
+use Rattle.wiring.specs.Wiring.{Links, IsLevelled, Connects, LosesNeed, ConnectRefused, Wires, WiresTaken, WireRefused, StaysInHand, LacksLinks, GateRan, KeepsPlaces}
 use Rattle.wiring.specs.declared.refused.Refused.{Refused}
 use Rattle.wiring.specs.declared.work.Work.{Work}
 
@@ -66,6 +67,19 @@ pub record ConnectAnswers (arena : Arena) (old new : Work) (p q : Point) (result
   pub refused : IfErr result (ConnectRefused arena old new p q)
   pub barred : new.retries < old.retries → IsBarred old p q
   pub row : IfOk result (λ on. IsTrue on → at new.rows p ≡ at old.rows p)
+  pub places : KeepsPlaces old new
+  pub kept : IsKept arena new
+  pub pushed : OnOk result (Grows old new)
+
+-- a link was put on at once, or only heights may be others than before, and the fault tells why
+pub record LinkAnswers {A : Type 0} (arena : Arena) (old new : Work) (p q : Point) (result : Result A LinkFault) : Type 0 where
+  pub linked : OnOk result (Links arena old new p q)
+  pub needed : OnOk result (Needed new.graph p × Needed new.graph q)
+  pub reads : OnOk result (Reads new.graph.links p q)
+  pub rows : (a : Point) → Needed old.graph a → at new.rows a ≡ at old.rows a
+  pub levelled : OnErr result (IsLevelled old new)
+  pub why : IfErr result (TellsFault new p q)
+  pub retries : new.retries ≡ old.retries
   pub places : KeepsPlaces old new
   pub kept : IsKept arena new
   pub pushed : OnOk result (Grows old new)

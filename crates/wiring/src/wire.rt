@@ -4,7 +4,7 @@ ghost use Rattle.std.specs.Prelude.{IfOk, IfErr, OnOk, OnErr};
 ghost use Rattle.inc_value.specs.Choice.{Among};
 ghost use Rattle.inc_value.specs.declared.node.NodeId.{NodeId as ANode};
 ghost use Rattle.inc_value.specs.declared.node.Part.TheVariants.{Main};
-ghost use Rattle.inc_value.specs.declared.node.Point.{Point, Point as APoint};
+ghost use Rattle.inc_value.specs.declared.node.Point.{Point};
 ghost use Rattle.inc_terms.specs.Code.{def_of};
 ghost use Rattle.inc_terms.specs.Depend.{change, main, subject_of};
 ghost use Rattle.inc_terms.specs.Graph.{Row as ARow, kids as kids_of_def};
@@ -14,17 +14,15 @@ ghost use Rattle.point_map.specs.Rows.{at, Holds, KeepsRows};
 ghost use Rattle.necessary_graph.specs.Part.{Needed, IsInStep};
 ghost use Rattle.node_arena.specs.Arena.{row_at};
 ghost use Rattle.node_outcomes.specs.Row.{stage_in, settled_in};
-ghost use Rattle.link_table.specs.Links.{Reads};
-ghost use Rattle.wiring.specs.Answers.{WireAnswers, TakenAnswers, GateAnswers, AsksGate, ConnectAnswers};
-ghost use Rattle.wiring.specs.Growing.{Grows};
+ghost use Rattle.wiring.specs.Answers.{WireAnswers, TakenAnswers, GateAnswers, AsksGate, ConnectAnswers, LinkAnswers};
 ghost use Rattle.wiring.specs.Kept.{IsKept};
-ghost use Rattle.wiring.specs.Refusing.{IsWhy, TellsFault};
+ghost use Rattle.wiring.specs.Refusing.{IsWhy};
 ghost use Rattle.wiring.specs.Rooting.{PutsRootOn};
 ghost use Rattle.wiring.specs.Stands.{hand};
 ghost use Rattle.wiring.specs.TakingOff.{TakesSome, TakesMore};
 ghost use Rattle.wiring.specs.Turning.{IsWaiting};
 ghost use Rattle.wiring.specs.Wiring.{GateRan, LacksLinks, MayRead};
-ghost use Rattle.wiring.specs.Wiring.{Links, Wires, WireRefused, IsWoken, Looks, IsSpared, IsTarget};
+ghost use Rattle.wiring.specs.Wiring.{Wires, WireRefused, IsWoken, Looks, IsSpared, IsTarget};
 ghost use Rattle.wiring.specs.Wiring.{PutsRoots, RootRefused, KeepsPlaces, IsLevelled, Attaches, AttachRefused};
 
 use crate::refused::Refused;
@@ -371,16 +369,7 @@ impl Work {
         requires reader { MayRead self.old p q }
         requires target { IsTarget arena.now self.old q }
         requires kept { IsKept arena.now self.old }
-        ensures linked { OnOk result (Links arena.now self.old self.new p q) }
-        ensures needed { OnOk result (Needed self.new.graph p × Needed self.new.graph q) }
-        ensures reads { OnOk result (Reads self.new.graph.links p q) }
-        ensures rows { (a : APoint) → Needed self.old.graph a → at self.new.rows a ≡ at self.old.rows a }
-        ensures levelled { OnErr result (IsLevelled self.old self.new) }
-        ensures why { IfErr result (TellsFault self.new p q) }
-        ensures kept { IsKept arena.now self.new }
-        ensures places { KeepsPlaces self.old self.new }
-        ensures retries { self.new.retries ≡ self.old.retries }
-        ensures pushed { OnOk result (Grows self.old self.new) }
+        ensures { LinkAnswers arena.now self.old self.new p q result }
     {
         let _ = arena;
         let opened = match self.make_room(q) {
@@ -414,7 +403,11 @@ impl Work {
         ensures step { IsInStep self.new.graph }
     {
         self.todo.reserve(1)?;
-        self.open(p)
+        if self.graph.is_there(p) {
+            return Ok(false);
+        }
+        self.graph.add(p, 0)?;
+        Ok(true)
     }
 
     /// A needed point that wasn't needed before is to have its links and to be recomputed.

@@ -1,6 +1,6 @@
 //! What a stabilize works on beside the nodes: who is needed, how far each point has come, and what is to be done.
-ghost use Rattle.std.specs.Prelude.{◌≡◌, ◌≢◌, ◌⊎◌, ◌↔◌, ◌<◌, ◌≤◌, ℕ, [], None, Some, IsTrue, IsFalse};
-ghost use Rattle.std.specs.Prelude.{IfOk, OnOk, OnErr, vec_len, vec_capacity};
+ghost use Rattle.std.specs.Prelude.{◌≡◌, ◌⊎◌, ◌↔◌, ◌<◌, ◌≤◌, ℕ, [], None, Some, IsTrue, IsFalse};
+ghost use Rattle.std.specs.Prelude.{OnOk, OnErr, vec_len, vec_capacity};
 ghost use Rattle.inc_value.specs.Choice.{Among};
 ghost use Rattle.inc_value.specs.declared.node.NodeId.{NodeId as ANode};
 ghost use Rattle.inc_value.specs.declared.node.Part.{Part};
@@ -21,7 +21,7 @@ ghost use Rattle.wiring.specs.Kept.{IsKept};
 ghost use Rattle.wiring.specs.Places.{ChangesNode, for_parts, pairs_with};
 ghost use Rattle.wiring.specs.TakingOff.{LosesLinks, TakesMore};
 ghost use Rattle.wiring.specs.Turning.{IsAttached, IsWaiting, IsLoosened, HasTurned};
-ghost use Rattle.wiring.specs.Wiring.{KeepsGraph, KeepsRound, IsEnqueued, AreEnqueued, IsTold, IsWoken, Looks};
+ghost use Rattle.wiring.specs.Wiring.{KeepsGraph, KeepsRound, IsEnqueued, AreEnqueued, IsTold, IsWoken};
 ghost use Rattle.wiring.specs.Wiring.{IsMarked, OnlyLoses, IsSpared, IsBehindGate, TakesOne, IsConfirmedAt};
 ghost use Rattle.wiring.specs.Graph.{rowless, died_at};
 ghost use Rattle.wiring.specs.Scoped.{IsReleased};
@@ -481,30 +481,6 @@ impl Work {
         } else if self.deaths.holds(p.node) {
             self.todo.push_reserved(p);
         }
-    }
-
-    /// Adds a point of a dead node, unless the point is there, and answers whether it did.
-    pub fn open(&mut self, p: Point) -> Result<bool, AllocError>
-        requires step { IsInStep self.old.graph }
-        ensures there { OnOk result (Holds self.new.graph.heights p) }
-        ensures opened { IfOk result (λ opened. IsTrue opened ↔ (at self.old.graph.heights p ≡ None)) }
-        ensures added { IfOk result (λ opened. IsTrue opened
-            → Changes self.old.graph.heights self.new.graph.heights p (Some 0)) }
-        ensures kept { IfOk result (λ opened. IsFalse opened → self.new ≡ self.old) }
-        ensures looks { Looks self.old self.new }
-        ensures links { self.new.graph.links ≡ self.old.graph.links }
-        ensures roots { self.new.graph.roots ≡ self.old.graph.roots }
-        ensures heap { KeepsRows self.old.graph.heap self.new.graph.heap }
-        ensures others { (q : Point) → q ≢ p → at self.new.graph.heights q ≡ at self.old.graph.heights q }
-        ensures err { OnErr result (KeepsRows self.old.graph.heights self.new.graph.heights) }
-        ensures step { IsInStep self.new.graph }
-        ensures rest { self.new ≡ record self.old { graph = self.new.graph } }
-    {
-        if self.graph.is_there(p) {
-            return Ok(false);
-        }
-        self.graph.add(p, 0)?;
-        Ok(true)
     }
 
     /// Drops the point again, if it was added.
