@@ -48,6 +48,15 @@ pub record KeepsLists (old new : Work) : Type 0 where
   pub pairs : new.pairs ≡ old.pairs
   pub scoped : new.scoped ≡ old.scoped
 
+-- points come or go: links, roots, the heap, the worklist and what belongs to the round stay
+pub record GraphStays (old new : Work) : Type 0 where
+  pub links : new.graph.links ≡ old.graph.links
+  pub roots : new.graph.roots ≡ old.graph.roots
+  pub heap : KeepsRows old.graph.heap new.graph.heap
+  pub step : IsInStep new.graph
+  pub todo : new.todo ≡ old.todo
+  pub round : KeepsRound old new
+
 -- links, roots and heights stay
 pub record KeepsGraph (old new : NecessaryPart) : Type 0 where
   pub links : new.links ≡ old.links

@@ -20,7 +20,7 @@ ghost use Rattle.wiring.specs.Kept.{IsKept};
 ghost use Rattle.wiring.specs.Places.{ChangesNode, for_parts, pairs_with};
 ghost use Rattle.wiring.specs.Scoped.{HasLoosened, IsBuried, IsPointBuried, AreTold, IsReleased};
 ghost use Rattle.wiring.specs.TakingOff.{LosesLinks};
-ghost use Rattle.wiring.specs.Wiring.{KeepsGraph, KeepsRound, TakesOne, IsBehindGate, IsAtGate, GoesBack, IsPutBack, WaitsFor};
+ghost use Rattle.wiring.specs.Wiring.{GraphStays, KeepsGraph, TakesOne, IsBehindGate, IsAtGate, GoesBack, IsPutBack, WaitsFor};
 
 use crate::settled::{Rowless, Untold};
 use crate::work::Work;
@@ -64,12 +64,7 @@ impl Work {
             → Among n self.new.pairs.nodes) }
         ensures err_fewer_pairs { OnErr result ((n : ANode) → Among n self.new.pairs.nodes → Among n self.old.pairs.nodes) }
         ensures err_fewer_scoped { OnErr result ((n : ANode) → Among n self.new.scoped.nodes → Among n self.old.scoped.nodes) }
-        ensures links { self.new.graph.links ≡ self.old.graph.links }
-        ensures roots { self.new.graph.roots ≡ self.old.graph.roots }
-        ensures heap { KeepsRows self.old.graph.heap self.new.graph.heap }
-        ensures step { IsInStep self.new.graph }
-        ensures todo { self.new.todo ≡ self.old.todo }
-        ensures round { KeepsRound self.old self.new }
+        ensures stays { GraphStays self.old self.new }
     {
         self.scoped.reserve(arena)?;
         self.add_node(arena, node, def, Some(bind))?;

@@ -21,7 +21,7 @@ ghost use Rattle.wiring.specs.Kept.{IsKept};
 ghost use Rattle.wiring.specs.Places.{ChangesNode, for_parts, pairs_with};
 ghost use Rattle.wiring.specs.TakingOff.{LosesLinks, TakesMore};
 ghost use Rattle.wiring.specs.Turning.{IsAttached, IsWaiting, IsLoosened, HasTurned};
-ghost use Rattle.wiring.specs.Wiring.{KeepsGraph, KeepsRound, IsEnqueued, AreEnqueued, IsTold, IsWoken};
+ghost use Rattle.wiring.specs.Wiring.{GraphStays, KeepsGraph, KeepsRound, IsEnqueued, AreEnqueued, IsTold, IsWoken};
 ghost use Rattle.wiring.specs.Wiring.{IsMarked, OnlyLoses, IsSpared, IsBehindGate, TakesOne, IsConfirmedAt};
 ghost use Rattle.wiring.specs.Graph.{rowless, died_at};
 ghost use Rattle.wiring.specs.Scoped.{IsReleased};
@@ -138,15 +138,8 @@ impl Work {
         ensures added { OnOk result (Changes self.old.graph.heights self.new.graph.heights p (Some height)) }
         ensures err { OnErr result (KeepsRows self.old.rows self.new.rows) }
         ensures err_heights { OnErr result (KeepsRows self.old.graph.heights self.new.graph.heights) }
-        ensures links { self.new.graph.links ≡ self.old.graph.links }
-        ensures roots { self.new.graph.roots ≡ self.old.graph.roots }
-        ensures heap { KeepsRows self.old.graph.heap self.new.graph.heap }
-        ensures step { IsInStep self.new.graph }
+        ensures stays { GraphStays self.old self.new }
         ensures rest { self.new ≡ record self.old { graph = self.new.graph; rows = self.new.rows } }
-        ensures pairs { self.new.pairs ≡ self.old.pairs }
-        ensures scoped { self.new.scoped ≡ self.old.scoped }
-        ensures todo { self.new.todo ≡ self.old.todo }
-        ensures round { KeepsRound self.old self.new }
     {
         self.rows.reserve(1)?;
         self.graph.add(p, height)?;
@@ -177,13 +170,8 @@ impl Work {
         ensures err_pairs { OnErr result ((n : ANode) → IsLive arena.now n → Among n self.old.pairs.nodes
             → Among n self.new.pairs.nodes) }
         ensures err_fewer_pairs { OnErr result ((n : ANode) → Among n self.new.pairs.nodes → Among n self.old.pairs.nodes) }
-        ensures links { self.new.graph.links ≡ self.old.graph.links }
-        ensures roots { self.new.graph.roots ≡ self.old.graph.roots }
-        ensures heap { KeepsRows self.old.graph.heap self.new.graph.heap }
-        ensures step { IsInStep self.new.graph }
+        ensures stays { GraphStays self.old self.new }
         ensures scoped { self.new.scoped ≡ self.old.scoped }
-        ensures todo { self.new.todo ≡ self.old.todo }
-        ensures round { KeepsRound self.old self.new }
     {
         let floor = floor_of(&self.graph, scope);
         match def.subject() {
@@ -215,13 +203,8 @@ impl Work {
         ensures err_pairs { OnErr result ((n : ANode) → IsLive arena.now n → Among n self.old.pairs.nodes
             → Among n self.new.pairs.nodes) }
         ensures err_fewer_pairs { OnErr result ((n : ANode) → Among n self.new.pairs.nodes → Among n self.old.pairs.nodes) }
-        ensures links { self.new.graph.links ≡ self.old.graph.links }
-        ensures roots { self.new.graph.roots ≡ self.old.graph.roots }
-        ensures heap { KeepsRows self.old.graph.heap self.new.graph.heap }
-        ensures step { IsInStep self.new.graph }
+        ensures stays { GraphStays self.old self.new }
         ensures scoped { self.new.scoped ≡ self.old.scoped }
-        ensures todo { self.new.todo ≡ self.old.todo }
-        ensures round { KeepsRound self.old self.new }
     {
         self.pairs.reserve(arena)?;
         self.add(change_point(node), height)?;
@@ -245,13 +228,9 @@ impl Work {
         requires no_change { at self.old.rows (change node) ≡ None → at self.old.graph.heights (change node) ≡ None }
         ensures rows { ChangesNode self.old.rows self.new.rows node (λ part. None) }
         ensures dropped { ChangesNode self.old.graph.heights self.new.graph.heights node (λ part. None) }
-        ensures links { self.new.graph.links ≡ self.old.graph.links }
-        ensures roots { self.new.graph.roots ≡ self.old.graph.roots }
+        ensures stays { GraphStays self.old self.new }
         ensures heap { self.new.graph.heap ≡ self.old.graph.heap }
-        ensures step { IsInStep self.new.graph }
         ensures rest { self.new ≡ record self.old { graph = self.new.graph; rows = self.new.rows } }
-        ensures todo { self.new.todo ≡ self.old.todo }
-        ensures round { KeepsRound self.old self.new }
     {
         self.drop_point(main_point(node));
         let own = change_point(node);
@@ -267,15 +246,9 @@ impl Work {
         requires unneeded { Needed self.old.graph p → ⊥ }
         ensures row { Changes self.old.rows self.new.rows p None }
         ensures dropped { Changes self.old.graph.heights self.new.graph.heights p None }
-        ensures links { self.new.graph.links ≡ self.old.graph.links }
-        ensures roots { self.new.graph.roots ≡ self.old.graph.roots }
+        ensures stays { GraphStays self.old self.new }
         ensures heap { self.new.graph.heap ≡ self.old.graph.heap }
-        ensures step { IsInStep self.new.graph }
         ensures rest { self.new ≡ record self.old { graph = self.new.graph; rows = self.new.rows } }
-        ensures pairs { self.new.pairs ≡ self.old.pairs }
-        ensures scoped { self.new.scoped ≡ self.old.scoped }
-        ensures todo { self.new.todo ≡ self.old.todo }
-        ensures round { KeepsRound self.old self.new }
     {
         self.graph.drop_point(p);
         drop(self.rows.remove(p));

@@ -33,14 +33,14 @@ returns c =
       lives = a.live;
       given = a.given;
       rows = d.rows;
-      links = d.links;
-      roots = d.roots;
+      links = d.stays.links;
+      roots = d.stays.roots;
       heap = d.heap;
       right_sides = rights c;
       scopes = refl;
       ran = refl;
       kept = dropped_parts (old c) (new c) c.args.id c.requires.kept c.requires.unneeded c.requires.unscoped a.dropped a.given d.rows d.dropped
-          (rights c) d.links d.roots d.heap d.step a.sound (rest c) refl refl;
+          (rights c) d.stays.links d.stays.roots d.heap d.stays.step a.sound (rest c) refl refl;
       ready = dropped_ready (old c) (new c) c.args.id c.requires.kept c.requires.unneeded c.requires.unscoped a.dropped a.given d.rows d.dropped
-          (rights c) d.links d.roots d.heap d.step a.sound (rest c) refl refl;
+          (rights c) d.stays.links d.stays.roots d.heap d.stays.step a.sound (rest c) refl refl;
     }

@@ -31,11 +31,11 @@ module _ (c : goal.After-drop) where
   same = record {
     rows = c.in-Err.ensures.err;
     points = c.in-Err.ensures.err_heights;
-    links = c.in-Err.ensures.links;
-    roots = c.in-Err.ensures.roots;
-    heap = c.in-Err.ensures.heap;
-    todo = same_todo old.work new.work c.in-Err.ensures.todo;
-    round = c.in-Err.ensures.round;
+    links = c.add_node-added.ensures.stays.links;
+    roots = c.add_node-added.ensures.stays.roots;
+    heap = c.add_node-added.ensures.stays.heap;
+    todo = same_todo old.work new.work c.add_node-added.ensures.stays.todo;
+    round = c.add_node-added.ensures.stays.round;
   }
 
   scoped : (n : NodeId) → IsLive old.arena n → Among n old.work.scoped.nodes → Among n new.work.scoped.nodes
@@ -46,8 +46,8 @@ returns-in-Err-clause-left c = record {
   arena = refl;
   work = same c;
   ran = refl;
-  kept = back_parts (old c) (new c) c.requires.kept (same c) c.add_node-added.ensures.step c.in-Err.ensures.err_pairs (scoped c) refl;
-  ready = back_ready (old c) (new c) c.requires.kept (same c) c.add_node-added.ensures.step c.in-Err.ensures.err_pairs (scoped c) refl;
+  kept = back_parts (old c) (new c) c.requires.kept (same c) c.add_node-added.ensures.stays.step c.in-Err.ensures.err_pairs (scoped c) refl;
+  ready = back_ready (old c) (new c) c.requires.kept (same c) c.add_node-added.ensures.stays.step c.in-Err.ensures.err_pairs (scoped c) refl;
 }
 
 -- ---- its points were added
@@ -76,15 +76,15 @@ returns-in-Ok-insert-clause-placed c =
       cutoffs = added_cutoffs (before c).work (after c).work c.args.id (def_of c.args.def)
           (no_row (before c).arena (before c).work c.args.id c.requires.kept.work c.requires.next (main c.args.id) refl) a.rows;
       equal = ap cutoff_in (a.rows.now Main);
-      links = a.links;
-      roots = a.roots;
-      heap = a.heap;
-      right_sides = a.round.roots;
+      links = a.stays.links;
+      roots = a.stays.roots;
+      heap = a.stays.heap;
+      right_sides = a.stays.round.roots;
       ran = refl;
       kept = added_parts (before c) (after c) c.args.id _ a.added.0 c.requires.kept c.requires.next i.added refl i.sound i.given a.rows a.added.1
-          a.pairs a.scoped a.links a.roots a.heap c.add_node-added.ensures.step a.round (same_todo (before c).work (after c).work a.todo) refl refl;
+          a.pairs a.scoped a.stays.links a.stays.roots a.stays.heap a.stays.step a.stays.round (same_todo (before c).work (after c).work a.stays.todo) refl refl;
       ready = added_ready (before c) (after c) c.args.id _ a.added.0 c.requires.kept c.requires.next i.added refl i.sound i.given a.rows a.added.1
-          a.pairs a.scoped a.links a.roots a.heap c.add_node-added.ensures.step a.round (same_todo (before c).work (after c).work a.todo) refl refl;
+          a.pairs a.scoped a.stays.links a.stays.roots a.stays.heap a.stays.step a.stays.round (same_todo (before c).work (after c).work a.stays.todo) refl refl;
     }
 
 -- ---- no memory for the node: its points are dropped again
@@ -108,8 +108,9 @@ module _ (c : goal.After-forget_since) where
   dropped : KeepsWork start.work gone
   dropped = let a = c.in-Ok.ensures in let d = c.drop_node.ensures in
       dropped_again start.arena start.work mid c.args.id (for_parts (def_of c.args.def) (λ part. unsettled))
-      (for_parts (def_of c.args.def) a.added.0) c.requires.kept.work c.requires.next a.rows a.added.1 a.links a.roots a.heap a.round
-      (same_todo start.work mid a.todo) gone d.rows d.dropped d.links d.roots d.heap d.round (same_todo mid gone d.todo)
+      (for_parts (def_of c.args.def) a.added.0) c.requires.kept.work c.requires.next a.rows a.added.1 a.stays.links a.stays.roots a.stays.heap
+      a.stays.round (same_todo start.work mid a.stays.todo) gone d.rows d.dropped d.stays.links d.stays.roots d.heap d.stays.round
+      (same_todo mid gone d.stays.todo)
 
   forgotten : KeepsWork start.work last
   forgotten = subst (KeepsWork start.work) (sym c.forget_since.ensures.rest) (record {
@@ -150,7 +151,7 @@ module _ (c : goal.After-forget_since) where
       (subst (λ (w : Work). Among n w.scoped.nodes) (sym c.drop_node.ensures.rest) at_mid)
 
   step : IsInStep last.graph
-  step = subst (λ (w : Work). IsInStep w.graph) (sym c.forget_since.ensures.rest) c.drop_node.ensures.step
+  step = subst (λ (w : Work). IsInStep w.graph) (sym c.forget_since.ensures.rest) c.drop_node.ensures.stays.step
 
   rest : end ≡ record start { work = last }
   rest = ap (λ (a : Arena). record start { arena = a; work = last }) arena_is

@@ -4,7 +4,7 @@ use Rattle.inc_value.specs.Choice.{Among}
 use Rattle.inc_value.specs.declared.node.Point.{Point}
 use Rattle.inc_terms.specs.Code.{def_of}
 use Rattle.point_map.specs.Rows.{Changes}
-use Rattle.node_lists.specs.Listed.{Listed}
+use Rattle.wiring.specs.declared.work.Work.{Work}
 use Rattle.wiring.proofs.Placing.{one_point, two_points, listed_pair, listed_alone}
 use Rattle.wiring.proofs.work.Work.add_node.Goals as goal
 
@@ -26,7 +26,7 @@ returns-in-Some-clause-added c = on_ok_weaker c.add_pair.result (λ added. (
 
 pub returns-in-None-clause-pairs : goal.returns-in-None-clause-pairs
 returns-in-None-clause-pairs c = on_ok_weaker c.add.result (λ added n who among.
-    subst (λ (l : Listed). Among n l.nodes) (sym c.add.ensures.pairs)
+    subst (λ (w : Work). Among n w.pairs.nodes) (sym c.add.ensures.rest)
     (listed_alone _ c.args.self.now.pairs.nodes c.args.node n (sym c.subject.ensures ∙ c.in-None.is) among)) c.add.ensures.added
 
 pub returns-in-Some-clause-pairs : goal.returns-in-Some-clause-pairs

@@ -8,6 +8,7 @@ use Rattle.point_map.specs.Rows.{Changes}
 use Rattle.link_table.proofs.Lists.{on_err}
 use Rattle.necessary_graph.specs.Part.{Needed}
 use Rattle.node_lists.specs.Listed.{Listed}
+use Rattle.wiring.specs.declared.work.Work.{Work}
 use Rattle.wiring.proofs.Deciding.{need_same}
 use Rattle.wiring.proofs.Placing.{unsettled, by_part, both_points, both_rows, on_and_off, among_before, among_last}
 use Rattle.wiring.proofs.work.Work.add_pair.Goals as goal
@@ -16,8 +17,8 @@ use Rattle.wiring.proofs.work.Work.add_pair.Goals as goal
 pub drop_point-requires-clause-unneeded : goal.drop_point-requires-clause-unneeded
 drop_point-requires-clause-unneeded c need =
     let was : Needed c.args.self.now.graph (change c.args.node) =
-    need_same c.add-2.new.self.graph c.args.self.now.graph (sym (c.in-Err.ensures.links ∙ c.in_ok-add.ensures.links))
-    (sym (c.in-Err.ensures.roots ∙ c.in_ok-add.ensures.roots)) (change c.args.node)
+    need_same c.add-2.new.self.graph c.args.self.now.graph (sym (c.add-2.ensures.stays.links ∙ c.add.ensures.stays.links))
+    (sym (c.add-2.ensures.stays.roots ∙ c.add.ensures.stays.roots)) (change c.args.node)
     (subst (λ (p : Point). Needed c.add-2.new.self.graph p) c.change_point-in-Err.ensures need) in
     absurd (let there = sym (c.requires.step.there (change c.args.node) was) ∙ ap is_some c.requires.no_change.0 in cc)
 
@@ -46,7 +47,7 @@ pub returns-in-Ok-clause-pairs : goal.returns-in-Ok-clause-pairs
 returns-in-Ok-clause-pairs c =
     let node = c.args.node in
     let before = c.reserve.new.self.nodes in
-    let same = ap (λ l. l.nodes) (c.add-2.ensures.pairs ∙ c.add.ensures.pairs) in
+    let same = ap (λ (w : Work). w.pairs.nodes) c.add-2.ensures.rest ∙ ap (λ (w : Work). w.pairs.nodes) c.add.ensures.rest in
     let nodes : c.add-in-Ok.new.self.nodes ≡ before ++ node ∷ [] =
     c.add-in-Ok.ensures.nodes ∙ ap (λ (ns : List NodeId). ns ++ node ∷ []) same in (
       subst (λ (ns : List NodeId). Among node ns) (sym nodes) (among_last node before),
@@ -66,9 +67,10 @@ returns-in-Ok-clause-rows c =
 
 pub returns-in_err-add-clause-err_fewer_pairs : goal.returns-in_err-add-clause-err_fewer_pairs
 returns-in_err-add-clause-err_fewer_pairs c = on_err c.from_residual-in_err-add.result (λ n listed.
-    c.reserve.ensures.fewer n (subst (λ (l : Listed). Among n l.nodes) c.add.ensures.pairs listed))
+    c.reserve.ensures.fewer n (subst (λ (w : Work). Among n w.pairs.nodes) c.add.ensures.rest listed))
 
 pub returns-in-Err-clause-err_fewer_pairs : goal.returns-in-Err-clause-err_fewer_pairs
 returns-in-Err-clause-err_fewer_pairs c n listed =
-    let same = c.drop_point.ensures.pairs ∙ (c.add-2.ensures.pairs ∙ c.add.ensures.pairs) in
+    let pairs : Work → Listed = λ w. w.pairs in
+    let same = ap pairs c.drop_point.ensures.rest ∙ (ap pairs c.add-2.ensures.rest ∙ ap pairs c.add.ensures.rest) in
     c.reserve.ensures.fewer n (subst (λ (l : Listed). Among n l.nodes) same listed)
