@@ -3,7 +3,7 @@ use Rattle.std.proofs.Common.{◌≡◌, ◌⊎◌, inl, inr, ◌<◌, ◌++◌,
 use Rattle.inc_value.specs.declared.node.Point.{Point}
 use Rattle.inc_value.specs.Choice.{here, Among, Reaches}
 use Rattle.inc_terms.specs.Term.{Functions}
-use Rattle.necessary_graph.specs.Part.{NecessaryPart, Needed}
+use Rattle.necessary_graph.specs.Part.{Needed}
 use Rattle.node_arena.specs.Arena.{Arena}
 use Rattle.stabilize_round.specs.Invariant.{Invariant}
 use Rattle.stabilize_round.specs.State.{State, Start}
@@ -14,12 +14,12 @@ use Rattle.stabilize_round.proofs.Steps.{wired_moves}
 use Rattle.wiring.specs.Growing.{left_to_wire, Grows}
 use Rattle.wiring.specs.Kept.{IsKept}
 use Rattle.wiring.specs.Stands.{Stands, hand, Counts}
-use Rattle.wiring.specs.Wiring.{KeepsRound, KeepsLists, Looks, Wires, WiresTaken, WireRefused, KeepsPlaces, AreUnlinked}
+use Rattle.wiring.specs.Wiring.{Looks, Wires, WiresTaken, WireRefused, KeepsPlaces, AreUnlinked}
 use Rattle.wiring.specs.declared.refused.Refused.{Refused}
 use Rattle.wiring.specs.declared.work.Work.{Work}
 use Rattle.wiring.proofs.Growing.{link_points, links_are_listed}
 use Rattle.wiring.proofs.TakingAll.{places_then}
-use Rattle.wiring.proofs.Holding.{has_links_same, links_same}
+use Rattle.wiring.proofs.Holding.{beside_kept, has_links_same}
 use Rattle.wiring.proofs.Raising.{nothing, wired_then, wired_after, leaves_hand}
 use Rattle.wiring.proofs.Unlinked.{held_unlinked}
 use Rattle.wiring.proofs.Wiring.{taken_stands, looks_stands}
@@ -38,88 +38,14 @@ unneeded_leaves F z s arena work counts p on unlinked unneeded = leaves_hand F z
 
 -- ---- a point is taken off the worklist's end
 
-pub record IsPopped (old new : Work) (p : Point) : Type 0 where
-  pub graph : new.graph ≡ old.graph
-  pub rows : new.rows ≡ old.rows
-  pub lists : KeepsLists old new
-  pub round : KeepsRound old new
-  pub items : old.todo.items ≡ new.todo.items ++ p ∷ []
-
-pub popped_of : (work : Work) (todo : Vec Point Global) (p : Point) → work.todo.items ≡ todo.items ++ p ∷ [] → IsPopped work (record work { todo = todo }) p
-popped_of work todo p items = record {
-  graph = refl;
-  rows = refl;
-  lists = record { pairs = refl; scoped = refl };
-  round = record { roots = refl; deaths = refl; ran = refl; retries = refl; round = refl };
-  items = items;
-}
-
 among_last : (xs : List Point) (p a : Point) → Among a (xs ++ p ∷ []) → Among a xs ⊎ (a ≡ p)
 among_last [] p a (inl e) = inr e
 among_last [] p a (inr h) = absurd h
 among_last (x ∷ xs) p a (inl e) = inl (inl e)
 among_last (x ∷ xs) p a (inr h) = elim (among_last xs p a h) [ inl k ↦ inl (inr k) | inr e ↦ inr e ]
 
--- what is kept doesn't speak of the worklist
 pub todo_kept : (arena : Arena) (work : Work) (todo : Vec Point Global) → IsKept arena work → IsKept arena (record work { todo = todo })
-todo_kept arena work todo k = record {
-  step = k.step;
-  rows = k.rows;
-  leaves = k.leaves;
-  there = k.there;
-  given = k.given;
-  links = λ a b l. links_same work (record work { todo = todo }) (λ x. refl) refl a b (k.links a b l);
-  heap = k.heap;
-  dead = k.dead;
-  sound = k.sound;
-  scopes = k.scopes;
-  older = k.older;
-  outcomes = k.outcomes;
-  rights = k.rights;
-  roots = k.roots;
-  binds = k.binds;
-  calls = k.calls;
-  rounds = k.rounds;
-  pairs = k.pairs;
-  scoped = k.scoped;
-}
-
-module _ (arena : Arena) (old new : Work) (p : Point) (popped : IsPopped old new p) where
-  popped_stands : (s : State) (counts : Counts) → Stands arena old counts None s → Stands arena new counts (Some (hand p [])) s
-  popped_stands s counts on = taken_stands s arena old new counts p on popped.graph popped.rows popped.round
-      (λ a h. among_last new.todo.items p a (subst (λ (xs : List Point). Among a xs) popped.items h))
-
-  pub popped_kept : IsKept arena old → IsKept arena new
-  popped_kept k = record {
-    step = rw popped.graph k.step;
-    rows = rw popped.rows k.rows;
-    leaves = rw (popped.graph, popped.rows) k.leaves;
-    there = rw (popped.graph, popped.rows) k.there;
-    given = rw popped.graph k.given;
-    links = λ a b l. links_same old new (λ x. rw popped.rows refl) popped.round.deaths a b (k.links a b (rw popped.graph at l));
-    heap = rw (popped.graph, popped.rows) k.heap;
-    dead = rw popped.round.deaths k.dead;
-    sound = k.sound;
-    scopes = k.scopes;
-    older = k.older;
-    outcomes = rw popped.rows k.outcomes;
-    rights = rw (popped.rows, popped.round.roots) k.rights;
-    roots = rw (popped.rows, popped.round.roots) k.roots;
-    binds = rw popped.round.roots k.binds;
-    calls = rw popped.rows k.calls;
-    rounds = rw (popped.rows, popped.round.round) k.rounds;
-    pairs = rw popped.lists.pairs k.pairs;
-    scoped = rw popped.lists.scoped k.scoped;
-  }
-
-  popped_places : KeepsPlaces old new
-  popped_places = record { rows = λ a. rw popped.rows refl; roots = λ a. rw popped.graph refl; deaths = popped.round.deaths; round = popped.round.round }
-
-  -- the worklist is shorter, whoever of these isn't needed
-  popped_shorter : (points : List Point) → left_to_wire new points < left_to_wire old points
-  popped_shorter points =
-      let long = ap length popped.items in let parts = length-append new.todo.items (p ∷ []) in
-      rw (popped.graph, popped.round.retries) (omega (arith, long, parts))
+todo_kept arena work todo k = beside_kept arena work todo work.retries k
 
 -- ---- what holds while points of the worklist get their links
 
@@ -136,25 +62,37 @@ wiring_first arena work kept = record {
   kept = kept;
 }
 
-module _ (arena : Arena) (old mid popped : Work) (p : Point) (so : IsWiring arena old mid) (pop : IsPopped mid popped p) where
+-- a point was taken from it
+module _ (arena : Arena) (old mid : Work) (todo : Vec Point Global) (p : Point) (so : IsWiring arena old mid)
+    (items : mid.todo.items ≡ todo.items ++ p ∷ []) where
+  abbrev popped : Work
+  popped = record mid { todo = todo }
+
   so_far : (F : Functions) (z : Start) (s : State) (counts : Counts) → Invariant F z s → Stands arena old counts None s → AreUnlinked None s
       → (t : State) × Wired F z s t × Invariant F z t × Stands arena popped counts (Some (hand p [])) t × AreUnlinked None t
   so_far F z s counts inv on unlinked =
       let a = so.wires F z s counts inv on unlinked in
-      (a.0, a.1, moves_keep F z s a.0 (wired_moves F z s a.0 a.1) inv, popped_stands arena mid popped p pop a.0 counts a.2, a.3)
+      let in_hand = taken_stands a.0 arena mid popped counts p a.2 refl refl
+      (record { roots = refl; deaths = refl; ran = refl; retries = refl; round = refl })
+      (λ b h. among_last todo.items p b (subst (λ (xs : List Point). Among b xs) items h)) in
+      (a.0, a.1, moves_keep F z s a.0 (wired_moves F z s a.0 a.1) inv, in_hand, a.3)
 
   now_kept : IsKept arena popped
-  now_kept = popped_kept arena mid popped p pop so.kept
+  now_kept = todo_kept arena mid todo so.kept
 
   now_places : KeepsPlaces old popped
-  now_places = places_then old mid popped so.places (popped_places arena mid popped p pop)
+  now_places = record { rows = so.places.rows; roots = so.places.roots; deaths = so.places.deaths; round = so.places.round }
+
+  -- the worklist is shorter, whoever of these isn't needed
+  shorter : (points : List Point) → left_to_wire popped points < left_to_wire mid points
+  shorter points = let long = ap length items in let parts = length-append todo.items (p ∷ []) in omega (arith, long, parts)
 
   -- the point isn't needed
   pub wiring_skip : (Needed mid.graph p → ⊥) → IsWiring arena old popped
   wiring_skip unneeded = record {
     wires = λ F z s counts inv on unlinked.
         let a = so_far F z s counts inv on unlinked in
-        let b = unneeded_leaves F z a.0 arena popped counts p a.3 a.4 (λ need. unneeded (subst (λ (g : NecessaryPart). Needed g p) pop.graph need)) in
+        let b = unneeded_leaves F z a.0 arena popped counts p a.3 a.4 unneeded in
         (b.0, wired_after F z s a.0 b.0 a.1 b.1, b.2, b.3);
     places = now_places;
     kept = now_kept;
@@ -180,7 +118,7 @@ module _ (arena : Arena) (old mid popped : Work) (p : Point) (so : IsWiring aren
 
   -- what is to be done falls
   pub skip_less : left_to_wire popped (link_points old) < left_to_wire mid (link_points old)
-  skip_less = popped_shorter arena mid popped p pop (link_points old)
+  skip_less = shorter (link_points old)
 
   pub one_less : (new : Work) → Grows popped new → left_to_wire new (link_points old) < left_to_wire mid (link_points old)
   one_less new grows =

@@ -35,6 +35,7 @@ use Rattle.wiring.specs.TakingOff.{LosesLinks, RowsSpared, TakesSome, TakesMore}
 use Rattle.wiring.specs.Wiring.{OnlyLoses, GoesBack, IsPutBack, IsBehindGate, HasMore, TakesOne, TakesOff, IsConfirmedAt, KeepsPlaces, hand_now}
 use Rattle.wiring.specs.declared.work.Work.{Work}
 use Rattle.wiring.proofs.Flat.{no_targets}
+use Rattle.wiring.proofs.Holding.{beside_kept}
 use Rattle.wiring.proofs.InHand.{KeepsSpared, gated_none, still_spared, hand_spared, same_hand, change_settled}
 use Rattle.wiring.proofs.TakingOne.{nothing_taken}
 
@@ -353,29 +354,8 @@ taken_rest old last new left first only =
     subst (λ (w : Work). w ≡ record old { graph = w.graph; rows = w.rows; retries = w.retries }) (sym only)
     (ap (λ (w : Work). record w { retries = left }) first)
 
--- how many links may be tried again leaves the rest kept
 spent_kept : (arena : Arena) (last new : Work) (left : ℕ) → new ≡ record last { retries = left } → IsKept arena last → IsKept arena new
-spent_kept arena last new left only k = subst (λ (w : Work). IsKept arena w) (sym only) (record {
-  step = k.step;
-  rows = k.rows;
-  leaves = k.leaves;
-  there = k.there;
-  given = k.given;
-  links = λ p q r. elim (k.links p q r) [ inl row ↦ inl row | inr g ↦ inr (record { scope = g.scope; died = g.died; gate = g.gate }) ];
-  heap = k.heap;
-  dead = k.dead;
-  sound = k.sound;
-  scopes = k.scopes;
-  older = k.older;
-  outcomes = k.outcomes;
-  rights = k.rights;
-  roots = k.roots;
-  binds = k.binds;
-  calls = k.calls;
-  rounds = k.rounds;
-  pairs = k.pairs;
-  scoped = k.scoped;
-})
+spent_kept arena last new left only k = subst (IsKept arena) (sym only) (beside_kept arena last last.todo left k)
 
 -- and where rows and roots are
 spent_places : (old last new : Work) (left : ℕ) → new ≡ record last { retries = left } → KeepsPlaces old last → KeepsPlaces old new
