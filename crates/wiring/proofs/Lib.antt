@@ -8,7 +8,6 @@ pub mod Deciding
 pub mod Growing
 pub mod Handing
 pub mod Leaving
-pub mod Putting
 pub mod Once
 pub mod Sight
 pub mod Agreeing
@@ -26,10 +25,8 @@ pub mod Lifting
 pub mod Scheduling
 pub mod Gating
 pub mod Ghosts
-pub mod Pairing
 pub mod Attaching
 pub mod Answering
-pub mod Handed
 pub mod Levelling
 pub mod Retrying
 pub mod PuttingBack

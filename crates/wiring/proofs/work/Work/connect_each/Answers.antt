@@ -8,7 +8,7 @@ use Rattle.inc_terms.specs.Graph.{Row, kids}
 use Rattle.node_outcomes.specs.declared.row.Stage.TheVariants as code
 use Rattle.wiring.specs.Wiring.{IsTarget}
 use Rattle.wiring.proofs.Gating.{main_is_target, stage_rowed}
-use Rattle.wiring.proofs.Handed.{IsHanded, IsNext, handed_none, kid_on, kid_gone, kid_refused, handed_last, id_among, next_kid, drop_none}
+use Rattle.wiring.proofs.Handing.{IsHanded, IsNext, handed_none, kid_on, kid_gone, kid_refused, handed_last, id_among, next_kid, drop_none}
 use Rattle.wiring.proofs.work.Work.connect_each.Goals as goal
 
 pub loop-kid-init : goal.loop-kid-init

@@ -1,6 +1,6 @@
 use Rattle.std.proofs.Common.{map, drop}
 use Rattle.inc_terms.specs.Depend.{main}
-use Rattle.wiring.proofs.Handed.{IsHanded}
+use Rattle.wiring.proofs.Handing.{IsHanded}
 use Rattle.wiring.proofs.work.Work.connect_each.Given as goal
 
 abbrev pub invariant-loop-kid : goal.invariant-loop-kid

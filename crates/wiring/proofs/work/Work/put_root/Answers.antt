@@ -5,7 +5,7 @@ use Rattle.wiring.specs.Rooting.{HasRootOn}
 use Rattle.wiring.specs.Wiring.{WireRefused, RootRefused}
 use Rattle.wiring.proofs.Trying.{levelled_kept}
 use Rattle.wiring.proofs.Gating.{main_is_target}
-use Rattle.wiring.proofs.Putting.{on_ok, more_then, wires_then, refused_then, left_refuses}
+use Rattle.wiring.proofs.Rooting.{on_ok, more_then, wires_then, refused_then, left_refuses}
 use Rattle.wiring.proofs.work.Work.put_root.Goals.{In-Ok}
 use Rattle.wiring.proofs.work.Work.put_root.Goals as goal
 

@@ -1,5 +1,5 @@
 use Rattle.wiring.proofs.Trying.{same_need, levelled_room, levelled_link}
-use Rattle.wiring.proofs.Putting.{puts_root_on}
+use Rattle.wiring.proofs.Rooting.{puts_root_on}
 use Rattle.std.proofs.Common.{ap}
 use Rattle.std.specs.Prelude.{is_some}
 use Rattle.point_map.specs.Rows.{Rows, at}

@@ -16,7 +16,7 @@ use Rattle.wiring.specs.declared.work.Work.{Work}
 use Rattle.wiring.proofs.Answering.{IsOwed, staged_owed, refusal_answers, gone_answers, then_answers}
 use Rattle.wiring.proofs.Gating.{rowed_target, change_rowed}
 use Rattle.wiring.proofs.Lifting.{DueAfter}
-use Rattle.wiring.proofs.Pairing.{pair_kept, pair_static, pair_lifts, pair_due, pair_waits}
+use Rattle.wiring.proofs.Handing.{pair_kept, pair_static, pair_lifts, pair_due, pair_waits}
 use Rattle.wiring.proofs.Raising.{only_rows, staged_there}
 use Rattle.wiring.proofs.Scheduling.{marked_kept, marked_places, marked_grows}
 use Rattle.wiring.proofs.work.Work.wire_pair.Goals as goal

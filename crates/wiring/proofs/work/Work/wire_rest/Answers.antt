@@ -16,8 +16,7 @@ use Rattle.wiring.specs.Wiring.{LacksLinks, GateRan, IsTarget}
 use Rattle.wiring.specs.declared.work.Work.{Work}
 use Rattle.wiring.proofs.Answering.{IsOwed, staged_owed, owed_answers, refusal_answers, link_answers}
 use Rattle.wiring.proofs.Gating.{main_is_target}
-use Rattle.wiring.proofs.Handed.{Reads, main_reads}
-use Rattle.wiring.proofs.Handing.{main_of, never_alone, kid_is_given, subject_is_given, change_reads_subject, full_kept, full_in, full_ran, full_there, full_lifts, full_due}
+use Rattle.wiring.proofs.Handing.{Reads, main_reads, main_of, never_alone, kid_is_given, subject_is_given, change_reads_subject, full_kept, full_in, full_ran, full_there, full_lifts, full_due}
 use Rattle.wiring.proofs.Lifting.{DueAfter, full_wires}
 use Rattle.wiring.proofs.work.Work.wire_rest.Goals as goal
 
