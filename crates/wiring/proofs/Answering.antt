@@ -1,5 +1,5 @@
 -- What a call that gives a point its links answers, by what it called.
-use Rattle.std.proofs.Common.{◌≡◌, ◌∙◌, ◌∷◌, Bool, true, false, List, [], Some, refl, sym, ap, subst, arith}
+use Rattle.std.proofs.Common.{◌≡◌, ◌∙◌, ◌∷◌, Bool, true, false, List, [], Option, Some, refl, sym, ap, subst, arith}
 use Rattle.std.specs.Prelude.{Result, Ok, Err, IsErrAnd, IsTrue, IsFalse}
 use Rattle.inc_value.specs.declared.node.NodeId.{NodeId}
 use Rattle.inc_value.specs.declared.node.Point.{Point}
@@ -14,7 +14,7 @@ use Rattle.point_map.specs.Rows.{Rows, at}
 use Rattle.wiring.specs.Answers.{WireAnswers, TakenAnswers, PassesGate, GateAnswers, AsksGate, ConnectAnswers}
 use Rattle.wiring.specs.Growing.{Grows}
 use Rattle.wiring.specs.Kept.{IsKept}
-use Rattle.wiring.specs.Stands.{hand}
+use Rattle.wiring.specs.Stands.{Hand, hand}
 use Rattle.wiring.specs.Wiring.{Wires, WiresTaken, WireRefused, StaysInHand, KeepsPlaces}
 use Rattle.wiring.specs.declared.refused.Refused.{Refused}
 use Rattle.wiring.specs.declared.work.Work.{Work}
@@ -158,6 +158,11 @@ module _ (arena : Arena) (old mid : Work) (p q : Point) (owed : IsOwed arena old
   link_answers x true a wires = then_answers a x refl con (wires refl) (same_places con) a.kept (grows_here con)
   link_answers x false a wires = gone_answers a x refl
 
+-- what it left is this
+pub answers_at : {A : Type 0} {r : Result A Refused} (arena : Arena) (old new now : Work) (held : Option Hand) → now ≡ new
+    → WireAnswers arena old new held r → WireAnswers arena old now held r
+answers_at {A} {r} arena old new now held is a = subst (λ (w : Work). WireAnswers arena old w held r) (sym is) a
+
 -- ---- at the gate
 
 -- nothing was done
@@ -180,7 +185,7 @@ gate_asked on arena old mid new p bind stays places grows need gated row a = rec
   passes = λ t. record {
     in_hand = subst (λ (x : Work). StaysInHand arena old x p) (sym (a.stays t)) stays;
     lacking = lacks_gated arena new p (ap (λ (x : Work). stage_in (at x.rows p)) (a.stays t) ∙ gated);
-    ran = ran_gate arena new p bind row (a.settled t);
+    ran = ran_gate arena new p bind row (a.ran t);
     needed = subst (λ (x : Work). Needed x.graph p) (sym (a.stays t)) need;
   };
   left = λ f. wires_taken arena old new p (stays_wires arena old mid new p stays (a.left f));

@@ -50,10 +50,10 @@ pub record GateAnswers (arena : Arena) (old new : Work) (p : Point) (result : Re
   pub pushed : OnOk result (Grows old new)
 
 -- the gate ran and nothing changes, or the point that has its link alone waits for it
-pub record AsksGate (arena : Arena) (old new : Work) (p : Point) (bind : NodeId) (ran : Bool) : Type 0 where
-  pub settled : IsTrue ran → settled_in new.round (at new.rows (change bind)) ≡ true
-  pub stays : IsTrue ran → new ≡ old
-  pub left : IsFalse ran → Wires arena old new (Some (hand p []))
+pub record AsksGate (arena : Arena) (old new : Work) (p : Point) (bind : NodeId) (passes : Bool) : Type 0 where
+  pub ran : IsTrue passes → settled_in new.round (at new.rows (change bind)) ≡ true
+  pub stays : IsTrue passes → new ≡ old
+  pub left : IsFalse passes → Wires arena old new (Some (hand p []))
   pub places : KeepsPlaces old new
   pub kept : IsKept arena new
   pub pushed : Grows old new

@@ -20,7 +20,7 @@ use Rattle.wiring.proofs.Raising.{if_refusal}
 use Rattle.wiring.proofs.Retrying.{not_both}
 use Rattle.wiring.proofs.Attaching.{WasRaised, was_raised, stays_off, full_kept, right_given, none_attached, right_refused, right_gone, right_on, full_in, right_is}
 use Rattle.wiring.proofs.work.Work.attach_right.Goals as goal
-use Rattle.wiring.proofs.work.Work.attach_right.Goals.{in-Some-right_side+in_ok-_on, in_default-right_side}
+use Rattle.wiring.proofs.work.Work.attach_right.Goals.{in-Some-right_side+in_ok-_on, in_default-right_side, After-right_side}
 
 by_answer : {P : Type 0} (b : Bool) → (IsTrue b → P) → (IsFalse b → P) → P
 by_answer true on off = on refl
@@ -43,7 +43,7 @@ returns-then-not-is_waiting-clause-attached c =
 
 -- ---- one that waits is to have all links
 
-module _ (c : goal.After-right_side) where
+module _ (c : After-right_side) where
   abbrev r : Row
   r = row_of c.in-Some.row.now
 

@@ -4,6 +4,7 @@ use Rattle.wiring.proofs.Retrying.{first_trying, more_trying, lost_answers, on_a
 use Rattle.wiring.proofs.Retrying.{not_both, may_read, is_target, is_off_now, IsOffNow}
 use Rattle.wiring.proofs.Telling.{told, barred}
 use Rattle.wiring.proofs.work.Work.connect.Goals as goal
+use Rattle.wiring.proofs.work.Work.connect.Goals.{After-make_way}
 
 pub loop-fault-init : goal.loop-fault-init
 loop-fault-init c = first_trying c.args.arena.now c.args.self.now c.args.p c.args.q c.requires.kept c.requires.needed c.requires.spared
@@ -28,7 +29,7 @@ returns-then-is_final c =
 
 -- ---- some of what wasn't confirmed is off, or all
 
-module _ (c : goal.After-make_way) where
+module _ (c : After-make_way) where
   off : IsOffNow c.args.arena.now c.loop-fault.self c.try_link.new.self c.make_way.new.self c.args.p
   off =
       let so = c.loop-fault.invariant in

@@ -10,6 +10,7 @@ use Rattle.wiring.specs.Wiring.{IsTarget}
 use Rattle.wiring.proofs.Gating.{main_is_target, stage_rowed}
 use Rattle.wiring.proofs.Handing.{IsHanded, IsNext, handed_none, kid_on, kid_gone, kid_refused, handed_last, id_among, next_kid, drop_none}
 use Rattle.wiring.proofs.work.Work.connect_each.Goals as goal
+use Rattle.wiring.proofs.work.Work.connect_each.Goals.{After-connect}
 
 pub loop-kid-init : goal.loop-kid-init
 loop-kid-init c = handed_none c.args.arena.now c.args.self.now c.args.p (map main c.args.kids.now) c.requires.needed c.requires.kept
@@ -32,7 +33,7 @@ connect-requires-clause-spared c part full r row two =
 
 -- ---- the child in hand
 
-module _ (c : goal.After-connect) where
+module _ (c : After-connect) where
   abbrev all : List Point
   all = map main c.args.kids.now
 

@@ -13,13 +13,14 @@ use Rattle.wiring.proofs.Gating.{stage_rowed, gate_kept, is_gated_now, gate_lift
 use Rattle.wiring.proofs.Lifting.{DueAfter}
 use Rattle.wiring.proofs.Raising.{only_rows, staged_there}
 use Rattle.wiring.proofs.work.Work.link_gate.Goals as goal
+use Rattle.wiring.proofs.work.Work.link_gate.Goals.{After-set_stage}
 
 pub set_stage-requires : goal.set_stage-requires
 set_stage-requires c = record { there = stage_rowed c.args.self.now.rows c.args.p code.Bare c.requires.bare }
 
 -- ---- the point has its gate's link alone
 
-module _ (c : goal.After-set_stage) where
+module _ (c : After-set_stage) where
   abbrev r : Row
   r = c.requires.row.0
 

@@ -12,7 +12,7 @@ use Rattle.wiring.proofs.work.Work.passes_gate.Goals as goal
 pub returns-then-was_settled : goal.returns-then-was_settled
 returns-then-was_settled c =
     let self = c.args.self.now in record {
-      settled = λ t. ap (λ (x : Point). settled_in self.round (at self.rows x)) (sym c.change_point-gate.ensures)
+      ran = λ t. ap (λ (x : Point). settled_in self.round (at self.rows x)) (sym c.change_point-gate.ensures)
           ∙ (sym c.was_settled.ensures ∙ c.if-was_settled.true);
       stays = λ t. refl;
       left = λ f. absurd (let e = f in cc);
@@ -32,7 +32,7 @@ returns c =
     ap (λ (x : Point). settled_in old.round (at old.rows x)) (sym gate) ∙ (sym c.was_settled.ensures ∙ c.if-was_settled.false) in
     let rest = c.schedule.ensures.rest in
     let step = c.schedule.ensures.step in record {
-      settled = λ t. absurd (let e = t in cc);
+      ran = λ t. absurd (let e = t in cc);
       stays = λ t. absurd (let e = t in cc);
       left = λ f. gate_waits c.args.arena.now c.args.p c.args.bind r.0 r.1 r.2 old new c.requires.kept c.requires.needed c.requires.gated unsettled
           marked rest;

@@ -11,6 +11,7 @@ use Rattle.wiring.proofs.Holding.{died_same}
 use Rattle.wiring.proofs.Lifting.{DueAfter}
 use Rattle.wiring.proofs.Retrying.{not_both}
 use Rattle.wiring.proofs.work.Work.wire_ghost.Goals as goal
+use Rattle.wiring.proofs.work.Work.wire_ghost.Goals.{After-connect}
 
 -- ---- a leaf
 
@@ -38,7 +39,7 @@ pub connect-requires-clause-target : goal.connect-requires-clause-target
 connect-requires-clause-target c = subst (λ (x : Point). IsTarget c.args.arena.now c.args.self.now x) (sym c.change_point-gate.ensures)
     (ghost_target c.args.arena.now c.args.self.now c.args.p.node c.in-Some.bind c.requires.kept (sym c.in-Some.ensures))
 
-module _ (c : goal.After-connect) where
+module _ (c : After-connect) where
   died : died_at c.args.self.now c.args.p.node ≡ Some c.in-Some.bind
   died = sym c.in-Some.ensures
 

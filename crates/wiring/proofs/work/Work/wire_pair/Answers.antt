@@ -1,5 +1,4 @@
 use Rattle.std.proofs.Common.{◌≡◌, ◌∙◌, ◌∷◌, inl, sym, ap, subst, Option, Some, []}
-use Rattle.std.specs.Prelude.{Ok}
 use Rattle.inc_value.specs.declared.node.Part.TheVariants.{Main}
 use Rattle.inc_value.specs.declared.node.Point.{Point}
 use Rattle.inc_terms.specs.Depend.{main, change}
@@ -8,19 +7,18 @@ use Rattle.point_map.specs.Rows.{at, Holds}
 use Rattle.node_outcomes.specs.Computing.{has_part}
 use Rattle.node_outcomes.specs.Row.{IsRewritten, with_stage, stage_in}
 use Rattle.node_outcomes.specs.declared.row.Stage.TheVariants as code
-use Rattle.wiring.specs.Answers.{WireAnswers}
 use Rattle.wiring.specs.Kept.{IsKept}
 use Rattle.wiring.specs.Stands.{hand}
 use Rattle.wiring.specs.Wiring.{IsMarked, IsSpared, IsTarget, MayRead}
 use Rattle.wiring.specs.declared.work.Work.{Work}
-use Rattle.wiring.proofs.Answering.{IsOwed, staged_owed, refusal_answers, gone_answers, then_answers}
+use Rattle.wiring.proofs.Answering.{IsOwed, staged_owed, refusal_answers, gone_answers, then_answers, answers_at}
 use Rattle.wiring.proofs.Gating.{rowed_target, change_rowed}
 use Rattle.wiring.proofs.Lifting.{DueAfter}
 use Rattle.wiring.proofs.Handing.{pair_kept, pair_static, pair_lifts, pair_due, pair_waits}
 use Rattle.wiring.proofs.Raising.{only_rows, staged_there}
 use Rattle.wiring.proofs.Scheduling.{marked_kept, marked_places, marked_grows}
 use Rattle.wiring.proofs.work.Work.wire_pair.Goals as goal
-use Rattle.wiring.proofs.work.Work.wire_pair.Goals.{then-branch, else-branch}
+use Rattle.wiring.proofs.work.Work.wire_pair.Goals.{then-branch, else-branch, After-set_stage}
 
 pub set_stage-requires : goal.set_stage-requires
 set_stage-requires c = record {
@@ -30,7 +28,7 @@ set_stage-requires c = record {
 
 -- ---- its main has another stage
 
-module _ (c : goal.After-set_stage) where
+module _ (c : After-set_stage) where
   abbrev r : Row
   r = c.requires.row.0
 
@@ -104,13 +102,13 @@ returns c =
           let step = b.schedule.ensures.step in
           let marked : IsMarked con.graph next.graph (change n) = rw c.change_point-own.ensures at b.schedule.ensures.scheduled in
           let now = ap stage_in (on.row t) ∙ static c in
-          subst (λ (x : Work). WireAnswers arena old x (Some (hand (main n) [])) (Ok _)) (sym b.self-is)
+          answers_at arena old next _ (Some (hand (main n) [])) b.self-is
           (then_answers arena old (mid c) (main n) (change n) (owed c) (due c) con on _ t next
           (pair_waits arena n (r c) row.1 row.2 con next (on.needed t).0 (on.needed t).1 now marked rest)
           (marked_places (change n) con next marked rest)
           (marked_kept (change n) con next marked rest arena (change_rowed arena con n (r c) on.kept row.1 row.2) step on.kept)
           (marked_grows (change n) con next marked rest on.kept.step step))
       | else-branch b ↦
-          subst (λ (x : Work). WireAnswers arena old x (Some (hand (main n) [])) (Ok _)) (sym b.self-is)
+          answers_at arena old con _ (Some (hand (main n) [])) b.self-is
           (gone_answers arena old (mid c) (main n) (change n) (owed c) (due c) con on _ b.if-branch.false)
     ]

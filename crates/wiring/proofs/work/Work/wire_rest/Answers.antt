@@ -19,6 +19,7 @@ use Rattle.wiring.proofs.Gating.{main_is_target}
 use Rattle.wiring.proofs.Handing.{Reads, main_reads, main_of, never_alone, kid_is_given, subject_is_given, change_reads_subject, full_kept, full_in, full_ran, full_there, full_lifts, full_due}
 use Rattle.wiring.proofs.Lifting.{DueAfter, full_wires}
 use Rattle.wiring.proofs.work.Work.wire_rest.Goals as goal
+use Rattle.wiring.proofs.work.Work.wire_rest.Goals.{After-set_stage, After-set_stage-in-Change-Some}
 
 -- ---- a change that has no subject isn't there
 
@@ -30,7 +31,7 @@ returns-in-Change-None c =
 
 -- ---- a main of one point
 
-module _ (c : goal.After-set_stage) where
+module _ (c : After-set_stage) where
   abbrev one_row : Row
   one_row = c.requires.row.0
 
@@ -97,7 +98,7 @@ returns-in-Main-Some c =
 
 -- ---- a change
 
-module _ (c : goal.After-set_stage-in-Change-Some) where
+module _ (c : After-set_stage-in-Change-Some) where
   abbrev r : Row
   r = c.requires.row.0
 
