@@ -84,7 +84,7 @@ returns-in_err-_on-clause-refused c =
     let con = c.connect.new.self in
     if_refusal (AttachRefused c.args.arena.now c.args.self.now con c.args.node) e c.from_residual.result c.from_residual.ensures.1
     (right_refused c.args.arena.now c.args.node (r c) c.args.self.now c.set_stage.new.rows (was c) c.in-Some-right_side.target
-    (told c ∙ c.in-Some-right_side.is) con e (rw (c.main_point-p.ensures, c.main_point.ensures) at c.in_err-_on.ensures).refused)
+    (told c ∙ c.in-Some-right_side.is) con e (rw (c.main_point-p.ensures, c.main_point.ensures) at c.in_err-_on.ensures.refused))
 
 pub returns-clause-kept : goal.returns-clause-kept
 returns-clause-kept c = elim c.match-right_side.branch [
@@ -103,11 +103,12 @@ returns-clause-attached c =
           let m = b.in-Some-right_side.target in
           let right = told c ∙ b.in-Some-right_side.is in
           let con = b.connect.new.self in
-          let on = rw (c.main_point-p.ensures, b.main_point.ensures) at b.in_ok-_on.ensures in
+          let so = b.in_ok-_on.ensures in
           subst (λ (x : Work). Attaches arena old x n) (sym b.self-is)
           (by_answer b.in_ok-_on._on
-          (λ t. right_on arena n (r c) old rows (was c) m right con (on.linked t) (on.row t))
-          (λ f. right_gone arena n (r c) old rows (was c) m right con (on.gone f).0))
+          (λ t. right_on arena n (r c) old rows (was c) m right con (rw (c.main_point-p.ensures, b.main_point.ensures) at (so.linked t))
+          (rw c.main_point-p.ensures at (so.row t)))
+          (λ f. right_gone arena n (r c) old rows (was c) m right con (rw (c.main_point-p.ensures, b.main_point.ensures) at (so.gone f).0)))
       | in_default-right_side b ↦
           subst (λ (x : Work). Attaches arena old x n) (sym b.self-is)
           (none_attached arena n (r c) old rows (was c) (told c ∙ is_none c.right_side.result b.in_default-right_side.not-Some))

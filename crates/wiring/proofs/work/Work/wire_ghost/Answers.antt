@@ -61,8 +61,9 @@ returns-in_err-_on c =
 
 pub returns : goal.returns
 returns c =
-    let on = rw c.change_point-gate.ensures at c.in_ok-_on.ensures in
+    let so = c.in_ok-_on.ensures in
+    let gate = c.change_point-gate.ensures in
     link_answers c.args.arena.now c.args.self.now c.args.self.now c.args.p (change c.in-Some.bind) (owed c) (due c) c.connect.new.self _ c.in_ok-_on._on
-    on
-    (λ t. ghost_wires c.args.arena.now c.connect.new.self c.args.p c.requires.dead on.kept c.in-Some.bind
-    (died_same c.args.self.now c.connect.new.self on.places.deaths c.args.p.node ∙ died c) (on.needed t).0 (on.reads t))
+    (rw gate at so)
+    (λ t. ghost_wires c.args.arena.now c.connect.new.self c.args.p c.requires.dead so.kept c.in-Some.bind
+    (died_same c.args.self.now c.connect.new.self so.places.deaths c.args.p.node ∙ died c) (so.needed t).0 (rw gate at (so.reads t)))

@@ -93,7 +93,8 @@ returns c =
     let old = c.args.self.now in
     let row = c.requires.row in
     let con = c.connect.new.self in
-    let on = rw (c.main_point-2.ensures, c.change_point-own.ensures) at c.in_ok-connect.ensures in
+    let so = c.in_ok-connect.ensures in
+    let on = rw (c.main_point-2.ensures, c.change_point-own.ensures) at so in
     elim c.if-branch.branch [
       | then-branch b ↦
           let t = b.if-branch.true in
@@ -101,13 +102,15 @@ returns c =
           let rest = b.schedule.ensures.rest in
           let step = b.schedule.ensures.step in
           let marked : IsMarked con.graph next.graph (change n) = rw c.change_point-own.ensures at b.schedule.ensures.scheduled in
-          let now = ap stage_in (on.row t) ∙ static c in
+          let need = so.needed t in
+          let now = ap stage_in (rw c.main_point-2.ensures at (so.row t)) ∙ static c in
           answers_at arena old next _ (Some (hand (main n) [])) b.self-is
           (then_answers arena old (mid c) (main n) (change n) (owed c) (due c) con on _ t next
-          (pair_waits arena n (r c) row.1 row.2 con next (on.needed t).0 (on.needed t).1 now marked rest)
+          (pair_waits arena n (r c) row.1 row.2 con next (rw c.main_point-2.ensures at need.0) (rw c.change_point-own.ensures at need.1) now marked
+          rest)
           (marked_places (change n) con next marked rest)
-          (marked_kept (change n) con next marked rest arena (change_rowed arena con n (r c) on.kept row.1 row.2) step on.kept)
-          (marked_grows (change n) con next marked rest on.kept.step step))
+          (marked_kept (change n) con next marked rest arena (change_rowed arena con n (r c) so.kept row.1 row.2) step so.kept)
+          (marked_grows (change n) con next marked rest so.kept.step step))
       | else-branch b ↦
           answers_at arena old con _ (Some (hand (main n) [])) b.self-is
           (gone_answers arena old (mid c) (main n) (change n) (owed c) (due c) con on _ b.if-branch.false)
