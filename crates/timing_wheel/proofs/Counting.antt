@@ -1,9 +1,9 @@
 -- How many timers there are.
-use Rattle.std.proofs.Common.{◌≡◌, ◌∙◌, ℕ, suc, ◌+◌, Bool, true, false, List, [], ◌∷◌, ◌++◌, length, map, flat_map, sum_by, refl, sym, ap, arith, inl, inr, cond}
+use Rattle.std.proofs.Common.{◌≡◌, ◌∙◌, ℕ, suc, ◌+◌, List, [], ◌∷◌, length, sum_by, refl, sym, ap, arith, inl, inr, cond}
 use Rattle.std.proofs.lemmas.List.{length-map, length-append}
 use Rattle.std.proofs.lemmas.List.Sums.{sum_by-append}
 use Rattle.timing_wheel.specs.declared.levels.Timer.{Timer}
-use Rattle.timing_wheel.specs.Queue.{placed, in_order}
+use Rattle.timing_wheel.specs.Queue.{placed}
 use Rattle.timing_wheel.specs.Levels.{rows, timers_of}
 use Rattle.timing_wheel.specs.Timers.{by_deadline, no_later}
 use Rattle.timing_wheel.proofs.Queue.{either}

@@ -1,4 +1,4 @@
-use Rattle.std.proofs.Common.{◌≡◌, ◌∙◌, Some, IsTrue, is_some, sym, ap, subst, refl}
+use Rattle.std.proofs.Common.{◌≡◌, ◌∙◌, Some, is_some, sym, ap, subst}
 use Rattle.timing_wheel.specs.Places.{place_of}
 use Rattle.timing_wheel.specs.Timers.{IsPending}
 use Rattle.timing_wheel.specs.Levels.{timers_of}

@@ -1,4 +1,4 @@
-use Rattle.std.proofs.Common.{◌≡◌, ◌∙◌, ap, length}
+use Rattle.std.proofs.Common.{◌∙◌, ap, length}
 use Rattle.timing_wheel.proofs.Counting.{length_all}
 use Rattle.timing_wheel.proofs.levels.Levels.len.Goals as goal
 
