@@ -1,4 +1,4 @@
--- A change is settled: the graph that is told stays where its bind was built for the outcome.
+-- A change is settled: its graph stays where its bind was built for the outcome, and the parts stand for the state then.
 use Rattle.std.proofs.Common.{◌≡◌, inl, inr, ℕ, true, List, Option, None, Some, refl, sym, ap, subst, ◌∙◌, ◌⊎◌, Bool, false, [], ◌≢◌}
 use Rattle.std.proofs.Math.Path.{fun_ext}
 use Rattle.std.specs.Prelude.{is_some, option_map, reverse}
