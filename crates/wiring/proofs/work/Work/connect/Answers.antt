@@ -44,15 +44,15 @@ module _ (c : After-make_way) where
 pub returns-then-not-is_still : goal.returns-then-not-is_still
 returns-then-not-is_still c =
     lost_answers c.args.arena.now c.args.self.now c.loop-fault.self c.args.p c.args.q c.loop-fault.invariant c.try_link.new.self c.make_way.new.self
-    (off c)
+    (off (goal.at.returns-then-not-is_still c).After-make_way)
     (λ still. not_both c.is_still.result c.if-not-is_still.true (c.is_still.ensures.1 (still.0, λ g. c.is_gated-gated.ensures.1 (still.1 g))))
-    (bars c) c.make_way.ensures.taken.kept
+    (bars (goal.at.returns-then-not-is_still c).After-make_way) c.make_way.ensures.taken.kept
 
 pub loop-fault-preserved : goal.loop-fault-preserved
 loop-fault-preserved c =
     let s = c.is_still.ensures.0 c.if-not-is_still.false in
     more_trying c.args.arena.now c.args.self.now c.loop-fault.self c.args.p c.args.q c.loop-fault.invariant c.try_link.new.self c.make_way.new.self
-    (off c) (bars c) c.make_way.ensures.taken.kept (s.0, λ g. c.is_gated-gated.ensures.0 (s.1 g))
+    (off (goal.at.loop-fault-preserved c).After-make_way) (bars (goal.at.loop-fault-preserved c).After-make_way) c.make_way.ensures.taken.kept (s.0, λ g. c.is_gated-gated.ensures.0 (s.1 g))
 
 pub loop-fault-smaller : goal.loop-fault-smaller
 loop-fault-smaller c = let a = c.try_link.ensures.retries in let b = c.make_way.ensures.fewer in omega (arith, a, b)

@@ -49,19 +49,19 @@ module _ (c : After-connect) where
 
 pub returns-in_err-connect : goal.returns-in_err-connect
 returns-in_err-connect c =
-    kid_refused c.args.arena.now c.args.p c.requires.main (r c) c.requires.row.1 c.requires.row.3 c.args.self.now c.loop-kid.self c.requires.ran (rest c)
-    (all c) c.main_point.result (next c).among (next c).handed c.connect.new.self c.from_residual.result c.in_err-connect.field-0.0
+    kid_refused c.args.arena.now c.args.p c.requires.main (r (goal.at.returns-in_err-connect c).After-connect) c.requires.row.1 c.requires.row.3 c.args.self.now c.loop-kid.self c.requires.ran (rest (goal.at.returns-in_err-connect c).After-connect)
+    (all (goal.at.returns-in_err-connect c).After-connect) c.main_point.result (next (goal.at.returns-in_err-connect c).After-connect).among (next (goal.at.returns-in_err-connect c).After-connect).handed c.connect.new.self c.from_residual.result c.in_err-connect.field-0.0
     c.from_residual.ensures.1 c.in_err-connect.ensures
 
 pub returns-then-not-branch : goal.returns-then-not-branch
 returns-then-not-branch c =
-    kid_gone c.args.arena.now c.args.p c.requires.main (r c) c.requires.row.1 c.requires.row.3 c.args.self.now c.loop-kid.self c.requires.ran (rest c)
-    (all c) c.main_point.result (next c).among (next c).handed c.connect.new.self c.in_ok-connect.ensures _ c.if-not-branch.true
+    kid_gone c.args.arena.now c.args.p c.requires.main (r (goal.at.returns-then-not-branch c).After-connect) c.requires.row.1 c.requires.row.3 c.args.self.now c.loop-kid.self c.requires.ran (rest (goal.at.returns-then-not-branch c).After-connect)
+    (all (goal.at.returns-then-not-branch c).After-connect) c.main_point.result (next (goal.at.returns-then-not-branch c).After-connect).among (next (goal.at.returns-then-not-branch c).After-connect).handed c.connect.new.self c.in_ok-connect.ensures _ c.if-not-branch.true
 
 pub loop-kid-preserved : goal.loop-kid-preserved
 loop-kid-preserved c =
-    kid_on c.args.arena.now c.args.p c.requires.main (r c) c.requires.row.1 c.requires.row.3 c.args.self.now c.loop-kid.self c.requires.ran (rest c)
-    (all c) c.main_point.result (next c).among (next c).handed c.connect.new.self c.in_ok-connect.ensures c.if-not-branch.false
+    kid_on c.args.arena.now c.args.p c.requires.main (r (goal.at.loop-kid-preserved c).After-connect) c.requires.row.1 c.requires.row.3 c.args.self.now c.loop-kid.self c.requires.ran (rest (goal.at.loop-kid-preserved c).After-connect)
+    (all (goal.at.loop-kid-preserved c).After-connect) c.main_point.result (next (goal.at.loop-kid-preserved c).After-connect).among (next (goal.at.loop-kid-preserved c).After-connect).handed c.connect.new.self c.in_ok-connect.ensures c.if-not-branch.false
 
 -- ---- all are on
 

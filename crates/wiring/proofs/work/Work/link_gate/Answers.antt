@@ -50,32 +50,32 @@ module _ (c : After-set_stage) where
 pub connect-requires : goal.connect-requires
 connect-requires c = record {
   needed = c.requires.needed;
-  reader = inl (staged_there c.args.self.now (mid c) c.args.p code.Gated c.set_stage.ensures (only_rows c.args.self.now c.set_stage.new.rows) c.args.p
-      ∙ rowed c);
-  spared = λ part full. absurd (let e = full in let g = gated c in cc);
-  target = subst (λ (x : Point). IsTarget c.args.arena.now (mid c) x) (sym c.change_point.ensures)
-      (rowed_target c.args.arena.now (mid c) (change c.args.bind) (kept c)
-      (gate_rowed c.args.arena.now (mid c) c.args.p.node c.args.bind (r c) (kept c) c.requires.row.1 c.requires.row.2));
-  kept = kept c;
+  reader = inl (staged_there c.args.self.now (mid (goal.at.connect-requires c).After-set_stage) c.args.p code.Gated c.set_stage.ensures (only_rows c.args.self.now c.set_stage.new.rows) c.args.p
+      ∙ rowed (goal.at.connect-requires c).After-set_stage);
+  spared = λ part full. absurd (let e = full in let g = gated (goal.at.connect-requires c).After-set_stage in cc);
+  target = subst (λ (x : Point). IsTarget c.args.arena.now (mid (goal.at.connect-requires c).After-set_stage) x) (sym c.change_point.ensures)
+      (rowed_target c.args.arena.now (mid (goal.at.connect-requires c).After-set_stage) (change c.args.bind) (kept (goal.at.connect-requires c).After-set_stage)
+      (gate_rowed c.args.arena.now (mid (goal.at.connect-requires c).After-set_stage) c.args.p.node c.args.bind (r (goal.at.connect-requires c).After-set_stage) (kept (goal.at.connect-requires c).After-set_stage) c.requires.row.1 c.requires.row.2));
+  kept = kept (goal.at.connect-requires c).After-set_stage;
 }
 
 -- ---- its gate is asked, unless it has no link
 
 pub returns-in_err-connect : goal.returns-in_err-connect
 returns-in_err-connect c =
-    refusal_gates c.args.arena.now c.args.self.now (mid c) c.args.p (change c.args.bind) (owed c) (due c) c.connect.new.self c.from_residual.result
+    refusal_gates c.args.arena.now c.args.self.now (mid (goal.at.returns-in_err-connect c).After-set_stage) c.args.p (change c.args.bind) (owed (goal.at.returns-in_err-connect c).After-set_stage) (due (goal.at.returns-in_err-connect c).After-set_stage) c.connect.new.self c.from_residual.result
     c.in_err-connect.field-0.0 c.from_residual.ensures.1 (rw c.change_point.ensures at c.in_err-connect.ensures)
 
 pub returns-then-not-branch : goal.returns-then-not-branch
 returns-then-not-branch c =
-    gone_gates c.args.arena.now c.args.self.now (mid c) c.args.p (change c.args.bind) (owed c) (due c) c.connect.new.self
+    gone_gates c.args.arena.now c.args.self.now (mid (goal.at.returns-then-not-branch c).After-set_stage) c.args.p (change c.args.bind) (owed (goal.at.returns-then-not-branch c).After-set_stage) (due (goal.at.returns-then-not-branch c).After-set_stage) c.connect.new.self
     (rw c.change_point.ensures at c.in_ok-connect.ensures) _ c.if-not-branch.true refl
 
 pub passes_gate-requires : goal.passes_gate-requires
 passes_gate-requires c = record {
   needed = (c.in_ok-connect.ensures.needed c.if-not-branch.false).0;
   row = c.requires.row;
-  gated = ap stage_in (c.in_ok-connect.ensures.row c.if-not-branch.false) ∙ gated c;
+  gated = ap stage_in (c.in_ok-connect.ensures.row c.if-not-branch.false) ∙ gated (goal.at.passes_gate-requires c).After-set_stage;
   kept = c.in_ok-connect.ensures.kept;
 }
 
@@ -83,8 +83,8 @@ pub returns : goal.returns
 returns c =
     let on = rw c.change_point.ensures at c.in_ok-connect.ensures in
     let t = c.if-not-branch.false in
-    let stays = link_stays c.args.arena.now c.args.self.now (mid c) c.args.p (change c.args.bind) (owed c) (due c) c.connect.new.self on t in
-    let places = link_places c.args.arena.now c.args.self.now (mid c) c.args.p (change c.args.bind) (owed c) (due c) c.connect.new.self on in
-    let grows = link_grows c.args.arena.now c.args.self.now (mid c) c.args.p (change c.args.bind) (owed c) (due c) c.connect.new.self on in
+    let stays = link_stays c.args.arena.now c.args.self.now (mid (goal.at.returns c).After-set_stage) c.args.p (change c.args.bind) (owed (goal.at.returns c).After-set_stage) (due (goal.at.returns c).After-set_stage) c.connect.new.self on t in
+    let places = link_places c.args.arena.now c.args.self.now (mid (goal.at.returns c).After-set_stage) c.args.p (change c.args.bind) (owed (goal.at.returns c).After-set_stage) (due (goal.at.returns c).After-set_stage) c.connect.new.self on in
+    let grows = link_grows c.args.arena.now c.args.self.now (mid (goal.at.returns c).After-set_stage) c.args.p (change c.args.bind) (owed (goal.at.returns c).After-set_stage) (due (goal.at.returns c).After-set_stage) c.connect.new.self on in
     gate_asked _ c.args.arena.now c.args.self.now c.connect.new.self c.passes_gate.new.self c.args.p c.args.bind stays places grows
-    (c.in_ok-connect.ensures.needed t).0 (ap stage_in (c.in_ok-connect.ensures.row t) ∙ gated c) c.requires.row c.passes_gate.ensures
+    (c.in_ok-connect.ensures.needed t).0 (ap stage_in (c.in_ok-connect.ensures.row t) ∙ gated (goal.at.returns c).After-set_stage) c.requires.row c.passes_gate.ensures

@@ -56,14 +56,14 @@ module _ (c : After-connect) where
 
 pub returns-in_err-_on : goal.returns-in_err-_on
 returns-in_err-_on c =
-    refusal_answers c.args.arena.now c.args.self.now c.args.self.now c.args.p (change c.in-Some.bind) (owed c) (due c) c.connect.new.self
+    refusal_answers c.args.arena.now c.args.self.now c.args.self.now c.args.p (change c.in-Some.bind) (owed (goal.at.returns-in_err-_on c).After-connect) (due (goal.at.returns-in_err-_on c).After-connect) c.connect.new.self
     c.from_residual.result c.in_err-_on.field-0.0 c.from_residual.ensures.1 (rw c.change_point-gate.ensures at c.in_err-_on.ensures)
 
 pub returns : goal.returns
 returns c =
     let so = c.in_ok-_on.ensures in
     let gate = c.change_point-gate.ensures in
-    link_answers c.args.arena.now c.args.self.now c.args.self.now c.args.p (change c.in-Some.bind) (owed c) (due c) c.connect.new.self _ c.in_ok-_on._on
+    link_answers c.args.arena.now c.args.self.now c.args.self.now c.args.p (change c.in-Some.bind) (owed (goal.at.returns c).After-connect) (due (goal.at.returns c).After-connect) c.connect.new.self _ c.in_ok-_on._on
     (rw gate at so)
     (λ t. ghost_wires c.args.arena.now c.connect.new.self c.args.p c.requires.dead so.kept c.in-Some.bind
-    (died_same c.args.self.now c.connect.new.self so.places.deaths c.args.p.node ∙ died c) (so.needed t).0 (rw gate at (so.reads t)))
+    (died_same c.args.self.now c.connect.new.self so.places.deaths c.args.p.node ∙ died (goal.at.returns c).After-connect) (so.needed t).0 (rw gate at (so.reads t)))

@@ -60,29 +60,29 @@ module _ (c : After-set_stage) where
 
 pub connect-requires-clause-reader : goal.connect-requires-clause-reader
 connect-requires-clause-reader c =
-    subst (λ (x : Point). MayRead (mid c) x c.change_point-own.result) (sym c.main_point-2.ensures)
-    (inl (staged_there c.args.self.now (mid c) (main c.args.node) code.Static (w c) (only_rows c.args.self.now c.set_stage.new.rows) (main c.args.node)
-    ∙ rowed c))
+    subst (λ (x : Point). MayRead (mid (goal.at.connect-requires-clause-reader c).After-set_stage) x c.change_point-own.result) (sym c.main_point-2.ensures)
+    (inl (staged_there c.args.self.now (mid (goal.at.connect-requires-clause-reader c).After-set_stage) (main c.args.node) code.Static (w (goal.at.connect-requires-clause-reader c).After-set_stage) (only_rows c.args.self.now c.set_stage.new.rows) (main c.args.node)
+    ∙ rowed (goal.at.connect-requires-clause-reader c).After-set_stage))
 
 pub connect-requires-clause-spared : goal.connect-requires-clause-spared
 connect-requires-clause-spared c =
-    let now = static c in
-    subst (λ (x : Point). IsSpared c.args.arena.now (mid c) x) (sym c.main_point-2.ensures) (λ part full. absurd (let e = full in cc))
+    let now = static (goal.at.connect-requires-clause-spared c).After-set_stage in
+    subst (λ (x : Point). IsSpared c.args.arena.now (mid (goal.at.connect-requires-clause-spared c).After-set_stage) x) (sym c.main_point-2.ensures) (λ part full. absurd (let e = full in cc))
 
 pub connect-requires-clause-kept : goal.connect-requires-clause-kept
-connect-requires-clause-kept c = kept c
+connect-requires-clause-kept c = kept (goal.at.connect-requires-clause-kept c).After-set_stage
 
 pub connect-requires-clause-target : goal.connect-requires-clause-target
 connect-requires-clause-target c =
-    subst (λ (x : Point). IsTarget c.args.arena.now (mid c) x) (sym c.change_point-own.ensures)
-    (rowed_target c.args.arena.now (mid c) (change c.args.node) (kept c)
-    (change_rowed c.args.arena.now (mid c) c.args.node (r c) (kept c) c.requires.row.1 c.requires.row.2))
+    subst (λ (x : Point). IsTarget c.args.arena.now (mid (goal.at.connect-requires-clause-target c).After-set_stage) x) (sym c.change_point-own.ensures)
+    (rowed_target c.args.arena.now (mid (goal.at.connect-requires-clause-target c).After-set_stage) (change c.args.node) (kept (goal.at.connect-requires-clause-target c).After-set_stage)
+    (change_rowed c.args.arena.now (mid (goal.at.connect-requires-clause-target c).After-set_stage) c.args.node (r (goal.at.connect-requires-clause-target c).After-set_stage) (kept (goal.at.connect-requires-clause-target c).After-set_stage) c.requires.row.1 c.requires.row.2))
 
 -- ---- its change's link was asked for
 
 pub returns-in_err-connect : goal.returns-in_err-connect
 returns-in_err-connect c =
-    refusal_answers c.args.arena.now c.args.self.now (mid c) (main c.args.node) (change c.args.node) (owed c) (due c) c.connect.new.self
+    refusal_answers c.args.arena.now c.args.self.now (mid (goal.at.returns-in_err-connect c).After-set_stage) (main c.args.node) (change c.args.node) (owed (goal.at.returns-in_err-connect c).After-set_stage) (due (goal.at.returns-in_err-connect c).After-set_stage) c.connect.new.self
     c.from_residual.result c.in_err-connect.field-0.0 c.from_residual.ensures.1
     (rw (c.main_point-2.ensures, c.change_point-own.ensures) at c.in_err-connect.ensures)
 
@@ -103,15 +103,15 @@ returns c =
           let step = b.schedule.ensures.step in
           let marked : IsMarked con.graph next.graph (change n) = rw c.change_point-own.ensures at b.schedule.ensures.scheduled in
           let need = so.needed t in
-          let now = ap stage_in (rw c.main_point-2.ensures at (so.row t)) ∙ static c in
+          let now = ap stage_in (rw c.main_point-2.ensures at (so.row t)) ∙ static (goal.at.returns c).After-set_stage in
           answers_at arena old next _ (Some (hand (main n) [])) b.self-is
-          (then_answers arena old (mid c) (main n) (change n) (owed c) (due c) con on _ t next
-          (pair_waits arena n (r c) row.1 row.2 con next (rw c.main_point-2.ensures at need.0) (rw c.change_point-own.ensures at need.1) now marked
+          (then_answers arena old (mid (goal.at.returns c).After-set_stage) (main n) (change n) (owed (goal.at.returns c).After-set_stage) (due (goal.at.returns c).After-set_stage) con on _ t next
+          (pair_waits arena n (r (goal.at.returns c).After-set_stage) row.1 row.2 con next (rw c.main_point-2.ensures at need.0) (rw c.change_point-own.ensures at need.1) now marked
           rest)
           (marked_places (change n) con next marked rest)
-          (marked_kept (change n) con next marked rest arena (change_rowed arena con n (r c) so.kept row.1 row.2) step so.kept)
+          (marked_kept (change n) con next marked rest arena (change_rowed arena con n (r (goal.at.returns c).After-set_stage) so.kept row.1 row.2) step so.kept)
           (marked_grows (change n) con next marked rest so.kept.step step))
       | else-branch b ↦
           answers_at arena old con _ (Some (hand (main n) [])) b.self-is
-          (gone_answers arena old (mid c) (main n) (change n) (owed c) (due c) con on _ b.if-branch.false)
+          (gone_answers arena old (mid (goal.at.returns c).After-set_stage) (main n) (change n) (owed (goal.at.returns c).After-set_stage) (due (goal.at.returns c).After-set_stage) con on _ b.if-branch.false)
     ]

@@ -62,20 +62,20 @@ connect_each-requires c =
     let r = c.requires.row in
     let q = c.requires in record {
       main = c.in-Main-None.is-0;
-      row = (r.0, r.1, c.kids.ensures ∙ ap kids (sym r.2), one c);
+      row = (r.0, r.1, c.kids.ensures ∙ ap kids (sym r.2), one (goal.at.connect_each-requires c).After-set_stage);
       given = λ k among. kid_is_given arena.given c.args.def.now (subst (NamesGiven arena.given) r.2 (q.kept.sound.names p.node r.0 r.1)) k
           (subst (λ (xs : List NodeId). Among k xs) c.kids.ensures among);
       needed = q.needed;
-      full = full_in arena p r.0 r.1 (kid_links c) (kid_reads c) old q.needed q.lacking q.ran rows w q.there;
-      ran = full_ran arena p r.0 r.1 (kid_links c) (kid_reads c) old q.needed q.lacking q.ran rows w;
-      kept = full_kept arena p r.0 r.1 (kid_links c) (kid_reads c) old q.needed q.lacking q.ran rows w q.kept;
+      full = full_in arena p r.0 r.1 (kid_links (goal.at.connect_each-requires c).After-set_stage) (kid_reads (goal.at.connect_each-requires c).After-set_stage) old q.needed q.lacking q.ran rows w q.there;
+      ran = full_ran arena p r.0 r.1 (kid_links (goal.at.connect_each-requires c).After-set_stage) (kid_reads (goal.at.connect_each-requires c).After-set_stage) old q.needed q.lacking q.ran rows w;
+      kept = full_kept arena p r.0 r.1 (kid_links (goal.at.connect_each-requires c).After-set_stage) (kid_reads (goal.at.connect_each-requires c).After-set_stage) old q.needed q.lacking q.ran rows w q.kept;
     }
 
 pub returns-in-Main-None : goal.returns-in-Main-None
 returns-in-Main-None c =
     let new = c.connect_each.new.self in
-    owed_answers c.connect_each.result c.args.arena.now c.args.self.now (one_mid c) new c.args.p (kid_links c) (kids_owed c)
-    (subst (λ (xs : List NodeId). WireAnswers c.args.arena.now (one_mid c) new (Some (hand c.args.p (map main xs))) c.connect_each.result)
+    owed_answers c.connect_each.result c.args.arena.now c.args.self.now (one_mid (goal.at.returns-in-Main-None c).After-set_stage) new c.args.p (kid_links (goal.at.returns-in-Main-None c).After-set_stage) (kids_owed (goal.at.returns-in-Main-None c).After-set_stage)
+    (subst (λ (xs : List NodeId). WireAnswers c.args.arena.now (one_mid (goal.at.returns-in-Main-None c).After-set_stage) new (Some (hand c.args.p (map main xs))) c.connect_each.result)
     (c.kids.ensures ∙ ap kids (sym c.requires.row.2)) c.connect_each.ensures)
 
 -- ---- a main of a node of two points
@@ -131,26 +131,26 @@ connect-requires c =
     let p = c.args.p in
     let q = c.requires in record {
       needed = q.needed;
-      reader = inl (full_there arena p (r c) q.row.1 (link c ∷ []) (reads c) c.args.self.now q.needed q.lacking q.ran
+      reader = inl (full_there arena p (r (goal.at.connect-requires c).After-set_stage-in-Change-Some) q.row.1 (link (goal.at.connect-requires c).After-set_stage-in-Change-Some ∷ []) (reads (goal.at.connect-requires c).After-set_stage-in-Change-Some) c.args.self.now q.needed q.lacking q.ran
           c.set_stage-in-Change-Some.new.rows c.set_stage-in-Change-Some.ensures p ∙ q.there);
       spared = λ part. absurd (let e = part in let is = c.in-Change-Some.is-0 in cc);
-      target = subst (λ (x : Point). IsTarget arena (mid c) x) (sym c.main_point.ensures)
-          (main_is_target arena (mid c) (link c) (kept c)
-          (subject_is_given arena.given c.args.def.now (subst (NamesGiven arena.given) q.row.2 (q.kept.sound.names p.node (r c) q.row.1))
+      target = subst (λ (x : Point). IsTarget arena (mid (goal.at.connect-requires c).After-set_stage-in-Change-Some) x) (sym c.main_point.ensures)
+          (main_is_target arena (mid (goal.at.connect-requires c).After-set_stage-in-Change-Some) (link (goal.at.connect-requires c).After-set_stage-in-Change-Some) (kept (goal.at.connect-requires c).After-set_stage-in-Change-Some)
+          (subject_is_given arena.given c.args.def.now (subst (NamesGiven arena.given) q.row.2 (q.kept.sound.names p.node (r (goal.at.connect-requires c).After-set_stage-in-Change-Some) q.row.1))
           c.in-Change-Some.subject (sym c.in-Change-Some.ensures)) refl);
-      kept = kept c;
+      kept = kept (goal.at.connect-requires c).After-set_stage-in-Change-Some;
     }
 
 pub returns-in_err-_on-in-Change-Some : goal.returns-in_err-_on-in-Change-Some
 returns-in_err-_on-in-Change-Some c =
-    refusal_answers c.args.arena.now c.args.self.now (mid c) c.args.p (link c) (owed c) (due c) c.connect.new.self c.from_residual.result
+    refusal_answers c.args.arena.now c.args.self.now (mid (goal.at.returns-in_err-_on-in-Change-Some c).After-set_stage-in-Change-Some) c.args.p (link (goal.at.returns-in_err-_on-in-Change-Some c).After-set_stage-in-Change-Some) (owed (goal.at.returns-in_err-_on-in-Change-Some c).After-set_stage-in-Change-Some) (due (goal.at.returns-in_err-_on-in-Change-Some c).After-set_stage-in-Change-Some) c.connect.new.self c.from_residual.result
     c.in_err-_on-in-Change-Some.field-0.0 c.from_residual.ensures.1 (rw c.main_point.ensures at c.in_err-_on-in-Change-Some.ensures)
 
 pub returns-in_ok-_on-in-Change-Some : goal.returns-in_ok-_on-in-Change-Some
 returns-in_ok-_on-in-Change-Some c =
     let q = c.requires in
     let on = c.in_ok-_on-in-Change-Some.ensures in
-    link_answers c.args.arena.now c.args.self.now (mid c) c.args.p (link c) (owed c) (due c) c.connect.new.self _ c.in_ok-_on-in-Change-Some._on
+    link_answers c.args.arena.now c.args.self.now (mid (goal.at.returns-in_ok-_on-in-Change-Some c).After-set_stage-in-Change-Some) c.args.p (link (goal.at.returns-in_ok-_on-in-Change-Some c).After-set_stage-in-Change-Some) (owed (goal.at.returns-in_ok-_on-in-Change-Some c).After-set_stage-in-Change-Some) (due (goal.at.returns-in_ok-_on-in-Change-Some c).After-set_stage-in-Change-Some) c.connect.new.self _ c.in_ok-_on-in-Change-Some._on
     (rw c.main_point.ensures at on)
-    (λ t. full_wires c.args.arena.now c.connect.new.self c.args.p (ap stage_in (on.row t) ∙ full_in c.args.arena.now c.args.p (r c) q.row.1 (link c ∷ [])
-    (reads c) c.args.self.now q.needed q.lacking q.ran c.set_stage-in-Change-Some.new.rows c.set_stage-in-Change-Some.ensures q.there))
+    (λ t. full_wires c.args.arena.now c.connect.new.self c.args.p (ap stage_in (on.row t) ∙ full_in c.args.arena.now c.args.p (r (goal.at.returns-in_ok-_on-in-Change-Some c).After-set_stage-in-Change-Some) q.row.1 (link (goal.at.returns-in_ok-_on-in-Change-Some c).After-set_stage-in-Change-Some ∷ [])
+    (reads (goal.at.returns-in_ok-_on-in-Change-Some c).After-set_stage-in-Change-Some) c.args.self.now q.needed q.lacking q.ran c.set_stage-in-Change-Some.new.rows c.set_stage-in-Change-Some.ensures q.there))
