@@ -2,6 +2,7 @@
 
 use crate::bodies::Side;
 use crate::tables::Act;
+use crate::tests::{BROKEN_AS_FULL, FULL};
 use std_library::Function;
 
 /// A sum with the left value: built where the left changes alone.
@@ -502,6 +503,35 @@ const SIDES_THAT_CHANGE_PLACES: &[(Act, i64)] = &[
     (Act::Stabilize, -120),
 ];
 
+/// Two binds whose right sides take two nodes each, where three fit. That of the first is built anew in the room of the one
+/// before. That of the second adds a node, finds no room for the other, and the stabilize is refused as full: its build is
+/// counted with the id that it spent, and what was built before is there.
+const RIGHT_SIDE_WITHOUT_ROOM: &[(Act, i64)] = &[
+    (Act::Var(1), 0),
+    (Act::Bind(0, Side::NegLeft), 0),
+    (Act::Bind(0, Side::NegLeft), 0),
+    (Act::Fill(3), 0),
+    (Act::Observe(1), 0),
+    (Act::Stabilize, 1),
+    (Act::Show(0), -1),
+    (Act::Set(0, 2), 0),
+    (Act::Stabilize, 1),
+    (Act::Show(0), -2),
+    (Act::Builds, 2),
+    (Act::Adds, 4),
+    (Act::Grab(1), 1),
+    (Act::Observe(2), 0),
+    (Act::Stabilize, FULL),
+    (Act::Builds, 3),
+    (Act::Adds, 5),
+    (Act::Calls, 2),
+    (Act::Ran(3), 1),
+    (Act::Owner(3), 1),
+    (Act::Stabilize, BROKEN_AS_FULL),
+    (Act::Show(0), BROKEN_AS_FULL),
+    (Act::Constant(1), BROKEN_AS_FULL),
+];
+
 pub(crate) const BIND_TABLES: &[&[(Act, i64)]] = &[
     SUM,
     SUM_TURNED,
@@ -526,3 +556,6 @@ pub(crate) const BIND_TABLES: &[&[(Act, i64)]] = &[
     DEEP_RIGHT_SIDE,
     SIDES_THAT_CHANGE_PLACES,
 ];
+
+/// Those in which a graph fills up.
+pub(crate) const FULL_TABLES: &[&[(Act, i64)]] = &[RIGHT_SIDE_WITHOUT_ROOM];

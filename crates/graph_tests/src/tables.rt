@@ -28,6 +28,8 @@ pub(crate) enum Act {
     Fold(i64, usize, usize, usize),
     /// Makes the fold from a number on over no nodes.
     FoldNone(i64),
+    /// Makes constants that nothing reads, until so many nodes more fit. All that live must have been made or grabbed.
+    Fill(usize),
     /// Makes the negation of a node and the negation of that, and takes both back.
     TakeBack(usize),
     /// Makes a bind on a node.

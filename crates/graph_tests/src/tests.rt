@@ -1,6 +1,6 @@
 //! Acts on a graph, done in the order of their tables.
 
-use crate::bind_tables::BIND_TABLES;
+use crate::bind_tables::{BIND_TABLES, FULL_TABLES};
 use crate::binding::{NO_MEMORY, bind, bind_and_take_back, nested};
 use crate::tables::{Act, TABLES};
 use graph::{Cutoff, Graph, GraphFault, Kept, Refused, StabilizeFault};
@@ -8,6 +8,15 @@ use inc_value::{Base, NodeId, ObsId, Outcome, Ty, Value};
 use script_functions::ScriptFns;
 use std::alloc::Global;
 use std_library::{Function, StdLib};
+
+/// What a stabilize answers that is refused as full.
+pub(crate) const FULL: i64 = -122;
+
+/// What is answered of a graph whose stabilize was.
+pub(crate) const BROKEN_AS_FULL: i64 = -123;
+
+/// How many nodes may live at once.
+const MOST_NODES: usize = 1_048_576;
 
 /// A graph over the standard library.
 pub(crate) type Scripted = Graph<ScriptFns<StdLib>>;
@@ -17,6 +26,7 @@ pub(crate) fn code(fault: GraphFault) -> i64 {
     match fault {
         GraphFault::Broken(Kept::Height) => -101,
         GraphFault::Broken(Kept::Cycle) => -121,
+        GraphFault::Broken(Kept::Full) => BROKEN_AS_FULL,
         GraphFault::Broken(_) => -100,
         GraphFault::Unknown => -102,
         GraphFault::NotVar => -103,
@@ -71,6 +81,8 @@ fn refusal(fault: StabilizeFault) -> i64 {
         StabilizeFault::Broken(Kept::Height) => -101,
         StabilizeFault::Refused(Kept::Cycle) => -120,
         StabilizeFault::Broken(Kept::Cycle) => -121,
+        StabilizeFault::Refused(Kept::Full) => FULL,
+        StabilizeFault::Broken(Kept::Full) => BROKEN_AS_FULL,
         _ => -100,
     }
 }
@@ -209,6 +221,17 @@ fn chain(graph: &mut Scripted, nodes: &mut Vec<NodeId>, length: usize) -> i64 {
     worst.min(observed(graph, nth(nodes, length)))
 }
 
+/// Makes constants that nothing reads, until so many nodes more fit beside these.
+fn fill(graph: &mut Scripted, nodes: &[NodeId], room: usize) -> i64 {
+    for _ in nodes.len().saturating_add(room)..MOST_NODES {
+        match graph.constant(Value::Int(0)) {
+            Ok(_) => {}
+            Err(fault) => return code(fault),
+        }
+    }
+    0
+}
+
 /// Does an act that makes nodes.
 fn make(graph: &mut Scripted, nodes: &mut Vec<NodeId>, act: Act) -> i64 {
     match act {
@@ -236,6 +259,7 @@ fn make(graph: &mut Scripted, nodes: &mut Vec<NodeId>, act: Act) -> i64 {
             fold(graph, nodes, initial, &kids)
         }
         Act::FoldNone(initial) => fold(graph, nodes, initial, &[]),
+        Act::Fill(room) => fill(graph, nodes, room),
         Act::TakeBack(kid) => taken_back(graph, nodes, nth(nodes, kid)),
         _ => -113,
     }
@@ -369,5 +393,11 @@ fn acts_answer_their_numbers(rt: HostRuntime) {
 #[test]
 fn binds_answer_their_numbers(rt: HostRuntime) {
     let other = first_table(rt.alloc(), BIND_TABLES);
+    assert_eq!(rt; other, 0);
+}
+
+#[test]
+fn full_graphs_answer_their_numbers(rt: HostRuntime) {
+    let other = first_table(rt.alloc(), FULL_TABLES);
     assert_eq!(rt; other, 0);
 }
