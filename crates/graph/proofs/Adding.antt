@@ -3,7 +3,7 @@ use Rattle.std.proofs.Common.{◌≡◌, inl, inr, None, Some, Ok, Err, refl, sy
 use Rattle.std.specs.Prelude.{Result, IfOk, IfErr, OnErr, IsErrOf, ◌↔◌}
 use Rattle.graph.proofs.Faulting.{same_err}
 use Rattle.graph.specs.Effects.{top, Adds, KeepsAll, KeepsBesideGiven, IsAddFault, NamesUnknown, IsMistyped, HasNoRoom}
-use Rattle.graph.specs.Effects.{RefusesList, AnswersAdd, AnswersListed}
+use Rattle.graph.specs.Effects.{AnswersAdd}
 use Rattle.graph.specs.Fault.{of_add, kept_of}
 use Rattle.graph.specs.Standing.{Standing, IsUnbroken, IsBroken}
 use Rattle.graph.specs.declared.fault.GraphFault.{GraphFault}
@@ -137,13 +137,3 @@ module _ {F : Type 0} (s : Standing F) (def : Def) (ty : Ty) where
     adding = inl (cause, refl);
     err = keeps;
   })
-
-  -- a list isn't copied
-  pub answers_unlisted : (e : GraphFault) → RefusesList s e → AnswersListed s s def ty (Err e)
-  answers_unlisted e (inl (cause, broken, is)) = record { added = tt; err = keeps; exact = inl (answers_broken cause broken e is) }
-  answers_unlisted e (inr (whole, is)) = record { added = tt; err = keeps; exact = inr (whole, ap (λ (x : GraphFault). Err x) is) }
-
--- the list was copied
-pub answers_listed : {F : Type 0} (s t : Standing F) (def : Def) (ty : Ty) (answer : Result NodeId GraphFault) → AnswersAdd s t def ty answer
-    → AnswersListed s t def ty answer
-answers_listed s t def ty answer a = record { added = a.added; err = a.err; exact = inl a }
