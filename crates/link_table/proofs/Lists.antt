@@ -1,5 +1,5 @@
 -- Lists by place, and the tests of points.
-use Rattle.std.proofs.Common.{◌≡◌, ◌≢◌, ◌⊎◌, inl, inr, ◌∙◌, ℕ, zero, suc, ◌+◌, ◌-◌, ◌<◌, Bool, true, false, List, [], ◌∷◌, ◌++◌, length, swap_remove, refl, ap, sym, arith, rules}
+use Rattle.std.proofs.Common.{◌≡◌, ◌≢◌, ◌⊎◌, inl, inr, ◌∙◌, ℕ, zero, suc, ◌+◌, ◌-◌, ◌<◌, Bool, true, false, List, [], ◌∷◌, ◌++◌, length, swap_remove, refl, ap, sym, arith}
 use Rattle.std.specs.Prelude.{Option, None, Some, IfNone, IsTrue, IsFalse, ◌==◌, Result, Ok, Err, OnErr, slice_get, slice_set, slice_index_or, option_copied, map, sum_by}
 use Rattle.std.specs.Borrow.{Bor}
 use Rattle.std.specs.Slice.{IsItemAt}
@@ -15,7 +15,7 @@ use Rattle.link_table.specs.Links.{is_point, link}
 
 -- a fact that holds, also where there is an error
 pub on_err : {T E Q : Type 0} (r : Result T E) → Q → OnErr r Q
-on_err (Ok x) q = search rules
+on_err (Ok x) q = tt
 on_err (Err e) q = q
 
 -- a fact that holds, also where nothing is answered

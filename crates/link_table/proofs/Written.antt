@@ -1,6 +1,6 @@
 -- What a write to the row of a point leaves.
 use Rattle.std.proofs.Common.{◌≡◌, ◌≢◌, ◌∙◌, ℕ, ◌<◌, List, [], ◌∷◌, ◌++◌, length, refl, ap, sym, inl, inr, arith}
-use Rattle.std.specs.Prelude.{Option, Some, slice_set, slice_index_or, swap_remove}
+use Rattle.std.specs.Prelude.{Option, Some, None, slice_set, slice_index_or, swap_remove}
 use Rattle.std.specs.List.{refill}
 use Rattle.std.proofs.lemmas.List.{length-set}
 use Rattle.std.proofs.lemmas.Option.{slice_get-get_or}
@@ -103,3 +103,38 @@ set_row_some old p i e was row there items within =
     let full = items ∙ refill_all was.items (slice_set was.items i e) (length-set was.items i e) in
     let l = ap length full in let k = length-set was.items i e in let w = ap length (ends_of_row old p was there) in
     omega (arith, l, k, w, within)
+
+-- an empty row is taken off, and every point keeps its ends
+pub closed_kept : (old new : EndLists) (p : Point) → ends_at old p ≡ [] → Changes old.rows new.rows p None → KeepsEnds old new
+closed_kept old new p none c x = elim (point_cases x p) [
+  | inl at_p ↦ rw at_p (ap row_ends c.changed ∙ sym none)
+  | inr other ↦ ends_kept old new p None c x other
+]
+
+pub closed_tight : (old new : EndLists) (p : Point) → Changes old.rows new.rows p None
+    → ((x : Point) → x ≢ p → ends_at old x ≡ [] → at old.rows x ≡ None) → HasNoEmptyRow new
+closed_tight old new p c tight x none = elim (point_cases x p) [
+  | inl at_p ↦ rw at_p c.changed
+  | inr other ↦ c.others x other ∙ tight x other (sym (ends_kept old new p None c x other) ∙ none)
+]
+
+-- a row that is not empty stays
+pub open_tight : (old : EndLists) (p : Point) → ends_at old p ≢ [] → ((x : Point) → x ≢ p → ends_at old x ≡ [] → at old.rows x ≡ None)
+    → HasNoEmptyRow old
+open_tight old p some tight x none = elim (point_cases x p) [
+  | inl at_p ↦ absurd (some (rw at_p at none))
+  | inr other ↦ tight x other none
+]
+
+-- the row of one point was written, and what had ends has its row
+pub others_tight : (old new : EndLists) (p : Point) → ((x : Point) → x ≢ p → at new.rows x ≡ at old.rows x) → HasNoEmptyRow old
+    → (x : Point) → x ≢ p → ends_at new x ≡ [] → at new.rows x ≡ None
+others_tight old new p others tight x other none = others x other ∙ tight x (sym (ap row_ends (others x other)) ∙ none)
+
+-- an end was taken, and then every point keeps its ends
+pub taken_closed : (old mid new : EndLists) (p : Point) (i : ℕ) (e : End) → EndIsTaken old mid p i e → KeepsEnds mid new → EndIsTaken old new p i e
+taken_closed old mid new p i e t kept = record {
+  was = t.was;
+  changed = kept p ∙ t.changed;
+  others = λ x other. kept x ∙ t.others x other;
+}

@@ -97,9 +97,7 @@ impl EndLists {
         ensures tight { HasNoEmptyRow self.old → HasNoEmptyRow self.new }
     {
         let taken = self.take_at(p, i);
-        if taken.was_only {
-            self.rows.remove(p);
-        }
+        self.close(p, taken.was_only);
         taken
     }
 
@@ -111,10 +109,10 @@ impl EndLists {
         ensures unchanged { IfNone result (self.new ≡ self.old) }
         ensures tight { HasNoEmptyRow self.new }
     {
-        let taken = self.pop_last(p)?;
-        if taken.was_only {
-            self.rows.remove(p);
-        }
+        let Some(taken) = self.pop_last(p) else {
+            return None;
+        };
+        self.close(p, taken.was_only);
         Some(taken.end)
     }
 
@@ -178,5 +176,18 @@ impl EndLists {
             moved: None,
             was_only: row.is_empty(),
         })
+    }
+
+    // Takes the row of a point off if it is empty. Every point keeps its ends.
+    fn close(&mut self, p: Point, is_empty: bool)
+        requires there { Holds self.old.rows p }
+        requires empty { IsTrue is_empty → ends_at self.old p ≡ [] }
+        requires filled { IsFalse is_empty → ends_at self.old p ≢ [] }
+        ensures kept { KeepsEnds self.old self.new }
+        ensures tight { ((x : Point) → x ≢ p → ends_at self.old x ≡ [] → at self.old.rows x ≡ None) → HasNoEmptyRow self.new }
+    {
+        if is_empty {
+            self.rows.remove(p);
+        }
     }
 }

@@ -3,7 +3,7 @@
 use inc_value::Point;
 
 /// One link: `reader` reads `kid`.
-#[derive(Clone, Copy, PartialEq, Eq)]
+#[derive(Clone, Copy)]
 pub struct Link {
     pub reader: Point,
     pub kid: Point,

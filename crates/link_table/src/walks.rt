@@ -4,13 +4,13 @@ use crate::ends::End;
 use inc_value::Point;
 
 /// The points that a point reads, each once for each link. From [`LinkTable::kids`](crate::LinkTable::kids).
-#[derive(Clone, Drop)]
+#[derive(Drop)]
 pub struct Kids<'a> {
     pub(crate) ends: &'a [End],
 }
 
 /// The readers of a point, each once for each link. From [`LinkTable::readers`](crate::LinkTable::readers).
-#[derive(Clone, Drop)]
+#[derive(Drop)]
 pub struct Readers<'a> {
     pub(crate) ends: &'a [End],
 }

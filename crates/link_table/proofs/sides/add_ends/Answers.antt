@@ -1,7 +1,12 @@
-use Rattle.std.proofs.Common.{length, ap}
+use Rattle.std.proofs.Common.{length, refl, ap}
+use Rattle.link_table.proofs.Places.{put_with}
 use Rattle.link_table.proofs.Put.{two_way_more, two_way_kept}
 use Rattle.link_table.proofs.Taking.{put_and_taken}
 use Rattle.link_table.proofs.sides.add_ends.Goals as goal
+
+pub returns-in_err-push-clause-two_way : goal.returns-in_err-push-clause-two_way
+returns-in_err-push-clause-two_way c =
+    two_way_kept c.args.kids.now c.args.readers.now c.push.new.self c.args.readers.now c.in_err-push.ensures.err (λ x. refl) c.requires.two_way
 
 pub returns-in-Err-clause-two_way : goal.returns-in-Err-clause-two_way
 returns-in-Err-clause-two_way c =
@@ -23,3 +28,6 @@ returns-clause-two_way c =
       this_last = ap length c.of-i.ensures;
       that_last = ap length c.of-back.ensures;
     }) c.requires.two_way
+
+pub returns-clause-added : goal.returns-clause-added
+returns-clause-added c = put_with c.args.kids.now c.push.new.self c.args.p _ c.in_ok-push.ensures.more
