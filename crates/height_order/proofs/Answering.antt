@@ -197,6 +197,35 @@ module _ (links : Links) (none first both : Rows ℕ) (p q : Point) (n m : ℕ) 
       by (inl leads) = leads_there heights links p x ends hp leads
       by (inr leads) = leads_there heights links q x ends hq leads
 
+module _ {E : Type 0} (old : Rows ℕ) (links : Links) (lifts : Rows Lift) (before : List Point) where
+  -- there is no memory, so heights stay
+  pub fitted_memory : (new : Rows ℕ) (after : List Point) (e : E) → new ≡ old → after ≡ before → KeepsPoints old new
+      → Tells (level old) (level new) before after → IsFitted {E = E} old new links lifts before after (Err e)
+  fitted_memory new after e same untold kept moved = record {
+    sound = tt;
+    chain = tt;
+    chain_length = tt;
+    kept = tt;
+    err = (same, untold);
+    points = kept;
+    near = λ x differs. absurd (differs (ap (λ m. level m x) same));
+    moved = moved;
+  }
+
+  -- a chain is too long, so heights stay
+  pub fitted_chain : (list : Vec Point) → IsChain (Reads links) list.items → length list.items ≡ 130
+      → IsFitted {E = E} old old links lifts before before (Ok (Some list))
+  fitted_chain list chain long = record {
+    sound = tt;
+    chain = chain;
+    chain_length = long;
+    kept = (refl, refl);
+    err = tt;
+    points = λ x. refl;
+    near = λ x differs. absurd (differs refl);
+    moved = tells_none (level old) (level old) before (λ x. refl);
+  }
+
 -- lifted points are levelled, and fit
 pub fitted_told : {E : Type 0} (old levels new : Rows ℕ) (links : Links) (lifts : Rows Lift) (before after : List Point)
     → AreLevels links (bound old lifts) levels → ((x : Point) → level new x ≡ levelled old levels x) → IsRanked (Reads links) old lifts → ((x : Point) → Holds lifts x → Holds levels x)

@@ -373,6 +373,15 @@ module _ (heights : Rows ℕ) (links : Links) (p q : Point) (sound : IsSound hei
     waiting = so.waiting;
   }
 
+-- a point that isn't lifted isn't in the queue
+pub not_queued : (heights : Rows ℕ) (links : Links) (p q : Point) (lifts : Rows Lift) (queue : Rows ℕ) (b : ℕ) (x : Point) (left : List Point)
+    → IsClimbing heights links p q lifts queue b x left → (y : Point) → at lifts y ≡ None → at queue y ≡ None
+not_queued heights links p q lifts queue b x left so y none = by (there_cases queue y)
+  where
+    by : (at queue y ≡ None) ⊎ Holds queue y → at queue y ≡ None
+    by (inl out) = out
+    by (inr there) = let r = row_there queue y there in absurd (not_both (at lifts y) none (so.queued y r.0 r.1).1)
+
 was_asked : (links : Links) (p q : Point) (lifts : Rows Lift) (x k : Point) → IsAsked links p q lifts x k → x ≢ p → Reads links x k × Holds lifts k
 was_asked links p q lifts x k (inl new) other = absurd (other new.0)
 was_asked links p q lifts x k (inr w) other = w

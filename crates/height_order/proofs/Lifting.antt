@@ -22,6 +22,11 @@ module _ (heights : Rows ℕ) where
   pub lifted_other : (old new : Rows Lift) (r y : Point) (l : Lift) → Changes old new r (Some l) → y ≢ r → lifted heights new y ≡ lifted heights old y
   lifted_other old new r y l c differs = ap (lifted_from (level heights y)) (c.others y differs)
 
+  -- over other heights too
+  pub lifted_alike : (now : Rows ℕ) (lifts : Rows Lift) (x : Point) → Holds lifts x → lifted now lifts x ≡ lifted heights lifts x
+  lifted_alike now lifts x there =
+      let r = row_there lifts x there in ap (lifted_from (level now x)) r.1 ∙ sym (lifted_some lifts x r.0 r.1)
+
   not_under_by : (lifts : Rows Lift) (x : Point) → ((y : Point) (l : Lift) → at lifts y ≡ Some l → level heights y < l.height) → (at lifts x ≡ None) ⊎ Holds lifts x
       → level heights x ≤ lifted heights lifts x
   not_under_by lifts x more (inl none) = let e = lifted_none lifts x none in omega (arith, e)

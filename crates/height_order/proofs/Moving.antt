@@ -1,10 +1,10 @@
 -- Lists of the points of a walk.
-use Rattle.std.proofs.Common.{◌≡◌, ℕ, ◌≤◌, List, inl, inr}
+use Rattle.std.proofs.Common.{◌≡◌, ◌∙◌, ℕ, ◌≤◌, List, ◌++◌, sym, inl, inr}
 use Rattle.std.specs.Prelude.{◌⊎◌, None}
 use Rattle.inc_value.specs.declared.node.Point.{Point}
 use Rattle.point_map.specs.Rows.{Rows, at, Holds, IsWalk}
 use Rattle.height_order.specs.declared.lifts.Lift.{Lift}
-use Rattle.height_order.specs.Levels.{level, levelled, IsMoved}
+use Rattle.height_order.specs.Levels.{level, levelled, IsMoved, Tells}
 use Rattle.height_order.specs.Climbs.{AreAll}
 use Rattle.height_order.proofs.Levelling.{IsOff, levelled_none}
 use Rattle.height_order.proofs.Points.{there_cases}
@@ -22,6 +22,19 @@ moved_whole heights levels list n i walk end so = record {
   changed = so.chosen;
   every = λ p differs. every_by heights levels p
       (λ there. gathers_whole levels (IsOff heights levels) list n i walk end so p there differs) differs (there_cases levels p);
+}
+
+-- the list was appended, and heights were written
+pub told_written : (heights levels new : Rows ℕ) (before after list : List Point) → IsMoved (level heights) (levelled heights levels) list
+    → ((p : Point) → level new p ≡ levelled heights levels p) → after ≡ before ++ list → Tells (level heights) (level new) before after
+told_written heights levels new before after list moved written appended = record {
+  list = list;
+  appended = appended;
+  moved = record {
+    once = moved.once;
+    changed = λ p has same. moved.changed p has (sym (written p) ∙ same);
+    every = λ p differs. moved.every p (λ same. differs (written p ∙ same));
+  };
 }
 
 -- all points of the map

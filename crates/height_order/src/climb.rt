@@ -66,21 +66,44 @@ pub fn climb(
     ensures path { IfOk result (λ o. IfSome o (λ list. IsPath (Reads links.now) list.items new.kid new.reader)) }
     ensures climbed { IfOk result (λ o. IfNone o (IsClimbed heights.now links.now new.reader new.kid lifts.new)) }
 {
-    let mut list = Vec::new(alloc);
-    list.push(new.kid)?;
+    let mut path = Vec::new(alloc);
+    match find_path(links, heights, new, lifts, queue, &mut path) {
+        Ok(true) => Ok(Some(path)),
+        Ok(false) => Ok(None),
+        Err(e) => Err(e),
+    }
+}
+
+/// Does so, and appends the path to an empty list. Whether there is one.
+fn find_path(
+    links: &LinkTable,
+    heights: &PointMap<u32>,
+    new: Link,
+    lifts: &mut PointMap<Lift>,
+    queue: &mut ClimbQueue,
+    path: &mut Vec<Point>,
+) -> Result<bool, AllocError>
+    requires sound { IsSound heights.now links.now }
+    requires reader { Holds heights.now new.reader }
+    requires none { lifts.old.places ≡ [] }
+    requires empty { path.old.items ≡ [] }
+    ensures path { IfOk result (λ found. IsTrue found → IsPath (Reads links.now) path.new.items new.kid new.reader) }
+    ensures climbed { IfOk result (λ found. IsFalse found → IsClimbed heights.now links.now new.reader new.kid lifts.new) }
+{
+    path.push(new.kid)?;
     if new.reader == new.kid {
-        return Ok(Some(list));
+        return Ok(true);
     }
     let Some(met) = lift_all(links, heights, new, lifts, queue)? else {
-        return Ok(None);
+        return Ok(false);
     };
     let mut last = met;
-    list.push(last)?;
+    path.push(last)?;
     while last != new.reader {
         last = lifts.get(last).unwrap().kid;
-        list.push(last)?;
+        path.push(last)?;
     }
-    Ok(Some(list))
+    Ok(true)
 }
 
 /// Lifts the new link's reader above its kid, and then readers above what they read, until heights rise or a
@@ -182,7 +205,7 @@ fn lift_above(
 {
     let height = lifted_level(heights, lifts, kid).min(128) + 1;
     if lifted_level(heights, lifts, reader) < height {
-        lift(heights, lifts, queue, reader, Lift { height, kid })?;
+        return lift(heights, lifts, queue, reader, Lift { height, kid });
     }
     Ok(())
 }

@@ -16,7 +16,7 @@ use std::alloc::{AllocError, Global};
 use std::marker::Model;
 
 /// Why a link isn't made.
-#[derive(Debug, Drop)]
+#[derive(Drop)]
 pub enum LinkFault {
     /// The kid leads to the reader already: these points, from the kid to the reader, each reading the next.
     Path(Vec<Point>),

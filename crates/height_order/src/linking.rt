@@ -68,14 +68,35 @@ fn link_climbing(
         new.reader new.kid moved.old.items moved.new.items result }
 {
     match climb(alloc, links, heights, new, lifts, queue) {
-        Ok(None) => {}
-        Ok(Some(path)) => return Err(LinkFault::Path(path)),
-        Err(AllocError) => return Err(LinkFault::Memory),
+        Ok(None) => link_climbed(alloc, heights, links, new, lifts, moved),
+        Ok(Some(path)) => Err(LinkFault::Path(path)),
+        Err(AllocError) => Err(LinkFault::Memory),
     }
-    if too_high(heights, lifts).is_some() {
-        return link_levelled(alloc, heights, links, new, lifts, moved);
+}
+
+/// Makes the link over what a climb lifted.
+fn link_climbed(
+    alloc: Global,
+    heights: &mut PointMap<u32>,
+    links: &mut LinkTable,
+    new: Link,
+    lifts: &PointMap<Lift>,
+    moved: &mut Vec<Point>,
+) -> Result<(), LinkFault>
+    requires sound { IsSound heights.old links.old }
+    requires reader { Holds heights.old new.reader }
+    requires kid { Holds heights.old new.kid }
+    requires not_higher { level heights.old new.reader ≤ level heights.old new.kid }
+    requires climbed { IsClimbed heights.old links.old new.reader new.kid lifts.now }
+    ensures sound { IsSound heights.new links.new }
+    ensures answer { IsLinkAnswer (record { heights = heights.old; links = links.old })
+        (record { heights = heights.new; links = links.new })
+        new.reader new.kid moved.old.items moved.new.items result }
+{
+    match too_high(heights, lifts) {
+        Some(_) => link_levelled(alloc, heights, links, new, lifts, moved),
+        None => link_lifted(alloc, heights, links, new, lifts, moved),
     }
-    link_lifted(alloc, heights, links, new, lifts, moved)
 }
 
 /// Makes the link where lifted heights fit.
@@ -186,13 +207,20 @@ fn fit_levels(
     requires none { levels.old.places ≡ [] }
     ensures { IsFitted heights.old heights.new links.now lifts.now moved.old.items moved.new.items result }
 {
-    level_each(links, heights, lifts, levels, 257)?;
-    if let Some(top) = too_long(levels) {
-        let chain = long_chain(alloc, links, levels, top)?;
-        return Ok(Some(chain));
+    match level_each(links, heights, lifts, levels, 257) {
+        Ok(()) => {}
+        Err(e) => return Err(e),
     }
-    adopt(alloc, heights, levels, moved)?;
-    Ok(None)
+    if let Some(top) = too_long(levels) {
+        return match long_chain(alloc, links, levels, top) {
+            Ok(chain) => Ok(Some(chain)),
+            Err(e) => Err(e),
+        };
+    }
+    match adopt(alloc, heights, levels, moved) {
+        Ok(()) => Ok(None),
+        Err(e) => Err(e),
+    }
 }
 
 /// Levels a link's two ends and all that they lead to, and tells which heights changed. Without memory

@@ -4,7 +4,7 @@ use Rattle.link_table.specs.Links.{Reads}
 use Rattle.height_order.specs.Chains.{IsPath}
 use Rattle.height_order.proofs.Chaining.{path_push}
 use Rattle.height_order.proofs.Climbing.{asked_step}
-use Rattle.height_order.proofs.climb.climb.Goals as goal
+use Rattle.height_order.proofs.climb.find_path.Goals as goal
 
 pub loop-new-smaller : goal.loop-new-smaller
 loop-new-smaller c =
@@ -23,12 +23,12 @@ loop-new-preserved c =
     let step = asked_step c.args.links.now c.args.new.reader c.args.new.kid c.lift_all.new.lifts c.loop-new.last c.unwrap.result.now c.in_ok-met.ensures.asked e other in
     record {
       path = subst (λ xs. IsPath (Reads c.args.links.now) xs c.args.new.kid next) (sym c.in_ok-push-3.ensures.items)
-          (path_push (Reads c.args.links.now) c.loop-new.list.items c.args.new.kid c.loop-new.last next so.path step.0);
+          (path_push (Reads c.args.links.now) c.loop-new.path.items c.args.new.kid c.loop-new.last next so.path step.0);
       lifted = step.1;
     }
 
 pub returns-clause-path : goal.returns-clause-path
-returns-clause-path c =
+returns-clause-path c _ =
     let so = c.loop-new.invariant in
     let same : c.loop-new.last ≡ c.args.new.reader = search rules in
-    subst (IsPath (Reads c.args.links.now) c.loop-new.list.items c.args.new.kid) same so.path
+    subst (IsPath (Reads c.args.links.now) c.loop-new.path.items c.args.new.kid) same so.path

@@ -2,11 +2,11 @@ use Rattle.point_map.specs.Rows.{Holds}
 use Rattle.link_table.specs.Links.{Reads}
 use Rattle.height_order.specs.Chains.{IsPath}
 use Rattle.height_order.specs.Levels.{level}
-use Rattle.height_order.proofs.climb.climb.Given as goal
+use Rattle.height_order.proofs.climb.find_path.Given as goal
 
 abbrev pub invariant-loop-new : goal.invariant-loop-new
 invariant-loop-new l = record {
-  path : IsPath (Reads l.links) l.list.items l.new.kid l.last;
+  path : IsPath (Reads l.links) l.path.items l.new.kid l.last;
   lifted : Holds l.lifts l.last;
 }
 

@@ -7,7 +7,7 @@ use Rattle.link_table.specs.Walks.{readers_left}
 use Rattle.height_order.specs.Levels.{level}
 use Rattle.height_order.specs.Climbs.{IsClimbing}
 use Rattle.height_order.proofs.Covering.{Occurs, occurs_first, occurs_later, among_readers}
-use Rattle.height_order.proofs.Climbing.{climbing_next}
+use Rattle.height_order.proofs.Climbing.{climbing_next, not_queued}
 use Rattle.height_order.proofs.climb.lift_readers.Goals as goal
 
 pub loop-reader-init : goal.loop-reader-init
@@ -29,6 +29,20 @@ returns-then-eq-clause-met c _ =
     let same : c.in-Some.reader ≡ c.args.new.kid = search rules in
     subst (λ r. Reads c.args.links.now r x) same (among c.in-Some.reader (occurs_first c.in-Some.reader (readers_left c.next.new.self)))
 
+pub returns-then-eq-clause-asked : goal.returns-then-eq-clause-asked
+returns-then-eq-clause-asked c = c.loop-reader.invariant.climbing.asked
+
+pub returns-then-eq-clause-kept : goal.returns-then-eq-clause-kept
+returns-then-eq-clause-kept c = c.loop-reader.invariant.kept
+
+pub lift_above-requires-clause-low : goal.lift_above-requires-clause-low
+lift_above-requires-clause-low c = c.requires.sound.low c.in-Some.reader
+
+pub lift_above-requires-clause-fresh : goal.lift_above-requires-clause-fresh
+lift_above-requires-clause-fresh c =
+    not_queued c.args.heights.now c.args.links.now c.args.new.reader c.args.new.kid c.loop-reader.lifts c.loop-reader.queue
+    (level c.args.heights.now c.args.x) c.args.x (readers_left c.loop-reader.reader-iterator) c.loop-reader.invariant.climbing c.in-Some.reader
+
 pub loop-reader-preserved : goal.loop-reader-preserved
 loop-reader-preserved c =
     let x = c.args.x in
@@ -47,3 +61,14 @@ loop-reader-preserved c =
       among = λ r h. among r (occurs_later reader r rest h);
       kept = λ y d. next.1 y (so.kept y d);
     }
+
+pub returns-clause-climbing : goal.returns-clause-climbing
+returns-clause-climbing c _ =
+    subst (IsClimbing c.args.heights.now c.args.links.now c.args.new.reader c.args.new.kid c.loop-reader.lifts c.loop-reader.queue
+    (level c.args.heights.now c.args.x) c.args.x) c.in-None.ensures.steps.0 c.loop-reader.invariant.climbing
+
+pub returns-clause-asked : goal.returns-clause-asked
+returns-clause-asked c = c.loop-reader.invariant.climbing.asked
+
+pub returns-clause-kept : goal.returns-clause-kept
+returns-clause-kept c = c.loop-reader.invariant.kept

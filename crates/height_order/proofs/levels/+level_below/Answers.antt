@@ -5,8 +5,12 @@ use Rattle.height_order.specs.Levels.{bound}
 use Rattle.height_order.proofs.Covering.{kids_cover, occurs_first}
 use Rattle.height_order.proofs.Points.{none_found}
 use Rattle.height_order.proofs.Chaining.{shorter, some_link}
-use Rattle.height_order.proofs.Levelling.{IsUnder, LevelsKids, is_greater, first_greater, kids_none, kids_start, kids_pass, kids_more, kid_low, level_more, level_adds}
+use Rattle.height_order.proofs.Levelling.{IsUnder, LevelsKids, is_greater, first_greater, kids_none, kids_start, kids_pass, kids_more, kid_low, level_more, level_adds, adds_none}
 use Rattle.height_order.proofs.levels.+level_below.Goals as goal
+
+-- a level that is kept
+pub returns-in-Some-clause-adds : goal.returns-in-Some-clause-adds
+returns-in-Some-clause-adds g t c = adds_none c.args.links.now c.args.levels.now c.args.p
 
 -- no kid
 pub add_at-requires : goal.add_at-requires
@@ -29,6 +33,9 @@ returns-in_default-highest_kid-clause-adds g t c =
     level_adds links bounds c.args.levels.now c.args.levels.now c.args.p c.args.most 0 c.requires.bounds
     (kids_none links bounds c.args.levels.now c.args.p c.args.most c.requires.levels absent c.in_default-highest_kid.ensures.none) c.add_at.new.heights
     c.in_ok-add_at.ensures.added
+
+pub returns-in_default-highest_kid-clause-level : goal.returns-in_default-highest_kid-clause-level
+returns-in_default-highest_kid-clause-level g t c = c.in_ok-add_at.ensures.added.changed
 
 -- the kid of greatest bound
 pub overflow_sub-most : goal.overflow_sub-most
@@ -134,3 +141,6 @@ returns-clause-adds g t c =
     let so = subst (LevelsKids links bounds c.args.levels.now c.loop-kid.levels c.args.p c.args.most c.loop-kid.level) c.in-None.ensures.steps.0 c.loop-kid.invariant in
     level_adds links bounds c.args.levels.now c.loop-kid.levels c.args.p c.args.most c.loop-kid.level c.requires.bounds so c.add_at-2.new.heights
     c.in_ok-add_at-2.ensures.added
+
+pub returns-clause-level : goal.returns-clause-level
+returns-clause-level g t c = c.in_ok-add_at-2.ensures.added.changed

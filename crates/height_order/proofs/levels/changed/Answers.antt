@@ -1,5 +1,4 @@
-use Rattle.std.proofs.Common.{◌+◌, sym, subst, arith, rules}
-use Rattle.std.proofs.lemmas.Grind.{common_steps}
+use Rattle.std.proofs.Common.{◌+◌, ◌∙◌, sym, subst, arith}
 use Rattle.height_order.proofs.Levelling.{IsOff, levelled_there}
 use Rattle.height_order.proofs.Walking.{Gathers, gathers_none, gathers_more, gathers_skip, gathers_vacant, stands_there}
 use Rattle.height_order.proofs.Moving.{moved_whole}
@@ -11,7 +10,7 @@ loop-i-init c = rw c.new-list.ensures.items (gathers_none c.args.levels.now (IsO
 pub loop-i-preserved-in_default : goal.loop-i-preserved-in_default
 loop-i-preserved-in_default c =
     gathers_vacant c.args.levels.now (IsOff c.args.heights.now c.args.levels.now) c.loop-i.list.items c.loop-i.i c.loop-i.invariant
-    (let e = c.point_at.ensures in let k = c.in_default.is in first_of (cc, grind (arith, common_steps), search rules))
+    (sym c.point_at.ensures ∙ c.in_default.is)
 
 pub loop-i-preserved-then-level_of : goal.loop-i-preserved-then-level_of
 loop-i-preserved-then-level_of c =

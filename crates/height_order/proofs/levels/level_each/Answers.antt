@@ -1,9 +1,25 @@
-use Rattle.std.proofs.Common.{sym}
+use Rattle.std.proofs.Common.{◌∙◌, sym, inl, arith}
 use Rattle.point_map.specs.Rows.{at, Holds}
 use Rattle.height_order.proofs.Points.{some_there}
-use Rattle.height_order.proofs.Walking.{each_point, each_whole, stands_there}
+use Rattle.height_order.proofs.Walking.{each_point, each_vacant, each_whole, stands_there}
 use Rattle.height_order.proofs.Levelling.{below_more, stays_there}
 use Rattle.height_order.proofs.levels.level_each.Goals as goal
+
+pub loop-i-init : goal.loop-i-init
+loop-i-init g c = record {
+  levels_so = c.requires.levels;
+  each = λ k q less. absurd (omega (arith, less));
+  below = λ x there. inl there;
+}
+
+pub loop-i-preserved-in_default : goal.loop-i-preserved-in_default
+loop-i-preserved-in_default g c =
+    let so = c.loop-i.invariant in
+    record {
+      levels_so = so.levels_so;
+      each = each_vacant c.args.points.now (λ q. Holds c.loop-i.levels q) c.loop-i.i so.each (sym c.point_at.ensures ∙ c.in_default.is);
+      below = so.below;
+    }
 
 pub loop-i-preserved : goal.loop-i-preserved
 loop-i-preserved g c =
@@ -23,3 +39,9 @@ loop-i-preserved g c =
 pub returns-clause-each : goal.returns-clause-each
 returns-clause-each g c =
     each_whole c.args.points.now (λ q. Holds c.loop-i.levels q) c.places-i-end.result c.loop-i.i c.places-i-end.ensures c.loop-i-test.false c.loop-i.invariant.each
+
+pub returns-clause-levels : goal.returns-clause-levels
+returns-clause-levels g c = c.loop-i.invariant.levels_so
+
+pub returns-clause-below : goal.returns-clause-below
+returns-clause-below g c = c.loop-i.invariant.below

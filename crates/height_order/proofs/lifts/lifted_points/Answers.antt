@@ -1,5 +1,4 @@
-use Rattle.std.proofs.Common.{◌+◌, sym, subst, arith, rules}
-use Rattle.std.proofs.lemmas.Grind.{common_steps}
+use Rattle.std.proofs.Common.{◌+◌, ◌∙◌, sym, subst}
 use Rattle.height_order.proofs.Walking.{Gathers, gathers_none, gathers_more, gathers_vacant}
 use Rattle.height_order.proofs.Moving.{all_whole}
 use Rattle.height_order.proofs.lifts.lifted_points.Goals as goal
@@ -10,7 +9,7 @@ loop-i-init c = rw c.new-list.ensures.items (gathers_none c.args.lifts.now (λ _
 pub loop-i-preserved-in_default : goal.loop-i-preserved-in_default
 loop-i-preserved-in_default c =
     gathers_vacant c.args.lifts.now (λ _. Unit {0}) c.loop-i.list.items c.loop-i.i c.loop-i.invariant
-    (let e = c.point_at.ensures in let k = c.in_default.is in first_of (cc, grind (arith, common_steps), search rules))
+    (sym c.point_at.ensures ∙ c.in_default.is)
 
 pub loop-i-preserved : goal.loop-i-preserved
 loop-i-preserved c =
