@@ -1,8 +1,10 @@
 -- What a change keeps of a sound state.
 use Rattle.std.proofs.Common.{◌≡◌, ◌≢◌, ◌∙◌, inl, inr, ℕ, ◌+◌, ◌<◌, ◌≤◌, Bool, true, false, List, Option, Some, None, IsSome, unwrap_or, [], ◌∷◌, length, refl, sym, ap, arith}
 use Rattle.std.specs.Prelude.{Result, Ok, Err, OnErr}
+use Rattle.std.specs.Option.{SomeIff}
 use Rattle.std.proofs.lemmas.List.Sums.{count_by-le-length}
 use Rattle.std.proofs.lemmas.Bool.Decides.{nat_tests}
+use Rattle.std.proofs.lemmas.Option.{none-some, same_Some}
 use Rattle.inc_value.specs.declared.node.Point.{Point}
 use Rattle.point_map.specs.Rows.{Rows, at, Holds, KeepsRows, Changes}
 use Rattle.link_table.specs.Links.{Links, KeepsLinks, OneLinkMore}
@@ -13,6 +15,11 @@ use Rattle.necessity.proofs.Turning.{same_need, row_need}
 use Rattle.necessity.proofs.Starts.{rest_moves, rest_turns, root_stays, root_turns, rest_kept, length_kept, reads_split, attach_stays, attach_turns, attach_room, detach_stays, detach_turns, detach_room}
 use Rattle.necessity.proofs.Reaching.{roots_seen, acyclic_kept}
 use Rattle.necessity.proofs.Idle.{idle_kept}
+
+-- a sum that fits is that sum
+pub one_more : (x : Option ℕ) (P : Type 0) (v y : ℕ) → SomeIff x P v → x ≡ Some y → y ≡ v
+one_more None P v y s e = absurd (none-some y e)
+one_more (Some z) P v y s e = sym (same_Some z y e) ∙ s.1
 
 pub needs_of_rows : (m new : Rows Need) → KeepsRows m new → (k : Point) → need_at new k ≡ need_at m k
 needs_of_rows m new kept k = same_need m new k (kept k)

@@ -11,7 +11,7 @@ pub enum Turn {
 }
 
 /// How often a point is a root, and how many links lead `by` needed readers to it.
-#[derive(Clone, Copy, PartialEq, Eq)]
+#[derive(Clone, Copy)]
 pub struct Need {
     pub roots: usize,
     pub by: usize,

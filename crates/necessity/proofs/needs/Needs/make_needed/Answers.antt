@@ -1,14 +1,13 @@
 use Rattle.std.proofs.Common.{◌≡◌, ◌∙◌, ◌+◌, [], ◌∷◌, ◌++◌, true, refl, ap, sym, subst, arith}
-use Rattle.std.proofs.lemmas.Grind.{common_steps}
 use Rattle.necessity.specs.declared.need.Need.{Need}
 use Rattle.necessity.specs.Counting.{IsUnderWay}
 use Rattle.necessity.proofs.Idle.{idle_on}
-use Rattle.necessity.proofs.Sound.{root_on_stays, root_on_turns, root_on}
+use Rattle.necessity.proofs.Sound.{one_more, root_on_stays, root_on_turns, root_on}
 use Rattle.necessity.proofs.needs.Needs.make_needed.Goals as goal
 
 pub invariant_of-self-then-is_above_zero : goal.invariant_of-self-then-is_above_zero
 invariant_of-self-then-is_above_zero c =
-    let raised : c.in_ok-roots.roots ≡ c.need_of-need.result.roots + 1 = grind (arith, common_steps) in
+    let raised : c.in_ok-roots.roots ≡ c.need_of-need.result.roots + 1 = one_more _ _ _ _ c.checked_add.ensures c.in_ok-roots.ensures.ok_part in
     let is : Need = record { roots = c.in_ok-roots.roots; by = c.need_of-need.result.by } in
     let on = sym c.is_above_zero.ensures ∙ c.if-is_above_zero.true in
     record {
@@ -24,7 +23,7 @@ invariant_of-self-then-is_above_zero c =
 
 pub returns-then-is_above_zero-clause-root : goal.returns-then-is_above_zero-clause-root
 returns-then-is_above_zero-clause-root c =
-    let raised : c.in_ok-roots.roots ≡ c.need_of-need.result.roots + 1 = grind (arith, common_steps) in
+    let raised : c.in_ok-roots.roots ≡ c.need_of-need.result.roots + 1 = one_more _ _ _ _ c.checked_add.ensures c.in_ok-roots.ensures.ok_part in
     let is : Need = record { roots = c.in_ok-roots.roots; by = c.need_of-need.result.by } in
     rw (← ap (λ w. w.roots) c.self.view_is) (
     root_on c.self.inside.links c.self.inside.rows c.reserve.new.self c.put.new.rows c.args.p c.need_of-need.result is
@@ -32,7 +31,7 @@ returns-then-is_above_zero-clause-root c =
 
 pub recount_kids-requires-clause-under_way : goal.recount_kids-requires-clause-under_way
 recount_kids-requires-clause-under_way c =
-    let raised : c.in_ok-roots.roots ≡ c.need_of-need.result.roots + 1 = grind (arith, common_steps) in
+    let raised : c.in_ok-roots.roots ≡ c.need_of-need.result.roots + 1 = one_more _ _ _ _ c.checked_add.ensures c.in_ok-roots.ensures.ok_part in
     let is : Need = record { roots = c.in_ok-roots.roots; by = c.need_of-need.result.by } in
     let off = sym c.is_above_zero.ensures ∙ c.if-is_above_zero.false in
     let turns = root_on_turns c.self.inside.links c.self.inside.rows c.reserve.new.self c.put.new.rows c.args.p c.need_of-need.result is
@@ -41,7 +40,7 @@ recount_kids-requires-clause-under_way c =
 
 pub returns-clause-root : goal.returns-clause-root
 returns-clause-root c =
-    let raised : c.in_ok-roots.roots ≡ c.need_of-need.result.roots + 1 = grind (arith, common_steps) in
+    let raised : c.in_ok-roots.roots ≡ c.need_of-need.result.roots + 1 = one_more _ _ _ _ c.checked_add.ensures c.in_ok-roots.ensures.ok_part in
     let is : Need = record { roots = c.in_ok-roots.roots; by = c.need_of-need.result.by } in
     rw (← ap (λ w. w.roots) c.self.view_is) (
     root_on c.self.inside.links c.self.inside.rows c.reserve.new.self c.put.new.rows c.args.p c.need_of-need.result is
@@ -50,7 +49,7 @@ returns-clause-root c =
 
 pub invariant_of-self-2 : goal.invariant_of-self-2
 invariant_of-self-2 c =
-    let raised : c.in_ok-roots.roots ≡ c.need_of-need.result.roots + 1 = grind (arith, common_steps) in
+    let raised : c.in_ok-roots.roots ≡ c.need_of-need.result.roots + 1 = one_more _ _ _ _ c.checked_add.ensures c.in_ok-roots.ensures.ok_part in
     let is : Need = record { roots = c.in_ok-roots.roots; by = c.need_of-need.result.by } in
     record {
       at_rest = c.settle.ensures.at_rest;
