@@ -1,5 +1,5 @@
 //! Lines built in an arena.
-ghost use Rattle.std.specs.Prelude.{◌≡◌, map, option_map, slice_get, Ok, IfOk, IfErr, IsErr, OnOk, OnErr, IsErrOf};
+ghost use Rattle.std.specs.Prelude.{◌≡◌, map, option_map, slice_get, Ok, IfOk, IsErr, OnOk, OnErr, IsErrOf};
 ghost use Rattle.inc_value.specs.Value.{type_of};
 ghost use Rattle.inc_terms.specs.Graph.{Const, Map, Fold, If, Join, Bind};
 ghost use Rattle.node_arena.specs.Arena.{IsFull};
@@ -44,18 +44,14 @@ fn nodes_of(
     captures: &[NodeId],
     made: &[NodeId],
     parts: &[Part],
-) -> Result<Vec<NodeId>, BuildFault>
-    ensures ok { IfOk result (λ nodes. nodes.items ≡ map (node_of listed.now captures.now made.now) parts.now) }
-    ensures err { IfErr result (λ fault. fault ≡ BuildFault.Memory) }
+) -> Result<Vec<NodeId>, AllocError>
+    ensures { IfOk result (λ nodes. nodes.items ≡ map (node_of listed.now captures.now made.now) parts.now) }
 {
-    let nodes = parts
-        .iter()
-        .map(|part| node_of(listed, captures, made, *part))
-        .collect(alloc);
-    match nodes {
-        Ok(nodes) => Ok(nodes),
-        Err(AllocError) => Err(BuildFault::Memory),
+    let mut nodes = Vec::new(alloc);
+    for part in parts {
+        nodes.push(node_of(listed, captures, made, *part))?;
     }
+    Ok(nodes)
 }
 
 /// The node, or why it isn't built, where its ids were given and its types fit.
@@ -225,7 +221,7 @@ fn add_line(
             drop(nodes);
             added
         }
-        Err(fault) => Err(fault),
+        Err(AllocError) => Err(BuildFault::Memory),
     }
 }
 

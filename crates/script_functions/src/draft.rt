@@ -13,7 +13,6 @@ use crate::{Line, ListedNode, Part, TypedLine};
 use inc_value::{Sig, Ty};
 use std::alloc::Global;
 use std::marker::Model;
-use thiserror::Error;
 
 /// A body whose lines are still written. Each line is of its type over what stands before it.
 pub struct Draft {
@@ -52,19 +51,15 @@ impl Model for Draft {
 }
 
 /// Why a line isn't added, or a body not finished.
-#[derive(Clone, Copy, Debug, PartialEq, Eq, Error)]
+#[derive(Clone, Copy)]
 pub enum LineFault {
     /// A part isn't there.
-    #[error("a part isn't there")]
     Unknown,
     /// The types don't fit.
-    #[error("the types don't fit")]
     WrongType,
     /// It would take more nodes than can be counted.
-    #[error("it takes too many nodes")]
     TooLarge,
     /// There is no memory for it.
-    #[error("out of memory")]
     Memory,
 }
 
