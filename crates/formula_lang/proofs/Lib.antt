@@ -1,5 +1,6 @@
 mod Fitting
 mod Listing
+mod Mentions
 mod Plainness
 mod Table
 mod TypedArguments

@@ -1,7 +1,7 @@
 -- The table of refusals, as the code goes by it.
-use Rattle.std.proofs.Common.{◌≡◌, ℕ, ◌+◌, ◌<◌, Bool, true, false, cond, List, [], ◌∷◌, length, map, drop, get_or, inl, inr, Option, None, Some, refl, ap, sym, ◌∙◌}
+use Rattle.std.proofs.Common.{◌≡◌, ℕ, ◌+◌, ◌<◌, Bool, true, false, cond, List, [], ◌∷◌, length, map, drop, get_or, inl, inr, is_none, Option, None, Some, Result, Ok, Err, IfOk, refl, ap, sym, ◌∙◌}
 use Rattle.std.proofs.lemmas.List.{drop_more}
-use Rattle.script_model.specs.Check.{Names, Reason, NameTaken, ObserverTaken, NameUnknown, ObserverUnknown, FunctionUnknown, NotWhole, NotVariable, NotBind, NotExpert, IllTyped, TimeTooLarge, TimesNotRising, SpanIsZero, BackInTime, first_that, is_against, line_order}
+use Rattle.script_model.specs.Check.{Names, Reason, NameTaken, ObserverTaken, NameUnknown, ObserverUnknown, FunctionUnknown, NotWhole, NotVariable, NotBind, NotExpert, IllTyped, TimeTooLarge, TimesNotRising, SpanIsZero, BackInTime, command_of, first_that, is_against, line_order}
 use Rattle.inc_value.specs.Choice.{Among}
 use Rattle.script_model.specs.Formula.{Meanings}
 use Rattle.script_model.specs.Grammar.{Line}
@@ -42,6 +42,14 @@ none_holds h (x ∷ rs) r none among = go (h x) refl none (none_holds h rs r)
     go true is e rest = absurd (cc)
     go false is e rest = elim among [ inl same ↦ rw same is | inr later ↦ rest e later ]
 
+-- where none holds, the line comes to a command
+pub comes_to : (F : Meanings) (names : Names) (l : Line) → first_that (is_against F names l) line_order ≡ None → command_of F names l ≡ None → ⊥
+comes_to F names l none missing =
+    let typed : is_none (command_of F names l) ≡ false =
+    none_holds (is_against F names l) line_order IllTyped none (inr (inr (inr (inr (inr (inr (inr (inr (inr (inl refl)))))))))) in
+    let ill : is_none (command_of F names l) ≡ true = rw missing refl in
+    absurd (let both : true ≡ false = sym ill ∙ typed in cc)
+
 -- one row doesn't hold, so the first is among those behind it
 pub next_row : (h : Reason → Bool) (rs : List code.Reason) (i : ℕ) (r : code.Reason) (X : Option Reason) → i < length rs
     → h (reason_view (get_or rs i r)) ≡ false
@@ -51,3 +59,8 @@ next_row h rs i r X within is e =
     ap (λ rows. first_that h (map reason_view rows)) (drop_more rs i r within) in
     let skipped : first_that h (map reason_view (get_or rs i r ∷ drop (i + 1) rs)) ≡ first_that h (map reason_view (drop (i + 1) rs)) = rw is refl in
     sym skipped ∙ sym split ∙ e
+
+-- what follows of what a call gives
+pub where_ok : {T E : Type 0} (r : Result T E) (P Q : T → Type 0) → IfOk r P → ((x : T) → P x → Q x) → IfOk r Q
+where_ok (Ok x) P Q p f = f x p
+where_ok (Err e) P Q p f = tt

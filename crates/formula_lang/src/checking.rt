@@ -6,31 +6,30 @@ ghost use Rattle.script_model.specs.Grammar.{Var, Set, Let, Grab, Observe, Show,
 ghost use Rattle.script_model.specs.Here.{is_here, is_plain};
 ghost use Rattle.formula_lang.specs.CommandView.{command_view};
 ghost use Rattle.formula_lang.specs.Fits.{FitsNames};
+ghost use Rattle.formula_lang.specs.Verdict.{reason_view};
+ghost use Rattle.formula_lang.specs.declared.refusal.Reason.{Reason};
 ghost use Rattle.line_parser.specs.TreeView.{line_view, tree_view};
 ghost use Rattle.line_parser.specs.View.{literal_view};
 
 use crate::command::{Command, Declaration};
 use crate::mentioning::mentions_unknown;
 use crate::names::Names;
-use crate::refusal::first_reason;
+use crate::refusal::{Reason, first_reason};
 use crate::typing::{declared_as, literal_of_type, typed};
 use inc_value::Ty;
 use line_parser::{Line, Literal, Name, Tree};
 use node_arena::Library;
 use std::alloc::{AllocError, Global};
-use thiserror::Error;
 
 /// Why a command is not carried out.
-#[derive(Clone, Copy, Debug, PartialEq, Eq, Error)]
+#[derive(Clone, Copy)]
 pub enum CheckFault {
     /// It is refused, with the number that is printed: 3 for a name that is taken, 4 for one that
     /// is unknown, 5 for an unknown function, 6 for types that don't fit, 7 for a `set` of what is
     /// no variable, 8 for a `grab` of what is no bind, 11 for an unknown observer, and 12 for one
     /// that is in use.
-    #[error("refused {0}")]
     Refusal(u8),
     /// There is no memory for the checked command.
-    #[error("out of memory")]
     Memory,
 }
 
@@ -68,13 +67,26 @@ pub fn check<L: Library>(
     names.keeps_order();
     let is_unknown = mentions_unknown(alloc, line, names)?;
     let command = command_of(alloc, line, names, library)?;
-    if let Some(reason) = first_reason(line, names, library, is_unknown, command.is_none()) {
-        drop(command);
-        return Err(CheckFault::Refusal(reason.number()));
-    }
-    match command {
-        Some(command) => Ok(command),
-        None => unreachable!(),
+    let against = first_reason(line, names, library, is_unknown, command.is_none());
+    decided(command, against)
+}
+
+/// The command that the line comes to, unless a reason stands against it.
+fn decided(command: Option<Command>, against: Option<Reason>) -> Result<Command, CheckFault>
+    requires { against ≡ None → command ≡ None → ⊥ }
+    ensures allowed { IfOk result (λ c. (command ≡ Some c) × (against ≡ None)) }
+    ensures refused { (n : ℕ) → IsErrOf result (CheckFault.Refusal n)
+        → (why : Reason) × (against ≡ Some why) × (reason_number (reason_view why) ≡ n) }
+{
+    match against {
+        Some(reason) => {
+            drop(command);
+            Err(CheckFault::Refusal(reason.number()))
+        }
+        None => match command {
+            Some(command) => Ok(command),
+            None => unreachable!(),
+        },
     }
 }
 
@@ -156,14 +168,17 @@ fn definition<L: Library>(
     ensures { IfOk result (λ c. option_map command_view c
         ≡ command_of (meanings_of (L.named library.now) (L.value library.now)) names.entry.now (Let name.now (tree_view formula.now))) }
 {
-    let Some(typed) = typed(alloc, names, library, &[], formula)? else {
-        return Ok(None);
-    };
-    Ok(Some(Command::Declare {
-        name: Name::new(alloc, name.bytes())?,
-        ty: typed.ty,
-        body: Declaration::Computed(typed.formula),
-    }))
+    match typed(alloc, names, library, &[], formula) {
+        Ok(Some(typed)) => match Name::new(alloc, name.bytes()) {
+            Ok(name) => Ok(Some(typed.declared(name))),
+            Err(fault) => {
+                drop(typed);
+                Err(fault)
+            }
+        },
+        Ok(None) => Ok(None),
+        Err(fault) => Err(fault),
+    }
 }
 
 /// The declaration of a name for a bind's right side.

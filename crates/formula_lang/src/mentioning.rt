@@ -64,7 +64,7 @@ fn has_unknown_name(
             ..
         } => {
             let elements = have_unknown_name(alloc, names, variables, elements)?;
-            Ok(has_unknown_reference(names, first) || elements)
+            Ok(has_unknown_reference(names, first) | elements)
         }
         Tree::If {
             test,
@@ -74,7 +74,7 @@ fn has_unknown_name(
             let test = has_unknown_name(alloc, names, variables, test)?;
             let then_side = has_unknown_name(alloc, names, variables, then_side)?;
             let else_side = has_unknown_name(alloc, names, variables, else_side)?;
-            Ok(test || then_side || else_side)
+            Ok(test | then_side | else_side)
         }
         Tree::Bind {
             variable,
@@ -83,7 +83,7 @@ fn has_unknown_name(
         } => {
             let left = has_unknown_name(alloc, names, variables, left)?;
             let body = has_unknown_name_within(alloc, names, variables, variable, body)?;
-            Ok(left || body)
+            Ok(left | body)
         }
         Tree::Join { child } => has_unknown_name(alloc, names, variables, child),
         Tree::At(_) | Tree::Now | Tree::Steps { .. } | Tree::After(_) | Tree::Every(_) => Ok(false),

@@ -1,22 +1,22 @@
 //! Names, functions and types of formulas.
-ghost use Rattle.std.specs.Prelude.{◌≡◌, ◌<◌, ◌∷◌, length, map, option_map, Some, IfOk, IfSome};
+ghost use Rattle.std.specs.Prelude.{◌≡◌, ◌<◌, ◌++◌, ◌∷◌, [], length, map, option_map, Some, IfOk, IfSome, OnOk};
 ghost use Rattle.std.specs.List.{list_any};
-ghost use Rattle.script_model.specs.Check.{applied as applied_to, are_all, branched, element_of, find_declared, folded, is_declared, join_of, literal_of_type, typed_as, typed_literal, typed_name};
+ghost use Rattle.script_model.specs.Check.{Declare, applied as applied_to, are_all, branched, element_of, find_declared, folded, is_declared, join_of, literal_of_type, typed_as, typed_literal, typed_name};
 ghost use Rattle.formula_lang.specs.Here.{functions_here, functions_here_in_all, typed_each_here, typed_here};
 ghost use Rattle.script_model.specs.Literals.{Referred};
 ghost use Rattle.script_model.specs.Parsing.{trees_of};
-ghost use Rattle.script_model.specs.Formula.{Bind, Literal as Held, meanings_of};
+ghost use Rattle.script_model.specs.Formula.{Bind, Computed, Literal as Held, meanings_of, nothing_kept};
 ghost use Rattle.script_model.specs.Grammar.{Call, Fold, Join};
 ghost use Rattle.inc_value.specs.Choice.{and_then};
 ghost use Rattle.inc_value.specs.Ty.{same_ty, same_types};
-ghost use Rattle.formula_lang.specs.CommandView.{constant_view};
+ghost use Rattle.formula_lang.specs.CommandView.{command_view, constant_view, formula_view};
 ghost use Rattle.formula_lang.specs.NamesView.{declared_view};
 ghost use Rattle.formula_lang.specs.Rows.{lacks};
 ghost use Rattle.line_parser.specs.TreeView.{tree_view};
 ghost use Rattle.line_parser.specs.View.{literal_view};
 ghost use Rattle.formula_lang.specs.Typing.{bound_view, named_formula, part_view, typed_view, typed_each_view};
 
-use crate::command::{Constant, Formula};
+use crate::command::{Command, Constant, Declaration, Formula};
 use crate::names::{Declared, Names};
 use crate::scope::{Variable, variable_named, within};
 use inc_value::{FnRef, Ty};
@@ -25,10 +25,53 @@ use node_arena::Library;
 use std::alloc::{AllocError, Global};
 
 /// A formula with its type.
-#[derive(Drop)]
 pub(crate) struct TypedFormula {
-    pub(crate) formula: Formula,
-    pub(crate) ty: Ty,
+    formula: Formula,
+    ty: Ty,
+}
+
+// (written out: whoever drops one proves one call, and no drop of its parts)
+impl Drop for TypedFormula {
+    fn drop(self) {
+        let TypedFormula { formula, ty: _ } = self;
+        drop(formula);
+    }
+}
+
+impl TypedFormula {
+    /// The declaration of a name for the formula.
+    pub(crate) fn declared(self, name: Name) -> Command
+        ensures { command_view result ≡ Declare name self.ty (Computed (formula_view self.formula) nothing_kept) }
+    {
+        let TypedFormula { formula, ty } = self;
+        Command::Declare {
+            name,
+            ty,
+            body: Declaration::Computed(formula),
+        }
+    }
+
+    /// The formula with its type, put into a box.
+    fn boxed(self, alloc: Global) -> Result<Option<TypedPart>, AllocError>
+        ensures { IfOk result (λ part. option_map part_view part ≡ Some (typed_view self)) }
+    {
+        let TypedFormula { formula, ty } = self;
+        Ok(Some(TypedPart {
+            formula: Box::new(alloc, formula)?,
+            ty,
+        }))
+    }
+
+    /// Puts the formula behind others.
+    fn behind(self, others: &mut TypedFormulas) -> Result<(), AllocError>
+        ensures formulas { OnOk result (others.new.formulas.items ≡ others.old.formulas.items ++ self.formula ∷ []) }
+        ensures tys { OnOk result (others.new.tys.items ≡ others.old.tys.items ++ self.ty ∷ []) }
+    {
+        let TypedFormula { formula, ty } = self;
+        others.formulas.push(formula)?;
+        others.tys.push(ty)?;
+        Ok(())
+    }
 }
 
 /// A formula in a box, with its type: what the formulas round it hold.
@@ -38,11 +81,140 @@ struct TypedPart {
     ty: Ty,
 }
 
+impl TypedPart {
+    /// One of two sides by a test, if all are there, the test is a truth value and the sides have one type.
+    #[inline(never)]
+    fn branched(
+        test: Option<TypedPart>,
+        then_side: Option<TypedPart>,
+        else_side: Option<TypedPart>,
+    ) -> Option<TypedFormula>
+        ensures { option_map typed_view result ≡ and_then (option_map part_view test) (λ t.
+            and_then (option_map part_view then_side) (λ x. and_then (option_map part_view else_side) (λ y. branched t x y))) }
+    {
+        let (test, then_side, else_side) = (test?, then_side?, else_side?);
+        if !is_same_type(test.ty, Ty::Bool) || !is_same_type(then_side.ty, else_side.ty) {
+            return None;
+        }
+        Some(TypedFormula {
+            formula: Formula::If {
+                test: test.formula,
+                yes: then_side.formula,
+                no: else_side.formula,
+            },
+            ty: then_side.ty,
+        })
+    }
+
+    /// What a declaration is worth to which the formula refers, if that has a type of references.
+    #[inline(never)]
+    fn joined(self) -> Option<TypedFormula>
+        ensures { option_map typed_view result ≡ join_of (part_view self) self.ty }
+    {
+        match self.ty {
+            Ty::Node(base) => Some(TypedFormula {
+                formula: Formula::Join(self.formula),
+                ty: base.ty(),
+            }),
+            Ty::Int | Ty::Bool | Ty::Text => None,
+        }
+    }
+
+    /// The body, if it is there, with this left for its variable.
+    #[inline(never)]
+    fn bound(self, body: Option<TypedPart>) -> Option<TypedFormula>
+        ensures { option_map typed_view result
+            ≡ and_then (option_map part_view body) (λ b. typed_as (Bind (part_view self).formula b.formula) b.ty) }
+    {
+        let body = body?;
+        Some(TypedFormula {
+            formula: Formula::Bind {
+                left: self.formula,
+                body: body.formula,
+            },
+            ty: body.ty,
+        })
+    }
+}
+
 /// Formulas with their types.
-#[derive(Drop)]
 struct TypedFormulas {
     formulas: Vec<Formula>,
     tys: Vec<Ty>,
+}
+
+// (written out: whoever drops one proves one call, and no drop of its parts)
+impl Drop for TypedFormulas {
+    fn drop(self) {
+        let TypedFormulas { formulas, tys } = self;
+        drop(formulas);
+        drop(tys);
+    }
+}
+
+impl TypedFormulas {
+    /// No formulas.
+    fn new(alloc: Global) -> TypedFormulas
+        ensures formulas { result.formulas.items ≡ [] }
+        ensures tys { result.tys.items ≡ [] }
+    {
+        TypedFormulas {
+            formulas: Vec::new(alloc),
+            tys: Vec::new(alloc),
+        }
+    }
+
+    /// The function of these arguments, if their types are those that it takes.
+    #[inline(never)]
+    fn applied(self, function: FnRef) -> Option<TypedFormula>
+        ensures { option_map typed_view result ≡ applied_to function (typed_each_view self) }
+    {
+        let TypedFormulas { formulas, tys } = self;
+        if !takes_types(&function, &tys) {
+            return None;
+        }
+        Some(TypedFormula {
+            formula: Formula::Apply {
+                function,
+                arguments: formulas,
+            },
+            ty: function.sig.gives(),
+        })
+    }
+
+    /// The fold of these elements from the first value, if the function takes what it gives and an element, the first value has the
+    /// type that it gives, and each element that which it takes.
+    #[inline(never)]
+    fn folded(
+        self,
+        alloc: Global,
+        names: &Names,
+        function: FnRef,
+        first: &Literal,
+    ) -> Result<Option<TypedFormula>, AllocError>
+        ensures { IfOk result (λ t. option_map typed_view t
+            ≡ folded names.entry.now function (literal_view first.now) (typed_each_view self)) }
+    {
+        let TypedFormulas { formulas, tys } = self;
+        let Some(element) = element_of(&function) else {
+            return Ok(None);
+        };
+        let gives = function.sig.gives();
+        if !are_all(element, &tys) {
+            return Ok(None);
+        }
+        match literal_of_type(alloc, names, gives, first)? {
+            Some(first) => Ok(Some(TypedFormula {
+                formula: Formula::Fold {
+                    function,
+                    first,
+                    elements: formulas,
+                },
+                ty: gives,
+            })),
+            None => Ok(None),
+        }
+    }
 }
 
 /// The declaration of a name.
@@ -71,24 +243,24 @@ pub(crate) fn has_unknown_function<L: Library>(library: &L, tree: &Tree) -> bool
         Tree::Call {
             function,
             arguments,
-        } => library.find(function.bytes()).is_none() || have_unknown_function(library, arguments),
+        } => library.find(function.bytes()).is_none() | have_unknown_function(library, arguments),
         Tree::Fold {
             function,
             elements,
             ..
-        } => library.find(function.bytes()).is_none() || have_unknown_function(library, elements),
+        } => library.find(function.bytes()).is_none() | have_unknown_function(library, elements),
         Tree::If {
             test,
             then_side,
             else_side,
         } => {
             has_unknown_function(library, test)
-                || has_unknown_function(library, then_side)
-                || has_unknown_function(library, else_side)
+                | has_unknown_function(library, then_side)
+                | has_unknown_function(library, else_side)
         }
         Tree::Join { child } => has_unknown_function(library, child),
         Tree::Bind { left, body, .. } => {
-            has_unknown_function(library, left) || has_unknown_function(library, body)
+            has_unknown_function(library, left) | has_unknown_function(library, body)
         }
         Tree::At(_) | Tree::Now | Tree::Steps { .. } | Tree::After(_) | Tree::Every(_) => false,
         Tree::Freeze { .. } => false,
@@ -139,32 +311,29 @@ pub(crate) fn typed<L: Library>(
             then_side,
             else_side,
         } => {
-            let Some(test) = typed_part(alloc, names, library, variables, test)? else {
-                return Ok(None);
-            };
-            let Some(then_side) = typed_part(alloc, names, library, variables, then_side)? else {
-                return Ok(None);
-            };
-            let Some(else_side) = typed_part(alloc, names, library, variables, else_side)? else {
-                return Ok(None);
-            };
-            Ok(branched(test, then_side, else_side))
+            let test = typed_part(alloc, names, library, variables, test)?;
+            let then_side = typed_part(alloc, names, library, variables, then_side)?;
+            let else_side = typed_part(alloc, names, library, variables, else_side)?;
+            Ok(TypedPart::branched(test, then_side, else_side))
         }
         Tree::Join { child } => typed_join(alloc, names, library, variables, child),
         Tree::Bind {
             variable,
             left,
             body,
-        } => {
-            let Some(left) = typed_part(alloc, names, library, variables, left)? else {
-                return Ok(None);
-            };
-            let body = typed_within(alloc, names, library, variables, variable, left.ty, body)?;
-            let Some(body) = body else {
-                return Ok(None);
-            };
-            Ok(Some(bound(left, body)))
-        }
+        } => match typed_part(alloc, names, library, variables, left) {
+            Ok(Some(left)) => {
+                match typed_within(alloc, names, library, variables, variable, left.ty, body) {
+                    Ok(body) => Ok(left.bound(body)),
+                    Err(fault) => {
+                        drop(left);
+                        Err(fault)
+                    }
+                }
+            }
+            Ok(None) => Ok(None),
+            Err(fault) => Err(fault),
+        },
         Tree::At(_) | Tree::Now | Tree::Steps { .. } | Tree::After(_) | Tree::Every(_) => Ok(None),
         Tree::Freeze { .. } => Ok(None),
     }
@@ -188,9 +357,10 @@ fn typed_call<L: Library>(
     let Some(function) = library.find(function.bytes()) else {
         return Ok(None);
     };
-    match typed_each(alloc, names, library, variables, arguments)? {
-        Some(arguments) => Ok(applied(function, arguments)),
-        None => Ok(None),
+    match typed_each(alloc, names, library, variables, arguments) {
+        Ok(Some(arguments)) => Ok(arguments.applied(function)),
+        Ok(None) => Ok(None),
+        Err(fault) => Err(fault),
     }
 }
 
@@ -213,9 +383,10 @@ fn typed_fold<L: Library>(
     let Some(function) = library.find(function.bytes()) else {
         return Ok(None);
     };
-    match typed_each(alloc, names, library, variables, elements)? {
-        Some(elements) => folded(alloc, names, function, first, elements),
-        None => Ok(None),
+    match typed_each(alloc, names, library, variables, elements) {
+        Ok(Some(elements)) => elements.folded(alloc, names, function, first),
+        Ok(None) => Ok(None),
+        Err(fault) => Err(fault),
     }
 }
 
@@ -233,9 +404,10 @@ fn typed_join<L: Library>(
         ≡ typed_here (meanings_of (L.named library.now) (L.value library.now)) names.entry.now (map bound_view variables.now)
         (Join (tree_view child.now))) }
 {
-    match typed_part(alloc, names, library, variables, child)? {
-        Some(child) => Ok(joined(child)),
-        None => Ok(None),
+    match typed_part(alloc, names, library, variables, child) {
+        Ok(Some(child)) => Ok(child.joined()),
+        Ok(None) => Ok(None),
+        Err(fault) => Err(fault),
     }
 }
 
@@ -279,9 +451,10 @@ fn typed_part<L: Library>(
         ≡ typed_here (meanings_of (L.named library.now) (L.value library.now)) names.entry.now (map bound_view variables.now)
         (tree_view tree.now)) }
 {
-    match typed(alloc, names, library, variables, tree)? {
-        Some(typed) => boxed(alloc, typed),
-        None => Ok(None),
+    match typed(alloc, names, library, variables, tree) {
+        Ok(Some(typed)) => typed.boxed(alloc),
+        Ok(None) => Ok(None),
+        Err(fault) => Err(fault),
     }
 }
 
@@ -299,26 +472,21 @@ fn typed_each<L: Library>(
         ≡ typed_each_here (meanings_of (L.named library.now) (L.value library.now)) names.entry.now (map bound_view variables.now)
         (trees_of (map tree_view trees.now))) }
 {
-    let mut formulas = Vec::new(alloc);
-    let mut tys = Vec::new(alloc);
+    let mut formulas = TypedFormulas::new(alloc);
     for tree in trees {
-        let Some(argument) = typed(alloc, names, library, variables, tree)? else {
-            return Ok(None);
-        };
-        formulas.push(argument.formula)?;
-        tys.push(argument.ty)?;
+        match typed(alloc, names, library, variables, tree) {
+            Ok(Some(formula)) => formula.behind(&mut formulas)?,
+            Ok(None) => {
+                drop(formulas);
+                return Ok(None);
+            }
+            Err(fault) => {
+                drop(formulas);
+                return Err(fault);
+            }
+        }
     }
-    Ok(Some(TypedFormulas { formulas, tys }))
-}
-
-/// A formula with its type, put into a box.
-fn boxed(alloc: Global, typed: TypedFormula) -> Result<Option<TypedPart>, AllocError>
-    ensures { IfOk result (λ part. option_map part_view part ≡ Some (typed_view typed)) }
-{
-    Ok(Some(TypedPart {
-        formula: Box::new(alloc, typed.formula)?,
-        ty: typed.ty,
-    }))
+    Ok(Some(formulas))
 }
 
 /// A literal as a formula, unless it refers to nothing of a base type.
@@ -366,102 +534,6 @@ fn typed_declared(names: &Names, name: &Name) -> Option<TypedFormula>
         formula: Formula::Name(declared.target),
         ty: declared.ty,
     })
-}
-
-/// The function of the arguments, if their types are those that it takes.
-#[inline(never)]
-fn applied(function: FnRef, arguments: TypedFormulas) -> Option<TypedFormula>
-    ensures { option_map typed_view result ≡ applied_to function (typed_each_view arguments) }
-{
-    if !takes_types(&function, &arguments.tys) {
-        return None;
-    }
-    Some(TypedFormula {
-        formula: Formula::Apply {
-            function,
-            arguments: arguments.formulas,
-        },
-        ty: function.sig.gives(),
-    })
-}
-
-/// The fold of the elements from the first value, if the function takes what it gives and an element, the first value has the type
-/// that it gives, and each element that which it takes.
-#[inline(never)]
-fn folded(
-    alloc: Global,
-    names: &Names,
-    function: FnRef,
-    first: &Literal,
-    elements: TypedFormulas,
-) -> Result<Option<TypedFormula>, AllocError>
-    ensures { IfOk result (λ t. option_map typed_view t
-        ≡ folded names.entry.now function (literal_view first.now) (typed_each_view elements)) }
-{
-    let Some(element) = element_of(&function) else {
-        return Ok(None);
-    };
-    let gives = function.sig.gives();
-    if !are_all(element, &elements.tys) {
-        return Ok(None);
-    }
-    match literal_of_type(alloc, names, gives, first)? {
-        Some(first) => Ok(Some(TypedFormula {
-            formula: Formula::Fold {
-                function,
-                first,
-                elements: elements.formulas,
-            },
-            ty: gives,
-        })),
-        None => Ok(None),
-    }
-}
-
-/// One of two sides by a test, if the test is a truth value and the sides have one type.
-#[inline(never)]
-fn branched(test: TypedPart, then_side: TypedPart, else_side: TypedPart) -> Option<TypedFormula>
-    ensures { option_map typed_view result ≡ branched (part_view test) (part_view then_side) (part_view else_side) }
-{
-    if !is_same_type(test.ty, Ty::Bool) || !is_same_type(then_side.ty, else_side.ty) {
-        return None;
-    }
-    Some(TypedFormula {
-        formula: Formula::If {
-            test: test.formula,
-            yes: then_side.formula,
-            no: else_side.formula,
-        },
-        ty: then_side.ty,
-    })
-}
-
-/// What a declaration is worth to which the formula refers, if that has a type of references.
-#[inline(never)]
-fn joined(child: TypedPart) -> Option<TypedFormula>
-    ensures { option_map typed_view result ≡ join_of (part_view child) child.ty }
-{
-    match child.ty {
-        Ty::Node(base) => Some(TypedFormula {
-            formula: Formula::Join(child.formula),
-            ty: base.ty(),
-        }),
-        Ty::Int | Ty::Bool | Ty::Text => None,
-    }
-}
-
-/// The body with the left for its variable.
-#[inline(never)]
-fn bound(left: TypedPart, body: TypedPart) -> TypedFormula
-    ensures { Some (typed_view result) ≡ typed_as (Bind (part_view left).formula (part_view body).formula) body.ty }
-{
-    TypedFormula {
-        formula: Formula::Bind {
-            left: left.formula,
-            body: body.formula,
-        },
-        ty: body.ty,
-    }
 }
 
 /// The type of the elements that the function folds; none where it doesn't take what it gives and an element.

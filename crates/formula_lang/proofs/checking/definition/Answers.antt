@@ -4,14 +4,14 @@ use Rattle.line_parser.specs.TreeView.{tree_view}
 use Rattle.formula_lang.proofs.Plainness.{top_here}
 use Rattle.formula_lang.proofs.checking.definition.Goals as goal
 
-pub returns-in_default : goal.returns-in_default
-returns-in_default g c =
+pub returns-in-Ok-None : goal.returns-in-Ok-None
+returns-in-Ok-None g c =
     let F = meanings_of (g.L.Library.named c.args.library.now) (g.L.Library.value c.args.library.now) in
-    let found = rw c.in_default.is at c.in_ok-typed.ensures in
+    let found = rw c.in-Ok-None.field-0-is at c.in-Ok-None.ensures in
     rw (top_here F c.args.names.now (tree_view c.args.formula.now) c.requires, ← found) refl
 
-pub returns : goal.returns
-returns g c =
+pub returns-in-Ok : goal.returns-in-Ok
+returns-in-Ok g c =
     let F = meanings_of (g.L.Library.named c.args.library.now) (g.L.Library.value c.args.library.now) in
-    let found = rw c.in-Some.is at c.in_ok-typed.ensures in
-    rw (top_here F c.args.names.now (tree_view c.args.formula.now) c.requires, ← found, c.in_ok-new.ensures, c.bytes.ensures) refl
+    let found = rw c.in-Ok-Some.field-0-is at c.in-Ok-Some.ensures in
+    rw (c.declared.ensures, top_here F c.args.names.now (tree_view c.args.formula.now) c.requires, ← found, c.in-Ok.ensures, c.bytes.ensures) refl

@@ -13,4 +13,4 @@ invariant-typed_each-loop-tree g l =
     typed_each_here (meanings_of (g.L.Library.named l.library) (g.L.Library.value l.library)) l.names (map bound_view l.variables) (trees_of (map tree_view l.trees))
     ≡ and_then (typed_each_here (meanings_of (g.L.Library.named l.library) (g.L.Library.value l.library)) l.names
     (map bound_view l.variables) (trees_of (map tree_view (drop l.tree-index l.trees))))
-    (λ ts. Some (behind l.formulas.items l.tys.items ts))
+    (λ ts. Some (behind l.formulas.formulas.items l.formulas.tys.items ts))
