@@ -139,6 +139,29 @@ module _ {L E : Type 0} (meanings : L → Meanings) (known : L → FnRef → Boo
         tt tt (subst (λ (h : Did). KeepsUnlessAccepted h s.kept s.kept) (sym refuses.how) (λ cycle height. refl))
     carried_refused number reply (Err e) refuses answered = carried_nothing e refuses.unwritten
 
+  -- without memory, where what was appended is taken back
+  pub carried_back : (Leads : Meanings → Moment → Moment → List Reply → Type 0) (IsOfForm : List ℕ → Type 0) (AsksIt : Type 0)
+      (old new : Script L) (written appended back : List ℕ) (e : E)
+      → CarriesOut meanings known calls Leads IsOfForm AsksIt old new written appended (Err e) → back ≡ written
+      → CarriesOut meanings known calls Leads IsOfForm AsksIt old new written back (Err e)
+  carried_back Leads IsOfForm AsksIt old new written appended back e c same = record {
+    answered = tt;
+    stopped = c.stopped;
+    extended = nothing_more written back same;
+    accepted = c.accepted;
+    given = c.given;
+    bodies = c.bodies;
+    observers = c.observers;
+    known_still = c.known_still;
+    calls_grow = c.calls_grow;
+    builds_grow = c.builds_grow;
+    library = c.library;
+    builds = c.builds;
+    kept = tt;
+    broken = c.broken;
+    functions = c.functions;
+  }
+
   -- ---- from one form to another
 
   pub carried_on : (Leads Leads' : Meanings → Moment → Moment → List Reply → Type 0) (IsOfForm IsOfForm' : List ℕ → Type 0) (AsksIt AsksIt' : Type 0)

@@ -34,8 +34,30 @@ pub enum Did {
     Refused(u8),
 }
 
-/// Answers what a line asks for.
-pub(crate) fn answer<L: Library>(
+/// Answers what a line asks for. Without memory nothing is written.
+pub(crate) fn answer_whole<L: Library>(
+    alloc: Global,
+    script: &mut Script<L>,
+    text: &[u8],
+    out: &mut Vec<u8>,
+) -> Result<Did, AllocError>
+    requires { HasRoom script.old.kept }
+    ensures answered { TakesBytes (λ l. meanings_of (L.named l) (L.value l)) L.known L.calls text.now script.old script.new
+        out.old.items out.new.items result }
+    ensures unwritten { OnErr result (out.new.items ≡ out.old.items) }
+{
+    let written = out.len();
+    match answer(alloc, script, text, out) {
+        Ok(did) => Ok(did),
+        Err(fault) => {
+            out.truncate(written);
+            Err(fault)
+        }
+    }
+}
+
+/// Answers what a line asks for. Without memory some of it may be written.
+fn answer<L: Library>(
     alloc: Global,
     script: &mut Script<L>,
     text: &[u8],

@@ -3,7 +3,7 @@ ghost use Rattle.std.specs.Prelude.{◌≡◌, ℕ, ◌<◌, ◌≤◌, ◌+◌,
 ghost use Rattle.inc_value.specs.declared.function.FnRef.{FnRef};
 ghost use Rattle.script_model.specs.Step.{Moment, first_moment};
 
-use crate::answer::{Did, answer};
+use crate::answer::{Did, answer_whole};
 use crate::refusal::Refusal;
 use crate::reply::write_refused;
 use crate::script::Script;
@@ -97,12 +97,7 @@ impl<L: Library> Session<L> {
         ensures unwritten { OnErr result (out.new.items ≡ out.old.items) }
     {
         self.lines += 1;
-        let written = out.len();
-        let taken = answer(self.alloc, &mut self.script, text, out);
-        if taken.is_err() {
-            out.truncate(written);
-        }
-        taken
+        answer_whole(self.alloc, &mut self.script, text, out)
     }
 
     /// Takes a line that is longer than 4,096 bytes, whatever it holds, and appends its refusal.
