@@ -1,4 +1,4 @@
-use Rattle.std.proofs.Common.{◌≡◌, None, sym, ap, option_map, ◌∙◌}
+use Rattle.std.proofs.Common.{sym, ap, option_map, ◌∙◌}
 use Rattle.formula_lang.specs.CommandView.{command_view}
 use Rattle.formula_lang.specs.Verdict.{reason_view}
 use Rattle.line_parser.specs.TreeView.{line_view}
