@@ -20,16 +20,19 @@ use inc_value::Ty;
 use line_parser::{Line, Literal, Name, Tree};
 use node_arena::Library;
 use std::alloc::{AllocError, Global};
+use thiserror::Error;
 
 /// Why a command is not carried out.
-#[derive(Clone, Copy)]
+#[derive(Clone, Copy, Debug, PartialEq, Eq, Error)]
 pub enum CheckFault {
     /// It is refused, with the number that is printed: 3 for a name that is taken, 4 for one that
     /// is unknown, 5 for an unknown function, 6 for types that don't fit, 7 for a `set` of what is
     /// no variable, 8 for a `grab` of what is no bind, 11 for an unknown observer, and 12 for one
     /// that is in use.
+    #[error("refused {0}")]
     Refusal(u8),
     /// There is no memory for the checked command.
+    #[error("out of memory")]
     Memory,
 }
 

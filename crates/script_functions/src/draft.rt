@@ -13,6 +13,7 @@ use crate::{Line, ListedNode, Part, TypedLine};
 use inc_value::{Sig, Ty};
 use std::alloc::Global;
 use std::marker::Model;
+use thiserror::Error;
 
 /// A body whose lines are still written. Each line is of its type over what stands before it.
 pub struct Draft {
@@ -51,15 +52,19 @@ impl Model for Draft {
 }
 
 /// Why a line isn't added, or a body not finished.
-#[derive(Clone, Copy)]
+#[derive(Clone, Copy, Debug, PartialEq, Eq, Error)]
 pub enum LineFault {
     /// A part isn't there.
+    #[error("a part isn't there")]
     Unknown,
     /// The types don't fit.
+    #[error("the types don't fit")]
     WrongType,
     /// It would take more nodes than can be counted.
+    #[error("it takes too many nodes")]
     TooLarge,
     /// There is no memory for it.
+    #[error("out of memory")]
     Memory,
 }
 
