@@ -4,7 +4,7 @@ use Rattle.std.specs.Prelude.{Result, IfOk, IfErr, OnErr, IsErrOf, ◌↔◌}
 use Rattle.graph.proofs.Faulting.{same_err}
 use Rattle.graph.specs.Effects.{top, Adds, KeepsAll, KeepsBesideGiven, IsAddFault, NamesUnknown, IsMistyped, HasNoRoom}
 use Rattle.graph.specs.Effects.{AnswersAdd}
-use Rattle.graph.specs.Fault.{of_add, kept_of}
+use Rattle.graph.specs.Fault.{of_add}
 use Rattle.graph.specs.Standing.{Standing, IsUnbroken, IsBroken}
 use Rattle.graph.specs.declared.fault.GraphFault.{GraphFault}
 use Rattle.graph.specs.declared.fault.GraphFault.TheVariants as fault
@@ -14,7 +14,6 @@ use Rattle.inc_value.specs.declared.ty.Ty.{Ty}
 use Rattle.inc_terms.specs.Graph.{Def}
 use Rattle.node_arena.specs.declared.arena.AddFault.{AddFault}
 use Rattle.node_arena.specs.declared.arena.AddFault.TheVariants as add
-use Rattle.wiring.specs.declared.refused.Refused.{Refused}
 
 -- ---- faults of the nodes
 
@@ -82,58 +81,3 @@ module _ {F : Type 0} (s t : Standing F) (def : Def) (ty : Ty) (whole : IsUnbrok
 
       by_kind : IfOk q (λ (id : NodeId). Adds s t id (top def ty)) × Rest q
       by_kind = at_kind r is added err
-
--- ---- calls that are refused before
-
-module _ {F : Type 0} (s : Standing F) (def : Def) (ty : Ty) where
-  keeps : KeepsAll s s
-  keeps = record {
-    beside = record {
-      functions = refl;
-      observers = refl;
-      rooted = refl;
-      refused = refl;
-      ran = refl;
-      links = λ p q. refl;
-      roots = λ p. refl;
-      shown = λ n given. refl;
-      chosen = λ n given. refl;
-      built = λ n given. refl;
-      last = λ n given. refl;
-      cutoff = λ n given. refl;
-      no_more_cutoffs = λ n equal. equal;
-    };
-    nodes = refl;
-  }
-
-  same_cause : (a b : Kept) → IsBroken s a → IsBroken s b → a ≡ b
-  same_cause a b (r, met, of) (r', met', of') =
-      let e : Some r ≡ Some r' = sym met ∙ met' in
-      let same : r ≡ r' = cc in
-      sym of ∙ (ap (λ (x : Refused). kept_of x) same ∙ of')
-
-  by_cause : (a b : Kept) → fault.Broken a ≡ fault.Broken b → a ≡ b
-  by_cause a b e = cc
-
-  -- no other fault is told
-  other : {P : Type 0} (cause : Kept) (f : GraphFault) → IsBroken s cause → (fault.Broken cause ≡ f → ⊥)
-      → IsErrOf {T = NodeId} (Err (fault.Broken cause)) f ↔ (IsUnbroken s × P)
-  other cause f (r, met, of) differs = (
-    (λ h. absurd (differs (same_err h))),
-    (λ k. absurd (let e : None ≡ Some r = sym k.0 ∙ met in cc)),
-  )
-
-  -- of a broken graph
-  pub answers_broken : (cause : Kept) → IsBroken s cause → (e : GraphFault) → e ≡ fault.Broken cause → AnswersAdd s s def ty (Err e)
-  answers_broken cause broken e is = subst (λ (x : GraphFault). AnswersAdd s s def ty (Err x)) (sym is) (record {
-    added = tt;
-    broken = λ b. (
-      (λ h. subst (IsBroken s) (by_cause cause b (same_err h)) broken),
-      (λ k. ap (λ (x : Kept). Err (fault.Broken x)) (same_cause cause b broken k)),
-    );
-    unknown = other cause fault.Unknown broken (λ h. absurd cc);
-    wrong_type = other cause fault.WrongType broken (λ h. absurd cc);
-    full = other cause fault.Full broken (λ h. absurd cc);
-    adding = inl (cause, refl);
-    err = keeps;
-  })

@@ -53,8 +53,8 @@ impl<F: Functions> Graph<F> {
         requires known { IsTrue (F.known self.old.functions f) }
         ensures { AnswersListed self.old self.new (Map f kids.now) f.sig.gives result }
     {
-        let list = self.listed(kids)?;
-        self.add(Def::Map(f, list), f.sig.gives())
+        let nodes = self.listed(kids)?;
+        self.add(Def::Map(f, nodes), f.sig.gives())
     }
 
     /// A node that folds the values of nodes by a function of two arguments, which is known: from the initial value
@@ -64,8 +64,8 @@ impl<F: Functions> Graph<F> {
         requires known { IsTrue (F.known self.old.functions f) }
         ensures { AnswersListed self.old self.new (Fold f initial kids.now) f.sig.gives result }
     {
-        let list = self.listed(kids)?;
-        self.add(Def::Fold(f, initial, list), f.sig.gives())
+        let nodes = self.listed(kids)?;
+        self.add(Def::Fold(f, initial, nodes), f.sig.gives())
     }
 
     /// A node that reads a test, and the first of two nodes where the test gives true, the second where it gives false,

@@ -6,7 +6,7 @@ use Rattle.inc_value.specs.declared.node.NodeId.{NodeId}
 use Rattle.point_map.specs.Rows.{Rows, at}
 use Rattle.inc_terms.specs.Within.{Given}
 use Rattle.node_outcomes.specs.Row.{outcome_in}
-use Rattle.graph.proofs.Adding.{Passes, answers_as, answers_broken}
+use Rattle.graph.proofs.Adding.{Passes, answers_as}
 use Rattle.graph.proofs.Seeing.{beside_as, built_still}
 use Rattle.graph.proofs.Sounding.{AddAnswers, adds_of, sound_still, answer_ready, answer_given, answer_fit}
 use Rattle.graph.proofs.graph.Graph.add.Goals as goal
@@ -35,9 +35,6 @@ invariant_of-self g c = (
       c.add-added.new.self.arena (def_of c.args.def) c.args.ty c.add-added.result answers known a.adds.kept.work.sound a.adds.keeps c.self.inside.parts.work
       c.self.invariant.1.kept.work c.self.invariant.3),
 )
-
-pub returns-in-Err : goal.returns-in-Err
-returns-in-Err g c = let b = c.in-Err.ensures.broken in answers_broken _ (def_of c.args.def) c.args.ty b.0 b.1 _ b.2
 
 pub returns : goal.returns
 returns g c =
