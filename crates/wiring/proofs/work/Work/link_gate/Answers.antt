@@ -1,4 +1,4 @@
-use Rattle.std.proofs.Common.{◌≡◌, ◌∙◌, ◌∷◌, inl, Some, [], sym, ap, subst}
+use Rattle.std.proofs.Common.{◌≡◌, ◌∙◌, ◌∷◌, inl, Some, [], false, refl, sym, ap, subst}
 use Rattle.inc_value.specs.declared.node.Point.{Point}
 use Rattle.inc_terms.specs.Depend.{change}
 use Rattle.inc_terms.specs.Graph.{Row}
@@ -69,7 +69,7 @@ returns-in_err-connect c =
 pub returns-then-not-branch : goal.returns-then-not-branch
 returns-then-not-branch c =
     gone_gates c.args.arena.now c.args.self.now (mid (goal.at.returns-then-not-branch c).After-set_stage) c.args.p (change c.args.bind) (owed (goal.at.returns-then-not-branch c).After-set_stage) (due (goal.at.returns-then-not-branch c).After-set_stage) c.connect.new.self
-    (rw c.change_point.ensures at c.in_ok-connect.ensures) _ c.if-not-branch.true refl
+    (rw c.change_point.ensures at c.in_ok-connect.ensures) false c.if-not-branch.true refl
 
 pub passes_gate-requires : goal.passes_gate-requires
 passes_gate-requires c = record {
