@@ -1,9 +1,14 @@
 //! What a stabilize works on beside the nodes, and how what is newly needed gets its links.
 #![tactic(auto)]
 
+mod death;
+mod heap;
+mod link;
+mod points;
 mod refused;
-mod scoped;
-mod settled;
+mod right;
+mod settle;
+mod unconfirmed;
 mod wire;
 mod work;
 

@@ -1,39 +1,35 @@
 //! Roots and links for what is newly needed.
-ghost use Rattle.std.specs.Prelude.{◌≡◌, ◌≢◌, ◌⊎◌, ◌↔◌, ◌<◌, [], true, None, Some, IsTrue, IsFalse, IsSome, map, vec_len, vec_capacity};
-ghost use Rattle.std.specs.Prelude.{IfOk, IfErr, OnOk, OnErr};
+ghost use Rattle.std.specs.Prelude.{◌≡◌, ◌≢◌, ◌⊎◌, ◌↔◌, ◌<◌, [], true, None, Some, IsTrue, IsFalse, IsSome, map, vec_len, vec_capacity, IfOk, IfErr};
+ghost use Rattle.std.specs.Prelude.{OnOk, OnErr};
 ghost use Rattle.inc_value.specs.Choice.{Among};
 ghost use Rattle.inc_value.specs.declared.node.NodeId.{NodeId as ANode};
+ghost use Rattle.inc_value.specs.declared.node.Point.{Point, Point as APoint};
 ghost use Rattle.inc_value.specs.declared.node.Part.TheVariants.{Main};
-ghost use Rattle.inc_value.specs.declared.node.Point.{Point};
 ghost use Rattle.inc_terms.specs.Code.{def_of};
-ghost use Rattle.inc_terms.specs.Depend.{change, main, subject_of};
+ghost use Rattle.inc_terms.specs.Depend.{main, subject_of, change};
 ghost use Rattle.inc_terms.specs.Graph.{Row as ARow, kids as kids_of_def};
 ghost use Rattle.inc_terms.specs.Within.{Given};
-ghost use Rattle.necessity.specs.Need.{OneRootMore, root_times};
 ghost use Rattle.point_map.specs.Rows.{at, Holds, KeepsRows};
+ghost use Rattle.link_table.specs.Links.{Reads};
+ghost use Rattle.necessity.specs.Need.{OneRootMore, root_times};
 ghost use Rattle.necessary_graph.specs.Part.{Needed, IsInStep};
 ghost use Rattle.node_arena.specs.Arena.{row_at};
-ghost use Rattle.node_outcomes.specs.Row.{stage_in, settled_in};
-ghost use Rattle.wiring.specs.Answers.{WireAnswers, TakenAnswers, GateAnswers, AsksGate, ConnectAnswers, LinkAnswers};
+ghost use Rattle.node_outcomes.specs.Row.{stage_in};
+ghost use Rattle.wiring.specs.Answers.{WireAnswers, TakenAnswers, GateAnswers, AsksGate};
 ghost use Rattle.wiring.specs.Kept.{IsKept};
-ghost use Rattle.wiring.specs.Refusing.{IsWhy};
 ghost use Rattle.wiring.specs.Rooting.{PutsRootOn};
 ghost use Rattle.wiring.specs.Stands.{hand};
-ghost use Rattle.wiring.specs.TakingOff.{TakesSome, TakesMore};
-ghost use Rattle.wiring.specs.Turning.{IsWaiting};
-ghost use Rattle.wiring.specs.Wiring.{GateRan, LacksLinks, MayRead};
-ghost use Rattle.wiring.specs.Wiring.{Wires, WireRefused, IsWoken, Looks, IsSpared, IsTarget};
-ghost use Rattle.wiring.specs.Wiring.{PutsRoots, RootRefused, KeepsPlaces, IsLevelled, Attaches, AttachRefused};
+ghost use Rattle.wiring.specs.Wiring.{GateRan, LacksLinks, Wires, WireRefused, IsWoken, Looks, PutsRoots, RootRefused, KeepsPlaces, IsLevelled};
+ghost use Rattle.wiring.specs.Wiring.{WaitsFor};
 
 use crate::refused::Refused;
 use crate::work::Work;
 use inc_terms::Def;
 use inc_value::{NodeId, Part, Point};
-use necessary_graph::LinkFault;
+use necessary_graph::NecessaryGraph;
 use node_arena::Arena;
 use node_outcomes::{
-    Progress, Stage, change_point, is_bare, is_full, is_gated, main_point, right_side, set_stage,
-    was_settled,
+    Progress, Stage, change_point, is_bare, is_gated, main_point, set_stage, was_settled,
 };
 use point_map::PointMap;
 use std::alloc::AllocError;
@@ -249,148 +245,57 @@ impl Work {
         Ok(())
     }
 
-    /// Links a main that waits for its node's change, which ran, to its right side.
-    pub fn attach_right(&mut self, arena: &Arena, node: NodeId) -> Result<(), Refused>
-        requires row { (r : ARow) × (row_at arena.now node ≡ Some r) × IsSome (subject_of r.def) }
-        requires settled { settled_in self.old.round (at self.old.rows (change node)) ≡ true }
-        requires kept { IsKept arena.now self.old }
-        ensures attached { OnOk result (Attaches arena.now self.old self.new node) }
-        ensures refused { IfErr result (AttachRefused arena.now self.old self.new node) }
-        ensures places { KeepsPlaces self.old self.new }
-        ensures kept { IsKept arena.now self.new }
-        ensures full { OnOk result (IsWaiting self.old node → (stage_in (at self.new.rows (main node)) ≡ Some Stage.Full)
-            ⊎ (self.new.retries < self.old.retries)) }
-        ensures stays { (IsWaiting self.old node → ⊥) → self.new ≡ self.old }
+    /// The points of a bind's scope that wait for the bind's change are to have their links. Without memory nothing
+    /// changes.
+    pub fn wake_scope(&mut self, bind: NodeId) -> Result<(), AllocError>
+        requires quiet { self.old.todo.items ≡ [] }
+        ensures woken { OnOk result ((p : APoint) → Among p self.new.todo.items ↔ WaitsFor self.old p (change bind)) }
+        ensures rest { self.new ≡ record self.old { todo = self.new.todo } }
+        ensures err { OnErr result (self.new.todo.items ≡ []) }
     {
-        if !self.is_waiting(node) {
-            return Ok(());
+        match gather_gated(&self.graph, &self.rows, change_point(bind), &mut self.todo) {
+            Ok(()) => Ok(()),
+            Err(AllocError) => {
+                self.todo.clear();
+                Err(AllocError)
+            }
         }
-        let p = main_point(node);
-        set_stage(&mut self.rows, p, Stage::Full);
-        let Some(row) = arena.get(node) else {
-            return Ok(());
-        };
-        if let Some(target) = right_side(&self.rows, &self.roots, node, &row.def) {
-            let _on = self.connect(arena, p, main_point(target))?;
-        }
-        Ok(())
     }
 
-    /// Links a needed point to what it reads. Where the link makes a circle or a chain that is too long, links that weren't
-    /// confirmed in this round are taken off, and it is tried again. It is refused for good once all of them are off. False
-    /// where the reader isn't needed any more then, or waits for its gate.
-    pub fn connect(&mut self, arena: &Arena, p: Point, q: Point) -> Result<bool, Refused>
+    /// A point that wasn't needed before is to have its links and to be recomputed. One of a node that died in this round is
+    /// to have its gate's alone, and one of another dead node has none.
+    pub fn newly_needed(&mut self, p: Point)
         requires needed { Needed self.old.graph p }
-        requires reader { MayRead self.old p q }
-        requires spared { IsSpared arena.now self.old p }
-        requires target { IsTarget arena.now self.old q }
-        requires kept { IsKept arena.now self.old }
-        ensures { ConnectAnswers arena.now self.old self.new p q result }
+        requires room { vec_len self.old.todo < vec_capacity self.old.todo }
+        requires step { IsInStep self.old.graph }
+        ensures { IsWoken self.old self.new p }
     {
-        while let Err(fault) = self.try_link(arena, p, q) {
-            if self.is_final(&fault) {
-                return Err(refusal(q, fault));
-            }
-            let gated = is_gated(&self.rows, p);
-            self.make_way(arena, points_of(&fault));
-            drop(fault);
-            if !self.is_still(p, gated) {
-                return Ok(false);
-            }
-        }
-        Ok(true)
-    }
-
-    /// Whether a link that is refused so isn't tried again.
-    fn is_final(&self, fault: &LinkFault) -> bool
-        ensures strict { IsTrue result → (self.now.retries ≡ 0) ⊎ (fault.now ≡ LinkFault.Memory) }
-        ensures retried { IsFalse result → 0 < self.now.retries }
-        ensures walked { IsFalse result → fault.now ≢ LinkFault.Memory }
-    {
-        match fault {
-            LinkFault::Memory => true,
-            LinkFault::Path(_) | LinkFault::Over(_) => self.retries == 0,
+        if self.rows.holds(p) {
+            set_stage(&mut self.rows, p, Stage::Bare);
+            self.enqueue(p);
+            self.todo.push_reserved(p);
+        } else if self.deaths.holds(p.node) {
+            self.todo.push_reserved(p);
         }
     }
 
-    /// Takes off links that weren't confirmed in this round, and lets fewer links be tried again: those of these points'
-    /// nodes, or all, where that leaves the points as they were, or links were tried again too often.
-    fn make_way(&mut self, arena: &Arena, points: &[Point])
-        requires kept { IsKept arena.now self.old }
-        requires some { 0 < self.old.retries }
-        ensures taken { TakesMore arena.now self.old self.new }
-        ensures fewer { self.new.retries < self.old.retries }
-    {
-        let took = self.take_off_along(arena, points);
-        if took && self.retries > 1 {
-            self.retries -= 1;
-        } else {
-            self.take_off_unconfirmed(arena);
-        }
-    }
-
-    /// Takes off the links that weren't confirmed in this round of these points' nodes. Answers whether one of the points has
-    /// fewer links then.
-    fn take_off_along(&mut self, arena: &Arena, points: &[Point]) -> bool
-        requires kept { IsKept arena.now self.old }
-        ensures { TakesSome arena.now self.old self.new }
-    {
-        let mut took = false;
-        for p in points {
-            let full = is_full(&self.rows, *p);
-            let lacking = lacks_links(&self.rows, *p);
-            self.take_off_at(arena, p.node);
-            took |= full != is_full(&self.rows, *p);
-            took |= lacking != lacks_links(&self.rows, *p);
-        }
-        took
-    }
-
-    /// Takes off the links of a node that weren't confirmed in this round.
-    fn take_off_at(&mut self, arena: &Arena, node: NodeId)
-        requires kept { IsKept arena.now self.old }
-        ensures { TakesSome arena.now self.old self.new }
-    {
-        self.put_back_unconfirmed(arena, node);
-        self.take_off(arena, node);
-    }
-
-    /// Whether a point is needed and, if it had more than its gate's link, wasn't put back to that.
-    fn is_still(&self, p: Point, gated: bool) -> bool
-        ensures { IsTrue result ↔ (Needed self.now.graph p
-            × (stage_in (at self.now.rows p) ≡ Some Stage.Gated → IsTrue gated)) }
-    {
-        self.graph.is_needed(p) && (gated || !is_gated(&self.rows, p))
-    }
-
-    /// Links a needed point to what it reads, if that makes no circle and no chain that is too long.
-    fn try_link(&mut self, arena: &Arena, p: Point, q: Point) -> Result<(), LinkFault>
+    /// A needed point that wasn't needed before is to have its links and to be recomputed.
+    pub(crate) fn wake(&mut self, p: Point, newly: bool)
         requires needed { Needed self.old.graph p }
-        requires reader { MayRead self.old p q }
-        requires target { IsTarget arena.now self.old q }
-        requires kept { IsKept arena.now self.old }
-        ensures { LinkAnswers arena.now self.old self.new p q result }
+        requires room { vec_len self.old.todo < vec_capacity self.old.todo }
+        requires step { IsInStep self.old.graph }
+        ensures woken { IsTrue newly → IsWoken self.old self.new p }
+        ensures unchanged { IsFalse newly → self.new ≡ self.old }
+        ensures step { IsInStep self.new.graph }
     {
-        let _ = arena;
-        let opened = match self.make_room(q) {
-            Ok(opened) => opened,
-            Err(AllocError) => return Err(LinkFault::Memory),
-        };
-        match self.graph.link(p, q) {
-            Ok(newly) => {
-                self.wake(q, newly);
-                Ok(())
-            }
-            Err(fault) => {
-                self.close(q, opened);
-                Err(fault)
-            }
+        if newly {
+            self.newly_needed(p);
         }
     }
 
     /// Makes room for a point that may be newly needed: a place of the worklist, and the point itself where its node
     /// is dead. Answers whether the point was added.
-    fn make_room(&mut self, p: Point) -> Result<bool, AllocError>
+    pub(crate) fn make_room(&mut self, p: Point) -> Result<bool, AllocError>
         requires step { IsInStep self.old.graph }
         ensures there { OnOk result (Holds self.new.graph.heights p) }
         ensures opened { IfOk result (λ opened. IsTrue opened ↔ (at self.old.graph.heights p ≡ None)) }
@@ -409,47 +314,29 @@ impl Work {
         self.graph.add(p, 0)?;
         Ok(true)
     }
+}
 
-    /// A needed point that wasn't needed before is to have its links and to be recomputed.
-    fn wake(&mut self, p: Point, newly: bool)
-        requires needed { Needed self.old.graph p }
-        requires room { vec_len self.old.todo < vec_capacity self.old.todo }
-        requires step { IsInStep self.old.graph }
-        ensures woken { IsTrue newly → IsWoken self.old self.new p }
-        ensures unchanged { IsFalse newly → self.new ≡ self.old }
-        ensures step { IsInStep self.new.graph }
-    {
-        if newly {
-            self.newly_needed(p);
+/// Puts the points that read the gate and have its link alone behind the list.
+fn gather_gated(
+    graph: &NecessaryGraph,
+    rows: &PointMap<Progress>,
+    gate: Point,
+    todo: &mut Vec<Point>,
+) -> Result<(), AllocError>
+    ensures gathered { OnOk result ((p : APoint) → Among p todo.new.items
+        ↔ (Among p todo.old.items ⊎ (Reads graph.now.links p gate × (stage_in (at rows.now p) ≡ Some Stage.Gated)))) }
+{
+    for reader in graph.readers(gate) {
+        if is_gated(rows, reader) {
+            todo.push(reader)?;
         }
     }
+    Ok(())
 }
 
 /// Whether a point of a live node has its gate's link alone, or none.
-fn lacks_links(rows: &PointMap<Progress>, p: Point) -> bool
+pub(crate) fn lacks_links(rows: &PointMap<Progress>, p: Point) -> bool
     ensures { IsTrue result ↔ ((stage_in (at rows.now p) ≡ Some Stage.Bare) ⊎ (stage_in (at rows.now p) ≡ Some Stage.Gated)) }
 {
     is_bare(rows, p) || is_gated(rows, p)
-}
-
-/// The points that a fault tells.
-fn points_of(fault: &LinkFault) -> &[Point] {
-    match fault {
-        LinkFault::Path(points) | LinkFault::Over(points) => points.as_slice(),
-        LinkFault::Memory => &[],
-    }
-}
-
-/// Why a stabilize is refused where a link to the point is.
-fn refusal(q: Point, fault: LinkFault) -> Refused
-    ensures { IsWhy q fault result }
-{
-    match fault {
-        LinkFault::Memory => Refused::Memory,
-        LinkFault::Over(points) => Refused::Height(points),
-        LinkFault::Path(mut points) => match points.push(q) {
-            Ok(()) => Refused::Cycle(points),
-            Err(_) => Refused::Memory,
-        },
-    }
 }

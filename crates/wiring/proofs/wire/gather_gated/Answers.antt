@@ -2,7 +2,7 @@ use Rattle.std.proofs.Common.{List, ap, sym, subst}
 use Rattle.inc_value.specs.declared.node.Point.{Point}
 use Rattle.link_table.specs.Walks.{readers_left}
 use Rattle.wiring.proofs.Gathering.{IsGathering, gathering_first, gathering_skip, gathering_put, gathering_last}
-use Rattle.wiring.proofs.scoped.gather_gated.Goals as goal
+use Rattle.wiring.proofs.wire.gather_gated.Goals as goal
 
 pub loop-reader-init : goal.loop-reader-init
 loop-reader-init c =
