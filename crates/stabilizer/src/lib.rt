@@ -1,6 +1,8 @@
 //! The stabilizer: brings what is needed of a graph up to date, one point at a time.
 #![tactic(auto)]
 
+mod build;
+mod kill;
 mod parts;
 mod rebuild;
 mod stabilizer;

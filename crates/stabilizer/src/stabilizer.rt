@@ -25,8 +25,8 @@ ghost use Rattle.stabilizer.specs.Giving.{GivesLive, GivesFew, StopsFull};
 ghost use Rattle.stabilizer.specs.Staying.{MayStep, ChangeIsTaken, RoundStays};
 ghost use Rattle.stabilizer.specs.Weights.{SidesFit};
 
+use crate::build::Recipe;
 use crate::parts::Parts;
-use crate::rebuild::Recipe;
 use inc_terms::Def;
 use inc_value::{NodeId, Outcome, Part};
 use node_arena::{Arena, Functions};

@@ -9,7 +9,7 @@ use Rattle.point_map.specs.Rows.{at}
 use Rattle.std.proofs.lemmas.Option.{none-some}
 use Rattle.wiring.specs.declared.refused.Refused.TheVariants.{Memory}
 use Rattle.wiring.proofs.Raising.{if_refusal}
-use Rattle.stabilizer.specs.declared.rebuild.Recipe.{Recipe}
+use Rattle.stabilizer.specs.declared.build.Recipe.{Recipe}
 use Rattle.stabilizer.specs.Kept.{counts_by}
 use Rattle.stabilizer.specs.Rebuilding.{BuildsAnew, BuildRefused, as_it_was, IsToBuild}
 use Rattle.stabilizer.specs.Stepping.{IsUnbuiltBind, IsBuiltFor, built, turned}

@@ -1,6 +1,6 @@
 use Rattle.node_arena.specs.Arena.{live}
 use Rattle.stabilizer.proofs.Disowning.{AreDropping}
-use Rattle.stabilizer.proofs.rebuild.drop_since.Given as goal
+use Rattle.stabilizer.proofs.build.drop_since.Given as goal
 
 abbrev pub invariant-loop-node : goal.invariant-loop-node
 invariant-loop-node l = record {

@@ -1,5 +1,5 @@
 use Rattle.stabilizer.proofs.Disowning.{dropping_begins, dropping_more, drops_since}
-use Rattle.stabilizer.proofs.rebuild.drop_since.Goals as goal
+use Rattle.stabilizer.proofs.build.drop_since.Goals as goal
 
 pub loop-node-init : goal.loop-node-init
 loop-node-init c = record { so = dropping_begins c.args.arena.now c.args.count c.requires.sound c.requires.later }

@@ -1,0 +1,145 @@
+//! What was built for a bind is cut off, and dies.
+ghost use Rattle.std.specs.Prelude.{◌≡◌, ◌≤◌, ◌<◌, ◌-◌, None, Some, IsSome, [], length, vec_capacity};
+ghost use Rattle.inc_value.specs.Choice.{Among, NoRepeats};
+ghost use Rattle.inc_value.specs.declared.node.NodeId.{NodeId as ANode};
+ghost use Rattle.inc_terms.specs.Depend.{change};
+ghost use Rattle.point_map.specs.Rows.{Holds};
+ghost use Rattle.scopes.specs.Scopes.{node_count};
+ghost use Rattle.necessary_graph.specs.Part.{Needed, IsInStep};
+ghost use Rattle.node_arena.specs.Arena.{live, IsLive};
+ghost use Rattle.wiring.specs.Graph.{died_at};
+ghost use Rattle.wiring.specs.Kept.{IsKept};
+ghost use Rattle.stabilizer.specs.Kept.{PartsKept, graph_in};
+ghost use Rattle.stabilizer.specs.Dying.{AreDying, IsCutOff, HasDied, HaveGatesAlone, LeavesStanding, StandsBut, scope_at, AreListed, MayBury};
+ghost use Rattle.stabilizer.specs.Dying.{AreBuried, LosesRight, IsDoomed, IsPutToGate, KeepsGate};
+ghost use Rattle.stabilizer.specs.Staying.{ChangeIsTaken};
+
+use crate::parts::Parts;
+use inc_value::{NodeId, Point};
+use node_outcomes::{change_point, main_point};
+
+impl Parts {
+    /// The main of a bind loses its right side, and the nodes of the bind's scope, and of scopes within it, all links but
+    /// those to their gates; they are to die. The bind's change is in the heap again. This takes no memory, and costs what is
+    /// to die.
+    pub(crate) fn cut_off(&mut self, bind: NodeId)
+        requires kept { PartsKept self.old }
+        requires live { IsLive self.old.arena bind }
+        requires taken { ChangeIsTaken self.old.work bind }
+        requires quiet { self.old.work.todo.items ≡ [] }
+        requires room { node_count self.old.scopes ≤ vec_capacity self.old.dying }
+        ensures cut { IsCutOff self.old self.new bind }
+        ensures dying { AreDying (graph_in self.new) bind self.new.dying.items }
+        ensures few { length self.new.dying.items ≤ node_count self.old.scopes }
+        ensures scopes { LeavesStanding self.old self.new bind }
+    {
+        self.loosen(bind);
+        self.doom(bind);
+    }
+
+    /// The bind's change is in the heap again, and its main has no right side any more.
+    fn loosen(&mut self, bind: NodeId)
+        requires live { IsLive self.old.arena bind }
+        requires needed { Needed self.old.work.graph (change bind) }
+        requires step { IsInStep self.old.work.graph }
+        ensures loosened { LosesRight self.old.arena self.old.work self.new.work bind }
+        ensures rest { self.new ≡ record self.old { work = self.new.work } }
+    {
+        if let Some(row) = self.arena.get(bind) {
+            self.work.loosen(bind, &row.def);
+        }
+    }
+
+    /// The nodes of a bind's scope, and of scopes within it, are put back to their gates, and are to die.
+    fn doom(&mut self, bind: NodeId)
+        requires kept { PartsKept self.old }
+        requires room { node_count self.old.scopes ≤ vec_capacity self.old.dying }
+        ensures { IsDoomed self.old self.new bind }
+    {
+        self.scopes.kill(bind);
+        while let Some(node) = self.scopes.next_killed() {
+            self.put_to_gate(node);
+            self.dying.push_reserved(node);
+        }
+    }
+
+    /// A node in a scope is put back to its gate: its points have the links to it alone.
+    fn put_to_gate(&mut self, node: NodeId)
+        requires kept { IsKept self.old.arena self.old.work }
+        requires scoped { IsSome (scope_at self.old.arena node) }
+        ensures put { IsPutToGate self.old.arena self.old.work self.new.work node }
+        ensures rest { self.new ≡ record self.old { work = self.new.work } }
+    {
+        if let Some(scope) = self.scope_of(node) {
+            self.work.put_back_node(&self.arena, node, scope);
+            self.keep_gate(main_point(node), change_point(scope));
+            self.keep_gate(change_point(node), change_point(scope));
+        }
+    }
+
+    /// A needed point keeps its links to the gate alone.
+    fn keep_gate(&mut self, p: Point, gate: Point)
+        requires step { IsInStep self.old.work.graph }
+        ensures gate { KeepsGate self.old.work self.new.work p gate }
+        ensures rest { self.new ≡ record self.old { work = self.new.work } }
+    {
+        if self.work.graph.is_needed(p) {
+            self.work.reduce(p, gate);
+        }
+    }
+
+    /// The nodes that are to die, those of a bind's scope and of scopes within it, die, and the bind is built for nothing.
+    /// This takes no memory, and costs what dies.
+    pub(crate) fn let_die(&mut self, bind: NodeId)
+        requires kept { IsKept self.old.arena self.old.work }
+        requires dying { AreDying (graph_in self.old) bind self.old.dying.items }
+        requires gates { HaveGatesAlone self.old bind }
+        requires scopes { StandsBut self.old bind }
+        requires row { Holds self.old.work.rows (change bind) }
+        requires room { length self.old.dying.items ≤ self.old.work.deaths.spare }
+        ensures died { HasDied self.old self.new bind }
+        ensures kept { PartsKept self.new }
+    {
+        self.list_dying();
+        self.work.forget_built(bind);
+        self.bury_dying();
+    }
+
+    /// The nodes that are to die are listed among the dead of the round, each with its scope.
+    fn list_dying(&mut self)
+        requires once { NoRepeats self.old.dying.items }
+        requires scopes { (n : ANode) → Among n self.old.dying.items → IsSome (scope_at self.old.arena n) }
+        requires absent { (n : ANode) → Among n self.old.dying.items → died_at self.old.work n ≡ None }
+        requires room { length self.old.dying.items ≤ self.old.work.deaths.spare }
+        ensures listed { AreListed self.old.arena self.old.work self.new.work self.old.dying.items }
+        ensures rest { self.new ≡ record self.old { work = self.new.work } }
+    {
+        for place in 0..self.dying.len() {
+            let node = self.dying[place];
+            if let Some(scope) = self.scope_of(node) {
+                self.work.deaths.add(node, scope);
+            }
+        }
+    }
+
+    /// The bind in whose scope a live node stands.
+    fn scope_of(&self, node: NodeId) -> Option<NodeId>
+        ensures { result ≡ scope_at self.now.arena node }
+    {
+        self.arena.get(node)?.scope
+    }
+
+    /// The nodes that are to die are dropped.
+    fn bury_dying(&mut self)
+        requires bury { MayBury self.old.arena self.old.work self.old.dying.items }
+        ensures buried { AreBuried self.old.arena self.new.arena self.old.work self.new.work self.old.dying.items }
+        ensures none { self.new.dying.items ≡ [] }
+        ensures step { IsInStep self.new.work.graph }
+        ensures rest { self.new ≡ record self.old { arena = self.new.arena; work = self.new.work; dying = self.new.dying } }
+    {
+        while let Some(node) = self.dying.pop() {
+            self.work.bury(node);
+            self.arena.drop_node(node);
+        }
+    }
+}
