@@ -26,7 +26,7 @@ use Rattle.wiring.specs.Kept.{IsKept}
 use Rattle.wiring.specs.declared.work.Work.{Work}
 use Rattle.stabilizer.specs.Weights.{weight_of, weight_in, weight_at, IsInScope, SidesFit}
 use Rattle.stabilizer.specs.declared.parts.Parts.{Parts}
-use Rattle.stabilizer.proofs.Weighing.{ScopesStay, scopes_stay, sides_last}
+use Rattle.stabilizer.proofs.Building.Weighing.{ScopesStay, scopes_stay, sides_last}
 use Rattle.graph.specs.Effects.{CallsKnown}
 
 -- ---- of a definition

@@ -18,9 +18,9 @@ use Rattle.wiring.specs.declared.refused.Refused.TheVariants as refused
 use Rattle.graph.specs.declared.fault.Kept.TheVariants as kept
 use Rattle.graph.specs.Fault.{kept_of}
 use Rattle.graph.specs.Few.{ListsTops, AreFew, IdsAreFew, IsFilled}
-use Rattle.stabilizer.proofs.Sums.{those, those_were, those_once, those_sum, share, sum_most, sum_most_but, sum_both, sum_one, sum_more, stood_for}
-use Rattle.stabilizer.proofs.Giving.{gives_few}
-use Rattle.stabilizer.proofs.Alive.{alive, alive_count, alive_once, alive_row, among_alive}
+use Rattle.stabilizer.proofs.Building.Sums.{those, those_were, those_once, those_sum, share, sum_most, sum_most_but, sum_both, sum_one, sum_more, stood_for}
+use Rattle.stabilizer.proofs.Step.Giving.{gives_few}
+use Rattle.stabilizer.proofs.Round.Alive.{alive, alive_count, alive_once, alive_row, among_alive}
 
 -- ---- by group
 

@@ -15,9 +15,9 @@ use Rattle.wiring.specs.Graph.{graph_at}
 use Rattle.wiring.specs.Kept.{IsKept}
 use Rattle.wiring.specs.declared.work.Work.{Work}
 use Rattle.graph.specs.Few.{ScopesAreFew}
-use Rattle.stabilizer.proofs.Alive.{alive, alive_once, alive_row, among_alive}
-use Rattle.stabilizer.proofs.Giving.{no_more}
-use Rattle.stabilizer.proofs.Sums.{those, those_were, those_once, put}
+use Rattle.stabilizer.proofs.Round.Alive.{alive, alive_once, alive_row, among_alive}
+use Rattle.stabilizer.proofs.Step.Giving.{no_more}
+use Rattle.stabilizer.proofs.Building.Sums.{those, those_were, those_once, put}
 use Rattle.graph.proofs.Grouping.{few_by_tops, stands_or_not, scope_in, up, w, row_of_scope, scope_fits, weights_are}
 
 -- ---- who stands inside

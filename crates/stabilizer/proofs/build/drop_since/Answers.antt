@@ -1,4 +1,4 @@
-use Rattle.stabilizer.proofs.Disowning.{dropping_begins, dropping_more, drops_since}
+use Rattle.stabilizer.proofs.Building.Disowning.{dropping_begins, dropping_more, drops_since}
 use Rattle.stabilizer.proofs.build.drop_since.Goals as goal
 
 pub loop-node-init : goal.loop-node-init

@@ -1,5 +1,5 @@
 use Rattle.node_arena.specs.Arena.{live}
-use Rattle.stabilizer.proofs.Disowning.{AreDropping}
+use Rattle.stabilizer.proofs.Building.Disowning.{AreDropping}
 use Rattle.stabilizer.proofs.build.drop_since.Given as goal
 
 abbrev pub invariant-loop-node : goal.invariant-loop-node

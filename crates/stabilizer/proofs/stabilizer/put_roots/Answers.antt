@@ -6,7 +6,7 @@ use Rattle.necessity.specs.Need.{OneRootMore, root_times}
 use Rattle.inc_terms.specs.Depend.{main}
 use Rattle.stabilizer.specs.Round.{RootsMore}
 use Rattle.wiring.specs.Wiring.{RootRefused}
-use Rattle.stabilizer.proofs.Rounding.{exit_is, none_put, one_put, put_refused, roots_tried, roots_only}
+use Rattle.stabilizer.proofs.Step.Making.{exit_is, none_put, one_put, put_refused, roots_tried, roots_only}
 use Rattle.stabilizer.proofs.stabilizer.put_roots.Goals as goal
 
 abbrev other : NodeId

@@ -1,5 +1,5 @@
 use Rattle.std.proofs.Common.{take}
-use Rattle.stabilizer.proofs.Rounding.{ArePut}
+use Rattle.stabilizer.proofs.Step.Making.{ArePut}
 use Rattle.stabilizer.proofs.stabilizer.put_roots.Given as goal
 
 abbrev pub invariant-loop-node : goal.invariant-loop-node

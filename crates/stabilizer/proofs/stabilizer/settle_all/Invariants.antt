@@ -4,8 +4,8 @@ use Rattle.node_outcomes.specs.Meaning.{meaning_of}
 use Rattle.stabilizer.specs.Kept.{counts_by}
 use Rattle.stabilizer.specs.Staying.{RoundStays}
 use Rattle.stabilizer.specs.Stepping.{left_to_settle}
-use Rattle.stabilizer.proofs.EveryPoint.{every_point, every_node}
-use Rattle.stabilizer.proofs.Rounding.{AreSettled}
+use Rattle.stabilizer.proofs.Building.EveryPoint.{every_point, every_node}
+use Rattle.stabilizer.proofs.Step.Making.{AreSettled}
 use Rattle.stabilizer.proofs.stabilizer.settle_all.Given as goal
 
 abbrev pub invariant-loop : goal.invariant-loop

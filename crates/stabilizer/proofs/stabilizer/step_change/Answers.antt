@@ -7,9 +7,9 @@ use Rattle.wiring.specs.declared.work.Work.{Work}
 use Rattle.wiring.proofs.Raising.{if_refusal}
 use Rattle.stabilizer.specs.Kept.{counts_by}
 use Rattle.stabilizer.specs.Stepping.{ChangeIsLeft, unattached, unwired}
-use Rattle.stabilizer.proofs.Again.{left_again, again_kept, two_points}
-use Rattle.stabilizer.proofs.Changing.{on_ok, if_err}
-use Rattle.stabilizer.proofs.Staying.{work_moved}
+use Rattle.stabilizer.proofs.Change.Again.{left_again, again_kept, two_points}
+use Rattle.stabilizer.proofs.Change.Changing.{on_ok, if_err}
+use Rattle.stabilizer.proofs.Step.Staying.{work_moved}
 use Rattle.stabilizer.proofs.stabilizer.step_change.Goals as goal
 
 pub returns-in-Err-clause-refused : goal.returns-in-Err-clause-refused

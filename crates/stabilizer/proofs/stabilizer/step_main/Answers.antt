@@ -3,8 +3,8 @@ use Rattle.node_arena.proofs.RightSides.{fit_lists_given}
 use Rattle.node_outcomes.specs.Meaning.{functions_of}
 use Rattle.wiring.specs.declared.work.Work.{Work}
 use Rattle.stabilizer.specs.Kept.{counts_by}
-use Rattle.stabilizer.proofs.MeaningKept.{meaning_kept}
-use Rattle.stabilizer.proofs.Mains.{main_settled, main_left, main_kept, uncomputed_kept, types_kept, main_lives, only_noted, one_tally}
+use Rattle.stabilizer.proofs.Step.MeaningKept.{meaning_kept}
+use Rattle.stabilizer.proofs.Step.Mains.{main_settled, main_left, main_kept, uncomputed_kept, types_kept, main_lives, only_noted, one_tally}
 use Rattle.stabilizer.proofs.stabilizer.step_main.Goals as goal
 
 pub compute-computed-requires-clause-types : goal.compute-computed-requires-clause-types

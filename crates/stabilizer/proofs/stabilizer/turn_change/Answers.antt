@@ -13,12 +13,12 @@ use Rattle.stabilizer.specs.declared.build.Recipe.{Recipe}
 use Rattle.stabilizer.specs.Kept.{counts_by}
 use Rattle.stabilizer.specs.Rebuilding.{BuildsAnew, BuildRefused, as_it_was, IsToBuild}
 use Rattle.stabilizer.specs.Stepping.{IsUnbuiltBind, IsBuiltFor, built, turned}
-use Rattle.stabilizer.proofs.Again.{woken_refused, woken_own, woken_roots, woken_round, woken_kept, by_result, some_of, two_points, has_subject}
-use Rattle.stabilizer.proofs.RebuildEnds.{if_on_err}
-use Rattle.stabilizer.proofs.Changing.{on_ok, both_ok, if_err}
-use Rattle.stabilizer.proofs.Running.{some_same}
-use Rattle.stabilizer.proofs.Staying.{nothing_done, work_moved}
-use Rattle.stabilizer.proofs.Turned.{turned_own, turned_settled, turned_roots, turned_round, turned_kept, is_turned}
+use Rattle.stabilizer.proofs.Change.Again.{woken_refused, woken_own, woken_roots, woken_round, woken_kept, by_result, some_of, two_points, has_subject}
+use Rattle.stabilizer.proofs.Building.Ends.{if_on_err}
+use Rattle.stabilizer.proofs.Change.Changing.{on_ok, both_ok, if_err}
+use Rattle.stabilizer.proofs.Change.Running.{some_same}
+use Rattle.stabilizer.proofs.Step.Staying.{nothing_done, work_moved}
+use Rattle.stabilizer.proofs.Change.Turned.{turned_own, turned_settled, turned_roots, turned_round, turned_kept, is_turned}
 use Rattle.stabilizer.proofs.stabilizer.turn_change.Goals as goal
 
 -- ---- the change is of a live node that has a subject

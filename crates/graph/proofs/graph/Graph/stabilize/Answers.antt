@@ -8,8 +8,8 @@ use Rattle.stabilize_round.specs.Invariant.{Rooted}
 use Rattle.graph.specs.Inside.{CanStabilize}
 use Rattle.graph.specs.Standing.{in_use}
 use Rattle.stabilizer.specs.Kept.{graph_in, counts_by}
-use Rattle.stabilizer.proofs.Giving.{live_few, gives_few}
-use Rattle.stabilizer.proofs.MeaningKept.{means_still}
+use Rattle.stabilizer.proofs.Step.Giving.{live_few, gives_few}
+use Rattle.stabilizer.proofs.Step.MeaningKept.{means_still}
 use Rattle.wiring.specs.declared.refused.Refused.TheVariants.{Memory}
 use Rattle.graph.proofs.Observing.{all_of}
 use Rattle.graph.proofs.Sound.{ready_built}

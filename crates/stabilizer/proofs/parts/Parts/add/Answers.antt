@@ -1,6 +1,6 @@
 use Rattle.inc_terms.specs.Code.{def_of}
 use Rattle.node_arena.specs.declared.arena.AddFault.TheVariants.{Memory}
-use Rattle.stabilizer.proofs.Added.{says_added, says_nothing, nothing_tried}
+use Rattle.stabilizer.proofs.Between.Added.{says_added, says_nothing, nothing_tried}
 use Rattle.stabilizer.proofs.parts.Parts.add.Goals as goal
 
 pub returns-in-Err-clause-adds : goal.returns-in-Err-clause-adds

@@ -2,7 +2,7 @@ use Rattle.std.proofs.Common.{◌≡◌, None, sym, ap, ◌∙◌}
 use Rattle.std.specs.Prelude.{is_some}
 use Rattle.inc_value.specs.declared.node.NodeId.{NodeId}
 use Rattle.node_arena.specs.Arena.{Arena, row_of, row_at, IsLive}
-use Rattle.stabilizer.proofs.Adopting.{gets_points, gets_rest, back_rest}
+use Rattle.stabilizer.proofs.Building.Adopting.{gets_points, gets_rest, back_rest}
 use Rattle.stabilizer.proofs.parts.Parts.adopt.Goals as goal
 
 -- ---- the node is live

@@ -1,5 +1,5 @@
 use Rattle.necessity.proofs.Sound.{on_err}
-use Rattle.stabilizer.proofs.Adopting.{next_apart, next_given, next_low, adopts_more, adopts_same}
+use Rattle.stabilizer.proofs.Building.Adopting.{next_apart, next_given, next_low, adopts_more, adopts_same}
 use Rattle.stabilizer.proofs.parts.Parts.adopt_since.Goals as goal
 
 pub adopt-requires-clause-apart : goal.adopt-requires-clause-apart

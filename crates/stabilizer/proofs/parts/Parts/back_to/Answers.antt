@@ -6,7 +6,7 @@ use Rattle.inc_terms.specs.Graph.{Row}
 use Rattle.node_arena.specs.Arena.{row_at}
 use Rattle.stabilizer.specs.Between.{IsTakenBack}
 use Rattle.wiring.specs.declared.work.Work.{Work}
-use Rattle.stabilizer.proofs.Dropping.{dropped_more, apart_since, walk_goes_on, walk_ends, walk_leaves_none, next_fits, taken_back}
+use Rattle.stabilizer.proofs.Between.Dropping.{dropped_more, apart_since, walk_goes_on, walk_ends, walk_leaves_none, next_fits, taken_back}
 use Rattle.stabilizer.proofs.parts.Parts.back_to.Goals as goal
 
 pub loop-id-preserved : goal.loop-id-preserved

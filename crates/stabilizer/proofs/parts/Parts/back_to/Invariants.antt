@@ -1,7 +1,7 @@
 use Rattle.std.proofs.Common.{◌≡◌}
 use Rattle.node_arena.specs.Arena.{live}
 use Rattle.stabilizer.specs.Between.{HasDropped}
-use Rattle.stabilizer.proofs.Dropping.{AreWalked}
+use Rattle.stabilizer.proofs.Between.Dropping.{AreWalked}
 use Rattle.stabilizer.proofs.parts.Parts.back_to.Given as goal
 
 abbrev pub invariant-loop-id : goal.invariant-loop-id

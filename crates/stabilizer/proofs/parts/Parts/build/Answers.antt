@@ -1,7 +1,7 @@
 use Rattle.std.proofs.Common.{refl, ap, Err}
 use Rattle.node_arena.specs.declared.stored.BuildFault.{BuildFault}
-use Rattle.stabilizer.proofs.Built.{HasBuiltNodes, can_adopt, can_disown, none_adopted, all_built, all_gives, all_spends, stops_by}
-use Rattle.stabilizer.proofs.Built.{none_built, none_left, none_spends, none_room}
+use Rattle.stabilizer.proofs.Building.Built.{HasBuiltNodes, can_adopt, can_disown, none_adopted, all_built, all_gives, all_spends, stops_by}
+use Rattle.stabilizer.proofs.Building.Built.{none_built, none_left, none_spends, none_room}
 use Rattle.stabilizer.proofs.parts.Parts.build.Given.{Over}
 use Rattle.stabilizer.proofs.parts.Parts.build.Goals.{After-build-built}
 use Rattle.stabilizer.proofs.parts.Parts.build.Goals as goal

@@ -6,7 +6,7 @@ use Rattle.point_map.specs.Rows.{Rows, at, Changes}
 use Rattle.wiring.specs.declared.refused.Refused.TheVariants.{Memory}
 use Rattle.wiring.proofs.Raising.{if_refusal}
 use Rattle.stabilizer.specs.Rooted.{GetsNoRoot, no_room, stopped, with_roots}
-use Rattle.stabilizer.proofs.RebuiltKept.{roots_roomy}
+use Rattle.stabilizer.proofs.Building.Kept.{roots_roomy}
 use Rattle.stabilizer.proofs.parts.Parts.build_root.Goals as goal
 
 pub returns-in_err-reserve-clause-refused : goal.returns-in_err-reserve-clause-refused

@@ -1,6 +1,6 @@
 use Rattle.std.proofs.Common.{ap}
 use Rattle.stabilizer.specs.declared.parts.Parts.{Parts}
-use Rattle.stabilizer.proofs.BuryingAll.{next_main, next_change, next_died, next_live, burying_more}
+use Rattle.stabilizer.proofs.Killing.BuryingAll.{next_main, next_change, next_died, next_live, burying_more}
 use Rattle.stabilizer.proofs.parts.Parts.bury_dying.Goals as goal
 
 pub bury-requires-clause-main : goal.bury-requires-clause-main

@@ -1,5 +1,5 @@
 use Rattle.std.proofs.Common.{◌≡◌, length}
-use Rattle.stabilizer.proofs.BuryingAll.{IsBurying}
+use Rattle.stabilizer.proofs.Killing.BuryingAll.{IsBurying}
 use Rattle.stabilizer.proofs.parts.Parts.bury_dying.Given as goal
 
 abbrev pub invariant-loop-node : goal.invariant-loop-node

@@ -2,7 +2,7 @@ use Rattle.std.proofs.Common.{sym, subst}
 use Rattle.stabilizer.specs.Dying.{IsDoomed}
 use Rattle.stabilizer.specs.Kept.{PartsKept}
 use Rattle.stabilizer.specs.declared.parts.Parts.{Parts}
-use Rattle.stabilizer.proofs.CuttingOff.{begun_kept, cut_off, cut_standing}
+use Rattle.stabilizer.proofs.Killing.CuttingOff.{begun_kept, cut_off, cut_standing}
 use Rattle.stabilizer.proofs.parts.Parts.cut_off.Goals as goal
 
 pub doom-requires-clause-kept : goal.doom-requires-clause-kept

@@ -1,6 +1,6 @@
 use Rattle.std.proofs.Common.{refl}
 use Rattle.stabilizer.specs.declared.parts.Parts.{Parts}
-use Rattle.stabilizer.proofs.Disowning.{may_leave, has_disowned}
+use Rattle.stabilizer.proofs.Building.Disowning.{may_leave, has_disowned}
 use Rattle.stabilizer.proofs.parts.Parts.disown_since.Goals as goal
 
 pub drop_entered-requires : goal.drop_entered-requires

@@ -1,6 +1,6 @@
 use Rattle.std.proofs.Common.{[], ◌∷◌, ◌++◌, ◌+◌, sym, ap, subst, ◌∙◌, vec_len, vec_capacity}
 use Rattle.stabilizer.specs.declared.parts.Parts.{Parts}
-use Rattle.stabilizer.proofs.Dooming.{IsDooming, dooming_first, dooming_more, given_scoped, doomed}
+use Rattle.stabilizer.proofs.Killing.Dooming.{IsDooming, dooming_first, dooming_more, given_scoped, doomed}
 use Rattle.stabilizer.proofs.parts.Parts.doom.Goals as goal
 
 pub loop-node-init : goal.loop-node-init

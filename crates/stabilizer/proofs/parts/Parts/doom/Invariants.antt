@@ -1,5 +1,5 @@
 use Rattle.scopes.specs.Scopes.{node_count}
-use Rattle.stabilizer.proofs.Dooming.{IsDooming}
+use Rattle.stabilizer.proofs.Killing.Dooming.{IsDooming}
 use Rattle.stabilizer.proofs.parts.Parts.doom.Given as goal
 
 abbrev pub invariant-loop-node : goal.invariant-loop-node

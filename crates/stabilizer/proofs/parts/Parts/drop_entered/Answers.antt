@@ -2,7 +2,7 @@ use Rattle.std.proofs.Common.{refl, sym, ap, subst, ◌∙◌}
 use Rattle.scopes.specs.Scopes.{Scopes}
 use Rattle.stabilizer.specs.Building.{HaveLeft}
 use Rattle.stabilizer.specs.declared.parts.Parts.{Parts}
-use Rattle.stabilizer.proofs.Disowning.{leaving_begins, leaving_main, leaving_change, leaving_no_change, leaving_unneeded, leaving_more, have_left}
+use Rattle.stabilizer.proofs.Building.Disowning.{leaving_begins, leaving_main, leaving_change, leaving_no_change, leaving_unneeded, leaving_more, have_left}
 use Rattle.stabilizer.proofs.parts.Parts.drop_entered.Goals as goal
 
 pub loop-node-init : goal.loop-node-init

@@ -1,5 +1,5 @@
 use Rattle.scopes.specs.Scopes.{node_count}
-use Rattle.stabilizer.proofs.Disowning.{AreLeaving}
+use Rattle.stabilizer.proofs.Building.Disowning.{AreLeaving}
 use Rattle.stabilizer.proofs.parts.Parts.drop_entered.Given as goal
 
 abbrev pub invariant-loop-node : goal.invariant-loop-node

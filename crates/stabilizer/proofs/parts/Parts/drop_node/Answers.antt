@@ -4,7 +4,7 @@ use Rattle.point_map.specs.Rows.{Rows}
 use Rattle.stabilizer.specs.declared.parts.Parts.{Parts}
 use Rattle.wiring.specs.Places.{ChangesNode}
 use Rattle.wiring.specs.declared.work.Work.{Work}
-use Rattle.stabilizer.proofs.Dropping.{dropped_parts, dropped_ready}
+use Rattle.stabilizer.proofs.Between.Dropping.{dropped_parts, dropped_ready}
 use Rattle.stabilizer.proofs.parts.Parts.drop_node.Goals as goal
 
 module _ (c : goal.After-forget_roots) where

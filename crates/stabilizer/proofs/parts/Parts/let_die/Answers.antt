@@ -3,7 +3,7 @@ use Rattle.std.specs.Prelude.{is_some}
 use Rattle.inc_terms.specs.Depend.{change}
 use Rattle.point_map.specs.Rows.{at}
 use Rattle.wiring.specs.declared.work.Work.{Work}
-use Rattle.stabilizer.proofs.Died.{inside_scope, inside_row, live_undead, dying_may, died_all, kept_all}
+use Rattle.stabilizer.proofs.Killing.Died.{inside_scope, inside_row, live_undead, dying_may, died_all, kept_all}
 use Rattle.stabilizer.proofs.parts.Parts.let_die.Goals as goal
 
 pub list_dying-requires-clause-once : goal.list_dying-requires-clause-once

@@ -1,6 +1,6 @@
 use Rattle.std.proofs.Common.{◌≡◌, ◌<◌, ◌+◌, length, refl, sym, subst, ◌∙◌, arith}
 use Rattle.stabilizer.specs.declared.parts.Parts.{Parts}
-use Rattle.stabilizer.proofs.Listing.{AreBeingListed, listing_first, listing_last, parts_absent, parts_more, parts_scoped}
+use Rattle.stabilizer.proofs.Killing.Listing.{AreBeingListed, listing_first, listing_last, parts_absent, parts_more, parts_scoped}
 use Rattle.stabilizer.proofs.parts.Parts.list_dying.Goals as goal
 use Rattle.stabilizer.proofs.parts.Parts.list_dying.Goals.{in-Some, in_default}
 

@@ -12,9 +12,9 @@ use Rattle.stabilizer.specs.Between.{KeepsWork}
 use Rattle.wiring.specs.Places.{for_parts}
 use Rattle.stabilizer.specs.declared.parts.Parts.{Parts}
 use Rattle.wiring.specs.declared.work.Work.{Work}
-use Rattle.stabilizer.proofs.Adding.{given_other, no_row, added_parts, added_ready, back_parts, back_ready, dropped_again, live_below}
-use Rattle.stabilizer.proofs.Between.{same_todo}
-use Rattle.stabilizer.proofs.Cutting.{added_cutoffs}
+use Rattle.stabilizer.proofs.Between.Adding.{given_other, no_row, added_parts, added_ready, back_parts, back_ready, dropped_again, live_below}
+use Rattle.stabilizer.proofs.Between.Alone.{same_todo}
+use Rattle.stabilizer.proofs.Between.Cutting.{added_cutoffs}
 use Rattle.wiring.proofs.Placing.{unsettled, pair_stays}
 use Rattle.stabilizer.proofs.parts.Parts.place.Goals as goal
 

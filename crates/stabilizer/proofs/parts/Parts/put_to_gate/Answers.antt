@@ -2,7 +2,7 @@ use Rattle.std.proofs.Common.{sym, subst, ◌∙◌}
 use Rattle.inc_value.specs.declared.node.Point.{Point}
 use Rattle.inc_terms.specs.Depend.{main, change}
 use Rattle.stabilizer.specs.Dying.{KeepsGate}
-use Rattle.stabilizer.proofs.KeepingGates.{put_to_gate, scope_row}
+use Rattle.stabilizer.proofs.Killing.KeepingGates.{put_to_gate, scope_row}
 use Rattle.stabilizer.proofs.parts.Parts.put_to_gate.Goals as goal
 
 module _ (c : goal.After-keep_gate-in-Some) where

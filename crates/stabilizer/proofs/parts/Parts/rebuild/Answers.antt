@@ -1,5 +1,5 @@
 use Rattle.stabilizer.specs.Rebuilding.{IsSettledOn}
-use Rattle.stabilizer.proofs.RebuildEnds.{settled_on, settled_stays}
+use Rattle.stabilizer.proofs.Building.Ends.{settled_on, settled_stays}
 use Rattle.stabilizer.proofs.parts.Parts.rebuild.Given.{Over}
 use Rattle.stabilizer.proofs.parts.Parts.rebuild.Goals.{After-settle_built}
 use Rattle.stabilizer.proofs.parts.Parts.rebuild.Goals as goal

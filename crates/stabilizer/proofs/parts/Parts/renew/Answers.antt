@@ -6,11 +6,11 @@ use Rattle.wiring.proofs.Raising.{if_refusal}
 use Rattle.stabilizer.specs.Kept.{counts_by}
 use Rattle.stabilizer.specs.Rebuilding.{BuildRefused}
 use Rattle.stabilizer.specs.Rooted.{GetsNoRoot}
-use Rattle.stabilizer.proofs.Again.{by_result}
-use Rattle.stabilizer.proofs.RebuildAsks.{stands_but}
-use Rattle.stabilizer.proofs.RebuildEnds.{on_err, if_on_err, left_roomy, roomy_stays, AreCut, are_cut, asks_build}
-use Rattle.stabilizer.proofs.RebuildEnds.{dead_stays, settles_none, root_settles, stays_rooted, kept_rootless, stays_rootless, rootless_refused}
-use Rattle.stabilizer.proofs.RebuiltKept.{roomy, roomy_kept}
+use Rattle.stabilizer.proofs.Change.Again.{by_result}
+use Rattle.stabilizer.proofs.Building.Asks.{stands_but}
+use Rattle.stabilizer.proofs.Building.Ends.{on_err, if_on_err, left_roomy, roomy_stays, AreCut, are_cut, asks_build}
+use Rattle.stabilizer.proofs.Building.Ends.{dead_stays, settles_none, root_settles, stays_rooted, kept_rootless, stays_rootless, rootless_refused}
+use Rattle.stabilizer.proofs.Building.Kept.{roomy, roomy_kept}
 use Rattle.stabilizer.proofs.parts.Parts.renew.Given.{Over}
 use Rattle.stabilizer.proofs.parts.Parts.renew.Goals.{After-let_die}
 use Rattle.stabilizer.proofs.parts.Parts.renew.Goals as goal

@@ -3,7 +3,7 @@ use Rattle.inc_value.specs.declared.node.Point.{Point}
 use Rattle.inc_terms.specs.Depend.{main}
 use Rattle.node_outcomes.specs.Row.{IsRewritten, with_cutoff}
 use Rattle.stabilizer.specs.declared.parts.Parts.{Parts}
-use Rattle.stabilizer.proofs.Cutting.{cut_parts, cut_ready}
+use Rattle.stabilizer.proofs.Between.Cutting.{cut_parts, cut_ready}
 use Rattle.stabilizer.proofs.parts.Parts.set_cutoff.Goals as goal
 
 module _ (c : goal.After-set_cutoff) where

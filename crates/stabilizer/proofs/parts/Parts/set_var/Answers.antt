@@ -7,7 +7,7 @@ use Rattle.wiring.specs.Wiring.{IsMarked}
 use Rattle.wiring.specs.declared.work.Work.{Work}
 use Rattle.stabilizer.specs.Between.{StaysButHeap}
 use Rattle.stabilizer.specs.declared.parts.Parts.{Parts}
-use Rattle.stabilizer.proofs.Setting.{set_parts, set_ready}
+use Rattle.stabilizer.proofs.Between.Setting.{set_parts, set_ready}
 use Rattle.stabilizer.proofs.parts.Parts.set_var.Goals.{In-Err}
 use Rattle.stabilizer.proofs.parts.Parts.set_var.Goals as goal
 

@@ -5,7 +5,7 @@ use Rattle.necessary_graph.specs.Sweep.{IsUnrooted}
 use Rattle.stabilizer.specs.declared.parts.Parts.{Parts}
 use Rattle.wiring.specs.Graph.{rowless}
 use Rattle.wiring.specs.declared.work.Work.{Work}
-use Rattle.stabilizer.proofs.Unrooting.{root_less, still_rooted, unrooted_parts, unrooted_ready}
+use Rattle.stabilizer.proofs.Between.Unrooting.{root_less, still_rooted, unrooted_parts, unrooted_ready}
 use Rattle.stabilizer.proofs.parts.Parts.unroot.Goals as goal
 
 module _ (c : goal.After-root_off) where

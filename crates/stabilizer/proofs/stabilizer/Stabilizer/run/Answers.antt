@@ -5,14 +5,14 @@ use Rattle.wiring.specs.declared.refused.Refused.TheVariants.{Memory}
 use Rattle.stabilizer.specs.Ended.{RoundStops}
 use Rattle.stabilizer.specs.Kept.{counts_by}
 use Rattle.stabilizer.specs.declared.parts.Parts.{Parts}
-use Rattle.stabilizer.proofs.Ended.{paused_stops, paused_leaves, round_ends, round_leaves}
-use Rattle.stabilizer.proofs.Giving.{none_few}
-use Rattle.stabilizer.proofs.Leftover.{only_still}
-use Rattle.stabilizer.proofs.MeaningKept.{nothing_meant, wants_stay, wants_handed}
-use Rattle.stabilizer.proofs.Paused.{none_paused, roots_paused, roots_full, steps_paused}
-use Rattle.stabilizer.proofs.Released.{released_of}
-use Rattle.stabilizer.proofs.Rounding.{exit_is}
-use Rattle.stabilizer.proofs.WholeRound.{HasEnded, in_round}
+use Rattle.stabilizer.proofs.Round.Ended.{paused_stops, paused_leaves, round_ends, round_leaves}
+use Rattle.stabilizer.proofs.Step.Giving.{none_few}
+use Rattle.stabilizer.proofs.Round.Leftover.{only_still}
+use Rattle.stabilizer.proofs.Step.MeaningKept.{nothing_meant, wants_stay, wants_handed}
+use Rattle.stabilizer.proofs.Round.Paused.{none_paused, roots_paused, roots_full, steps_paused}
+use Rattle.stabilizer.proofs.Round.Released.{released_of}
+use Rattle.stabilizer.proofs.Step.Making.{exit_is}
+use Rattle.stabilizer.proofs.Round.Whole.{HasEnded, in_round}
 use Rattle.stabilizer.proofs.stabilizer.Stabilizer.run.Given.{Over}
 use Rattle.stabilizer.proofs.stabilizer.Stabilizer.run.Goals.{After-end_round}
 use Rattle.stabilizer.proofs.stabilizer.Stabilizer.run.Goals as goal

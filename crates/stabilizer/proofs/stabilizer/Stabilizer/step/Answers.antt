@@ -6,19 +6,19 @@ use Rattle.stabilizer.specs.Weights.{SidesFit}
 use Rattle.node_outcomes.specs.Meaning.{meaning_of}
 use Rattle.stabilizer.specs.Kept.{counts_by}
 use Rattle.stabilizer.specs.Stepping.{of_main, of_change, StepIsRefused}
-use Rattle.stabilizer.proofs.ChangeSteps.{change_steps, change_stops, change_full}
-use Rattle.stabilizer.proofs.Falling.{is_change, steps_leave_less}
-use Rattle.stabilizer.proofs.GivingSteps.{left_few, main_few, memory_full}
-use Rattle.stabilizer.proofs.Mains.{is_main}
+use Rattle.stabilizer.proofs.Change.Steps.{change_steps, change_stops, change_full}
+use Rattle.stabilizer.proofs.Step.Falling.{is_change, steps_leave_less}
+use Rattle.stabilizer.proofs.Step.GivingSteps.{left_few, main_few, memory_full}
+use Rattle.stabilizer.proofs.Step.Mains.{is_main}
 use Rattle.wiring.proofs.Raising.{if_refusal}
 use Rattle.stabilizer.specs.declared.parts.Parts.{Parts}
-use Rattle.stabilizer.proofs.StillFit.{same_fit}
-use Rattle.stabilizer.proofs.Staying.{nothing_done, taken_may}
+use Rattle.stabilizer.proofs.Step.StillFit.{same_fit}
+use Rattle.stabilizer.proofs.Step.Staying.{nothing_done, taken_may}
 use Rattle.stabilizer.specs.Staying.{RoundStays}
-use Rattle.stabilizer.proofs.Stepping.{not_empty, takes_least, steps, step_refused, main_back, arena_kept, popped_row, popped_needed, popped_taken, same_roots}
+use Rattle.stabilizer.proofs.Step.Stepping.{not_empty, takes_least, steps, step_refused, main_back, arena_kept, popped_row, popped_needed, popped_taken, same_roots}
 use Rattle.stabilizer.proofs.stabilizer.Stabilizer.step.Given.{Over}
 use Rattle.stabilizer.proofs.stabilizer.Stabilizer.step.Goals.{After-step_change, After-step_main}
-use Rattle.stabilizer.proofs.MeaningKept.{wants_stay}
+use Rattle.stabilizer.proofs.Step.MeaningKept.{wants_stay}
 use Rattle.stabilizer.proofs.stabilizer.Stabilizer.step.Goals as goal
 
 -- ---- a change

@@ -1,0 +1,8 @@
+-- Changes that are settled without a build.
+pub mod Changing
+pub mod Waiting
+pub mod Steps
+pub mod Turned
+pub mod Moves
+pub mod Running
+pub mod Again

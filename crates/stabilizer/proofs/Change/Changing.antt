@@ -1,0 +1,94 @@
+-- The state stands for the parts whose heap holds the change still, and what holds of results.
+use Rattle.std.proofs.Common.{◌≡◌, inl, inr, ℕ, None, sym, ap, subst, ◌∙◌}
+use Rattle.std.specs.Prelude.{Result, Ok, Err, OnOk, IfErr, is_some}
+use Rattle.inc_value.specs.declared.node.NodeId.{NodeId}
+use Rattle.inc_value.specs.declared.node.Point.{Point}
+use Rattle.inc_terms.specs.Depend.{change}
+use Rattle.point_map.specs.Rows.{Rows, at}
+use Rattle.necessary_graph.specs.Part.{NecessaryPart, Needed}
+use Rattle.node_arena.specs.Arena.{Arena}
+use Rattle.stabilize_round.specs.State.{State}
+use Rattle.stabilize_round.proofs.Points.{same_or_other}
+use Rattle.wiring.specs.Stands.{Stands, Counts}
+use Rattle.wiring.specs.declared.work.Work.{Work}
+use Rattle.stabilizer.specs.Dying.{TakesLeast}
+use Rattle.stabilizer.proofs.Change.Waiting.{put_back, with_change}
+use Rattle.link_table.specs.Links.{Links, times}
+use Rattle.height_order.specs.Levels.{level}
+use Rattle.necessity.specs.Need.{Roots, root_times}
+use Rattle.wiring.specs.Wiring.{KeepsGraph}
+use Rattle.wiring.proofs.Deciding.{need_same}
+
+-- ---- another heap
+
+-- the state can't tell where the same is in the heap, and links, roots and heights stay
+module _ (arena : Arena) (old new : Work) (rest : new ≡ record old { graph = new.graph }) (graph : KeepsGraph old.graph new.graph)
+    (heap : (p : Point) → is_some (at new.graph.heap p) ≡ is_some (at old.graph.heap p)) where
+  need_then : (p : Point) → Needed old.graph p → Needed new.graph p
+  need_then p n = need_same old.graph new.graph graph.links graph.roots p n
+
+  need_before : (p : Point) → Needed new.graph p → Needed old.graph p
+  need_before p n = need_same new.graph old.graph (sym graph.links) (sym graph.roots) p n
+
+  pub heap_stands : (s : State) (counts : Counts) → Stands arena old counts None s → Stands arena new counts None s
+  heap_stands s counts st = subst (λ (w : Work). Stands arena w counts None s) (sym rest) (record {
+    graph = st.graph;
+    out = st.out;
+    last = st.last;
+    never = st.never;
+    stale = st.stale;
+    links = λ p q. st.links p q ∙ ap (λ (l : Links). times l p q) (sym graph.links);
+    root = λ p. st.root p ∙ ap (λ (r : Roots). root_times r p) (sym graph.roots);
+    needed = λ p. (λ t. need_then p ((st.needed p).0 t), λ n. (st.needed p).1 (need_before p n));
+    height = λ p n. st.height p (need_before p n) ∙ ap (λ (x : Rows ℕ). level x p) (sym graph.heights);
+    heap = λ p. st.heap p ∙ sym (heap p);
+    settled = st.settled;
+    stage = st.stage;
+    owed = st.owed;
+    todo = st.todo;
+    retries = st.retries;
+    died = st.died;
+    ran = st.ran;
+    counts = st.counts;
+    given = st.given;
+  })
+
+-- ---- with the change in the heap
+
+module _ (arena : Arena) (work taken : Work) (n : NodeId) (counts : Counts) (s : State) (takes : TakesLeast work taken (change n))
+    (st : Stands arena work counts None s) where
+  same_graph : KeepsGraph work.graph (with_change taken n).graph
+  same_graph = record {
+    links = ap (λ (g : NecessaryPart). g.links) takes.graph;
+    roots = ap (λ (g : NecessaryPart). g.roots) takes.graph;
+    heights = ap (λ (g : NecessaryPart). g.heights) takes.graph;
+  }
+
+  same_heap : (a : Point) → is_some (at (with_change taken n).graph.heap a) ≡ is_some (at work.graph.heap a)
+  same_heap a = elim (same_or_other a (change n)) [
+    | inl e ↦ subst (λ (x : Point). is_some (at (with_change taken n).graph.heap x) ≡ is_some (at work.graph.heap x)) (sym e)
+        (ap is_some (put_back taken n).changed ∙ sym takes.held)
+    | inr ne ↦ ap is_some ((put_back taken n).others a ne ∙ takes.heap.others a ne)
+  ]
+
+  -- the state stands for the parts whose heap holds the change
+  pub before_stands : Stands arena (with_change taken n) counts None s
+  before_stands = heap_stands arena work (with_change taken n)
+      (ap (λ (w : Work). record w { graph = (with_change taken n).graph }) takes.rest) same_graph same_heap s counts st
+
+-- ---- results
+
+-- what holds on success is what follows from it
+pub on_ok : {A E P Q : Type 0} (r : Result A E) → (P → Q) → OnOk r P → OnOk r Q
+on_ok (Ok x) f h = f h
+on_ok (Err e) f h = tt
+
+-- of two facts
+pub both_ok : {A E P Q R : Type 0} (r : Result A E) → (P → Q → R) → OnOk r P → OnOk r Q → OnOk r R
+both_ok (Ok x) f g h = f g h
+both_ok (Err e) f g h = tt
+
+-- and what holds of an error
+pub if_err : {A E : Type 0} {P Q : E → Type 0} (r : Result A E) → ((e : E) → P e → Q e) → IfErr r P → IfErr r Q
+if_err (Ok x) f h = tt
+if_err (Err e) f h = f e h

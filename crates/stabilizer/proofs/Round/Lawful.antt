@@ -1,0 +1,180 @@
+-- What a refused round says is so.
+use Rattle.std.proofs.Common.{◌≡◌, ◌-◌, inl, inr, ℕ, ◌<◌, ◌≤◌, ◌++◌, true, List, [], ◌∷◌, length, map, Option, refl, sym, ap, subst, ◌∙◌, arith}
+use Rattle.inc_value.specs.declared.node.NodeId.{NodeId}
+use Rattle.inc_value.specs.declared.node.Point.{Point}
+use Rattle.inc_value.specs.Choice.{Among, Reaches}
+use Rattle.inc_value.specs.Walk.{IsWalk}
+use Rattle.inc_terms.specs.Depend.{Depends, main}
+use Rattle.inc_terms.specs.Graph.{Graph}
+use Rattle.inc_terms.specs.Need.{from_root, from_held}
+use Rattle.inc_terms.specs.Term.{Functions}
+use Rattle.inc_terms.proofs.Plan.{among_left, among_right}
+use Rattle.height_order.specs.Chains.{ReadsWith, IsChain}
+use Rattle.node_outcomes.specs.Meaning.{Meaning}
+use Rattle.stabilize_round.specs.Invariant as invariant
+use Rattle.stabilize_round.specs.Invariant.{Invariant, MetNow}
+use Rattle.stabilize_round.specs.Machine.{Moves, called_more}
+use Rattle.stabilize_round.specs.State.{State}
+use Rattle.stabilize_round.specs.StepLaws.{LinkedOr}
+use Rattle.stabilize_round.proofs.Confirmed.{listed_are_met}
+use Rattle.stabilize_round.proofs.Meanings.{round_keeps}
+use Rattle.stabilize_round.proofs.Points.{count_among}
+use Rattle.wiring.specs.Refusing.{RefusedBy, TellsWhy, no_memory, by_link}
+use Rattle.wiring.specs.Stands.{Hand, Stands, Counts}
+use Rattle.wiring.specs.declared.refused.Refused.{Refused}
+use Rattle.wiring.specs.declared.refused.Refused.TheVariants.{Height, Cycle, Full, Memory}
+use Rattle.wiring.proofs.Once.{once_as}
+use Rattle.stabilizer.specs.Left.{IsMetIn, IsListedIn, IsLawfulIn}
+use Rattle.stabilizer.specs.Look.{look_between}
+use Rattle.stabilizer.proofs.Round.Looking.{look_needs}
+use Rattle.stabilizer.specs.Building.{StopsBuilding}
+use Rattle.stabilizer.specs.Kept.{graph_in}
+use Rattle.stabilizer.specs.Round.{AreRooted, OnlyRoots, IsFullBy, IsLawful, died_by}
+use Rattle.stabilizer.specs.declared.parts.Parts.{Parts}
+use Rattle.stabilizer.proofs.Round.Beginning.{Begun}
+use Rattle.stabilizer.proofs.Round.Ending.{as_graph, among_main}
+use Rattle.stabilizer.proofs.Round.Paused.{IsPaused, paused_died}
+
+-- ---- who is met
+
+-- roots are of these nodes or those
+root_listed : (old new : Parts) (counts : Counts) (left : Option Hand) (t : State) → Stands new.arena new.work counts left t
+    → (nodes observed : List NodeId)
+    → OnlyRoots old.work.graph.roots new.work.graph.roots (map main nodes) → AreRooted old.work observed
+    → (p : Point) → 0 < t.root p → (n : NodeId) × Among n (nodes ++ observed) × (p ≡ main n)
+root_listed old new counts left t stands nodes observed only rooted p h = elim (only p (subst (λ (k : ℕ). 0 < k) (stands.root p) h)) [
+  | inl was ↦ (let a = among_main p observed (count_among p (map main observed) (subst (λ (k : ℕ). 0 < k) (rooted p) was)) in
+      (a.0, among_right a.0 nodes observed a.1, a.2))
+  | inr now ↦ (let a = among_main p nodes now in (a.0, among_left a.0 nodes observed a.1, a.2))
+]
+
+pub met_as : (F : Functions) (old new : Parts) (before counts : Counts) (b : Begun F old before) (left : Option Hand) (t : State)
+    → Stands new.arena new.work counts left t → (nodes observed : List NodeId)
+    → OnlyRoots old.work.graph.roots new.work.graph.roots (map main nodes) → AreRooted old.work observed
+    → (p : Point) → MetNow F b.start (graph_in new) (died_by old new) t.root p
+    → IsMetIn F (graph_in new) (died_by old new) (look_between old) (nodes ++ observed) p
+met_as F old new before counts b left t stands nodes observed only rooted p (invariant.from_root {r} root way) =
+    let l = root_listed old new counts left t stands nodes observed only rooted r root in
+    from_root (inl l.1) (subst (λ (y : Point). Reaches (Depends F (graph_in new) (died_by old new)) y p) l.2 way)
+met_as F old new before counts b left t stands nodes observed only rooted p (invariant.from_held {h} held row stand way) =
+    from_held (look_needs (old.work.round - 1) old.arena old.work h ((b.held h).0 held)) row stand way
+
+-- ---- a refused link
+
+module _ (F : Functions) (old new : Parts) (before counts : Counts) (b : Begun F old before) (left : Option Hand) (t : State)
+    (run : Moves F b.start b.state t) (stands : Stands new.arena new.work counts left (called_more t counts.calls)) (died : t.died ≡ died_by old new)
+    (nodes observed : List NodeId) (only : OnlyRoots old.work.graph.roots new.work.graph.roots (map main nodes))
+    (rooted : AreRooted old.work observed) where
+  abbrev G : Graph
+  G = graph_in new
+
+  abbrev D : NodeId → Option NodeId
+  D = died_by old new
+
+  abbrev last : State
+  last = record t { graph = G; died = D }
+
+  is_last : t ≡ last
+  is_last = as_graph G D t stands.graph died
+
+  moves : Moves F b.start b.state last
+  moves = subst (λ (x : State). Moves F b.start b.state x) is_last run
+
+  inv : Invariant F b.start last
+  inv = round_keeps F b.start b.state last b.entry moves
+
+  module _ (p q : Point) (need : t.needed p ≡ true) (tried : Depends F t.graph t.died p q) (strict : new.work.retries ≡ 0) where
+    depends : Depends F G D p q
+    depends = subst (λ (x : State). Depends F x.graph x.died p q) is_last tried
+
+    linked : (a c : Point) → ReadsWith new.work.graph.links p q a c → LinkedOr last p q a c
+    linked a c (inl r) = inl (subst (λ (k : ℕ). 0 < k) (sym (stands.links a c)) r)
+    linked a c (inr e) = inr (sym e.0, sym e.1)
+
+    -- who reads by one of the links, or by the one that was tried, is needed
+    reader_needed : (a c : Point) → LinkedOr last p q a c → last.needed a ≡ true
+    reader_needed a c (inl l) = inv.web.from a c l
+    reader_needed a c (inr e) = subst (λ (x : Point). last.needed x ≡ true) e.0 need
+
+    walk : (list : List Point) → IsChain (ReadsWith new.work.graph.links p q) list → IsWalk (LinkedOr last p q) list
+    walk [] chain = tt
+    walk (a ∷ []) chain = tt
+    walk (a ∷ c ∷ rest) chain = (linked a c chain.0, walk (c ∷ rest) chain.1)
+
+    -- a chain over them of two points or more is a walk of what points depend on, and its first is met
+    listed : (list : List Point) → 2 ≤ length list → IsChain (ReadsWith new.work.graph.links p q) list
+        → IsListedIn F G D (look_between old) (nodes ++ observed) list
+    listed [] long chain = absurd (omega arith)
+    listed (a ∷ []) long chain = absurd (omega arith)
+    listed (a ∷ c ∷ rest) long chain =
+        let l = listed_are_met F b.start b.state last b.entry moves (stands.retries ∙ strict) p q depends a (c ∷ rest)
+        (reader_needed a c (linked a c chain.0)) (walk (a ∷ c ∷ rest) chain) in
+        record {
+          walk = l.0;
+          met = λ x starts. subst (λ (y : Point). IsMetIn F G D (look_between old) (nodes ++ observed) y) starts
+              (met_as F old new before counts b left (called_more t counts.calls) stands nodes observed only rooted a (l.1 a (inl refl)));
+        }
+
+  by_refused : (p q : Point) → t.needed p ≡ true → Depends F t.graph t.died p q → (e : Refused) → RefusedBy new.work p q e
+      → IsLawfulIn F G D (look_between old) (nodes ++ observed) e × IsFullBy old.arena new.arena e
+  by_refused p q need tried (Height points) why = (
+    (
+      listed p q need tried why.strict points.items (let l = why.long in omega arith) why.chain,
+      why.long,
+      once_as points.items why.once,
+    ),
+    tt,
+  )
+  by_refused p q need tried (Cycle points) why = (
+    (
+      listed p q need tried why.strict points.items why.long why.path.chain,
+      record {
+        point = q;
+        starts = why.path.starts;
+        ends = why.path.ends;
+        front = why.front;
+        is_front = why.comes_back;
+        once = once_as why.front why.once;
+        long = why.long;
+      },
+    ),
+    tt,
+  )
+  by_refused p q need tried Full why = absurd why
+  by_refused p q need tried Memory why = (tt, tt)
+
+  -- what a refusal says where a round stops is so
+  by_reason : (e : Refused) → TellsWhy F (called_more t counts.calls) new.work left e
+      → IsLawfulIn F G D (look_between old) (nodes ++ observed) e × IsFullBy old.arena new.arena e
+  by_reason e why = by_why left e why
+    where
+      by_why : (h : Option Hand) (x : Refused) → TellsWhy F (called_more t counts.calls) new.work h x
+          → IsLawfulIn F G D (look_between old) (nodes ++ observed) x × IsFullBy old.arena new.arena x
+      by_why h x no_memory = (tt, tt)
+      by_why h x (by_link {p} {q} {rest} need tried confirmed why) = by_refused p q need tried x why
+
+-- where a build found no room
+by_room : (F : Functions) (G : Graph) (D : NodeId → Option NodeId) (old new : Parts) (nodes : List NodeId) (count : ℕ) → old.arena.given ≤ count
+    → (e : Refused) → StopsBuilding count new.arena e → IsLawfulIn F G D (look_between old) nodes e × IsFullBy old.arena new.arena e
+by_room F G D old new nodes count later Full room = (tt, (count, later, room))
+by_room F G D old new nodes count later Memory room = (tt, tt)
+by_room F G D old new nodes count later (Height points) room = absurd room
+by_room F G D old new nodes count later (Cycle points) room = absurd room
+
+-- what a round says that was refused is so
+pub paused_lawful : (M : Meaning) (old new : Parts) (before after : Counts) (e : Refused) → IsPaused M old new before after e
+    → (nodes observed : List NodeId)
+    → OnlyRoots old.work.graph.roots new.work.graph.roots (map main nodes) → AreRooted old.work observed
+    → IsLawful M.functions old new (nodes ++ observed) e
+paused_lawful M old new before after e p nodes observed only rooted =
+    let b = p.begins.begun in
+    let k = p.pauses in
+    elim k.told [
+      | inl why ↦
+          let stands = subst (λ (x : State). Stands new.arena new.work after k.left x) why.0 k.stands in
+          let tells = subst (λ (x : State). TellsWhy M.functions x new.work k.left e) why.0 why.1 in
+          let died = ap (λ (x : State). x.died) (sym why.0) ∙ paused_died M old new before after e p in
+          by_reason M.functions old new before after b k.left k.before k.moves stands died nodes observed only rooted e tells
+      | inr full ↦ by_room M.functions (graph_in new) (died_by old new) old new (nodes ++ observed) full.0
+          (subst (λ (c : ℕ). c ≤ full.0) b.stands.given full.1) e full.2
+    ]

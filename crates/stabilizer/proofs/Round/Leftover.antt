@@ -1,0 +1,167 @@
+-- What a refused round leaves: cutoffs stay, what is shown is what was or is right, and whose functions were called is met.
+use Rattle.std.proofs.Common.{◌≡◌, inl, inr, ℕ, ◌<◌, ◌++◌, List, map, true, Option, None, Some, refl, sym, ap, subst, ◌∙◌, arith}
+use Rattle.std.specs.Prelude.{is_some}
+use Rattle.inc_value.specs.declared.node.NodeId.{NodeId}
+use Rattle.inc_value.specs.declared.node.Point.{Point}
+use Rattle.inc_value.specs.declared.outcome.Outcome.{Outcome}
+use Rattle.inc_terms.specs.Depend.{main}
+use Rattle.inc_terms.specs.Evaluate.{NodeGives}
+use Rattle.inc_terms.specs.Graph.{Graph, Row}
+use Rattle.inc_terms.specs.Local.{shown_of, Sees}
+use Rattle.inc_terms.specs.Term.{Functions}
+use Rattle.inc_terms.specs.Within.{Given}
+use Rattle.inc_terms.proofs.Local.{main_sees}
+use Rattle.necessity.specs.Need.{Roots, KeepsRoots}
+use Rattle.node_arena.specs.Arena.{Arena, row_at}
+use Rattle.node_outcomes.specs.Computing.{seen}
+use Rattle.node_outcomes.specs.Meaning.{Meaning}
+use Rattle.point_map.specs.Rows.{at}
+use Rattle.stabilize_round.specs.Calling.{costs_of}
+use Rattle.stabilize_round.specs.Calls.{WasDue}
+use Rattle.stabilize_round.specs.Counts.{RoseAtMost}
+use Rattle.stabilize_round.specs.Invariant.{Invariant}
+use Rattle.stabilize_round.specs.Machine.{called_more}
+use Rattle.stabilize_round.specs.State.{State}
+use Rattle.stabilize_round.proofs.Calls.{refused_calls}
+use Rattle.stabilize_round.proofs.Reasons.{reason_more, since_start}
+use Rattle.stabilize_round.proofs.Runs.{refused_keeps}
+use Rattle.wiring.specs.Kept.{IsKept}
+use Rattle.wiring.specs.Stands.{Hand, Stands, Counts}
+use Rattle.wiring.specs.declared.refused.Refused.{Refused}
+use Rattle.wiring.specs.declared.work.Work.{Work}
+use Rattle.stabilizer.specs.Left.{WasDueIn}
+use Rattle.stabilizer.specs.Look.{look_between, look_refused, cutoff_at}
+use Rattle.stabilizer.specs.Kept.{graph_in}
+use Rattle.stabilizer.specs.Round.{AreRooted, OnlyRoots, Pauses, HasCalledMet, ShowsStill, IsLeftBy, left_by, died_by}
+use Rattle.stabilizer.specs.declared.parts.Parts.{Parts}
+use Rattle.stabilizer.proofs.Round.Beginning.{Begun, main_there}
+use Rattle.stabilizer.proofs.Round.Ending.{cutoff_live, seen_case}
+use Rattle.stabilizer.proofs.Round.Lawful.{met_as}
+use Rattle.stabilizer.proofs.Round.LeftBy.{left_by_parts}
+use Rattle.stabilizer.proofs.Round.Paused.{IsPaused, paused_died}
+use Rattle.stabilizer.proofs.Round.Remaining.{stopped_out}
+use Rattle.stabilizer.proofs.Round.Stopped.{IsLeftOver, stops_leave_over}
+
+-- what keeps roots adds none
+pub only_still : (old mid new : Roots) (ps : List Point) → OnlyRoots old mid ps → KeepsRoots mid new → OnlyRoots old new ps
+only_still old mid new ps only same p h = only p (subst (λ (n : ℕ). 0 < n) (same p) h)
+
+-- what is seen of a node is what is shown of it
+sees_shown : (arena : Arena) (work : Work) (counts : Counts) (left : Option Hand) (s : State) → IsKept arena work → Stands arena work counts left s
+    → (n : NodeId) → seen work.rows (main n) ≡ shown_of (row_at arena n) (s.out (main n))
+sees_shown arena work counts left s kept stands n =
+    seen_case (at work.rows (main n)) (row_at arena n) (s.out (main n)) (main_there arena work kept n) (λ x e. stands.out (main n) x e)
+
+module _ (M : Meaning) (old new : Parts) (before after : Counts) (e : Refused) (p : IsPaused M old new before after e) where
+  abbrev F : Functions
+  F = M.functions
+
+  abbrev b : Begun M.functions old before
+  b = p.begins.begun
+
+  abbrev k : Pauses M.functions p.begins.begun.start p.begins.begun.state new after e
+  k = p.pauses
+
+  abbrev u : State
+  u = p.pauses.state
+
+  abbrev stands : Stands new.arena new.work after p.pauses.left p.pauses.state
+  stands = p.pauses.stands
+
+  -- the invariant holds there, the count of calls apart
+  holds : (v : State) × Invariant F b.start v × (u ≡ called_more v u.calls)
+  holds = refused_keeps F b.start b.state k.before k.state b.entry k.moves k.stops
+
+  left_there : IsLeftOver F b.state u
+  left_there = stops_leave_over F b.start b.state k.before k.state b.entry p.begins.round.given k.moves k.stops
+
+  row_was : (n : NodeId) → b.state.graph.row n ≡ row_at old.arena n
+  row_was n = ap (λ (G : Graph). G.row n) b.stands.graph
+
+  row_now : (n : NodeId) → u.graph.row n ≡ row_at new.arena n
+  row_now n = ap (λ (G : Graph). G.row n) stands.graph
+
+  given_then : (n : NodeId) → Given old.arena.given n → Given b.state.given n
+  given_then n g = omega (arith, b.stands.given, g)
+
+  -- cutoffs stay
+  pub paused_cutoffs : (n : NodeId) (r : Row) → row_at new.arena n ≡ Some r → cutoff_at new.work n ≡ cutoff_at old.work n
+  paused_cutoffs n r row = cutoff_live (at new.work.rows (main n)) (cutoff_at old.work n) (main_there new.arena new.work p.kept.work n
+      ∙ ap is_some row)
+      (λ x is. sym (stands.never n x is) ∙ (ap (λ (s : State). s.never n) holds.2 ∙ (holds.1.accounts.cutoffs n ∙ b.never n)))
+
+  -- ---- what is shown
+
+  abbrev Shows : NodeId → Type 0
+  Shows n = (o : Outcome) × (seen new.work.rows (main n) ≡ Some o) × NodeGives F (graph_in new) n o
+
+  -- what is seen of the node in the state is seen in the parts
+  shows_now : (n : NodeId) → Sees F u.graph u.out n → Shows n
+  shows_now n s = (
+    s.0,
+    sees_shown new.arena new.work after k.left u p.kept.work stands n ∙ (ap (λ (x : Option Row). shown_of x (u.out (main n))) (sym (row_now n))
+        ∙ s.1),
+    subst (λ (G : Graph). NodeGives F G n s.0) stands.graph s.2,
+  )
+
+  settled_sees : (n : NodeId) → u.settled (main n) ≡ true → Sees F u.graph u.out n
+  settled_sees n settled =
+      let v = holds.0 in
+      let there : v.settled (main n) ≡ true = ap (λ (s : State). s.settled (main n)) (sym holds.2) ∙ settled in
+      subst (λ (s : State). Sees F s.graph s.out n) (sym holds.2) (main_sees F v.graph v.out n (holds.1.settled.done (main n) there).exact)
+
+  -- what is shown of a node stays, or is what it gives
+  pub paused_shows : (n : NodeId) → Given old.arena.given n → ShowsStill M.functions old new n
+  paused_shows n given = by_row (row_at new.arena n) refl
+    where
+      by_row : (x : Option Row) → row_at new.arena n ≡ x → ShowsStill M.functions old new n
+      by_row None dead = inr (shows_now n (main_sees F u.graph u.out n (λ r is. absurd (let x = row_now n ∙ dead in cc))))
+      by_row (Some r) live = elim (stopped_out F b.start b.state k.before u n r k.moves k.stops (row_now n ∙ live) (given_then n given)) [
+        | inl settled ↦ inr (shows_now n (settled_sees n settled))
+        | inr stays ↦ elim (left_there.left.rest.rows n (given_then n given)) [
+          | inr gone ↦ absurd (let x = sym gone ∙ (row_now n ∙ live) in cc)
+          | inl same ↦
+              let rows : row_at new.arena n ≡ row_at old.arena n = sym (row_now n) ∙ (same ∙ row_was n) in
+              inl (sees_shown new.arena new.work after k.left u p.kept.work stands n
+              ∙ (ap (λ (x : Option Row). shown_of x (u.out (main n))) rows
+              ∙ (ap (λ (o : Option Outcome). shown_of (row_at old.arena n) o) stays
+              ∙ sym (sees_shown old.arena old.work before None b.state p.first.work b.stands n))))
+        ]
+      ]
+
+  -- ---- what was called
+
+  pub paused_called : (nodes observed : List NodeId) → OnlyRoots old.work.graph.roots new.work.graph.roots (map main nodes)
+      → AreRooted old.work observed
+      → HasCalledMet M.functions old new (nodes ++ observed) before.calls after.calls
+  paused_called nodes observed only rooted =
+      let c = refused_calls F b.start b.state k.before u b.entry k.moves k.stops in
+      record {
+        nodes = c.0;
+        once = c.1;
+        due = λ n a. due_then n
+            (subst (λ (D : NodeId → Option NodeId). WasDue F b.start (graph_in new) D u.root u.settled n) (paused_died M old new before after e p)
+            (subst (λ (G : Graph). WasDue F b.start G u.died u.root u.settled n) stands.graph (c.3 n a)));
+        count = subst (λ (x : ℕ). RoseAtMost before.calls (costs_of (graph_in new) c.0) x) (ap (λ (x : Counts). x.calls) stands.counts)
+            (subst (λ (x : ℕ). RoseAtMost x (costs_of (graph_in new) c.0) u.calls) b.calls
+            (subst (λ (G : Graph). RoseAtMost b.start.calls (costs_of G c.0) u.calls) stands.graph c.2));
+      }
+    where
+      due_then : (n : NodeId) → WasDue F b.start (graph_in new) (died_by old new) u.root u.settled n
+          → WasDueIn F (left_by old new) (died_by old new) (look_between old) (look_refused new) (nodes ++ observed) n
+      due_then n d = record {
+        row = d.row;
+        kids = d.kids;
+        values = d.values;
+        is_row = d.is_row;
+        takes = d.takes;
+        gives = d.gives;
+        reason = reason_more (λ q settled. sym (stands.settled q) ∙ settled) (since_start (b.last n) b.never (b.stale n) d.reason);
+        met = met_as F old new before after b k.left u stands nodes observed only rooted (main n) d.met;
+      }
+
+  -- ---- what is left of the nodes
+
+  pub paused_left : IsLeftBy M.functions old new before after
+  paused_left = left_by_parts F old new before after b.state u b.stands.graph b.stands.given b.stands.counts stands.graph stands.given stands.counts
+      (λ n r row. p.first.work.sound.given n (ap is_some row)) left_there

@@ -1,0 +1,13 @@
+-- Steps: what one settles of a main, what it leaves, and that steps end.
+pub mod Settling
+pub mod Carrying
+pub mod Mains
+pub mod Stepping
+pub mod Making
+pub mod Falling
+pub mod Left
+pub mod MeaningKept
+pub mod StillFit
+pub mod Giving
+pub mod GivingSteps
+pub mod Staying
