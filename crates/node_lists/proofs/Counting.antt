@@ -90,17 +90,17 @@ one_died a b n ns dies =
         subst IsSome (dies.died.others m (λ same. let x = subst IsSome dies.died.changed (subst (λ k. IsSome (row_at b k)) same h) in absurd (cc))) h
 
 -- it is counted dead
-pub buried_counts : (a b : Arena) (n : NodeId) (l l' : Listed) → l'.nodes ≡ l.nodes → l'.dead ≡ raised l.dead → Dies a b n l.nodes
+pub forgotten_counts : (a b : Arena) (n : NodeId) (l l' : Listed) → l'.nodes ≡ l.nodes → l'.dead ≡ raised l.dead → Dies a b n l.nodes
     → CountsLive a l → CountsLive b l'
-buried_counts a b n l l' same dead dies counts =
+forgotten_counts a b n l l' same dead dies counts =
     let fewer = one_died a b n l.nodes dies in
     let n_items = ap (λ (ns : List NodeId). length ns) same in
     let n_live = ap (λ (ns : List NodeId). live_count b ns) same in
     omega (arith, dead, fewer, counts, n_items, n_live)
 
-pub buried_live : (a b : Arena) (n : NodeId) (l l' : Listed) → l'.nodes ≡ l.nodes → l'.dead ≡ raised l.dead → length l.nodes < 2 ^ 63
+pub forgotten_live : (a b : Arena) (n : NodeId) (l l' : Listed) → l'.nodes ≡ l.nodes → l'.dead ≡ raised l.dead → length l.nodes < 2 ^ 63
     → Dies a b n l.nodes → CountsLive a l → most_live l' + 1 ≡ most_live l
-buried_live a b n l l' same dead small dies counts =
+forgotten_live a b n l l' same dead small dies counts =
     let fewer = one_died a b n l.nodes dies in
     let n_items = ap (λ (ns : List NodeId). length ns) same in
     let more : l'.dead ≡ l.dead + 1 = omega (arith, dead, fewer, counts, small) in

@@ -94,7 +94,7 @@ impl Listed {
         self.nodes.len()
     }
 
-    /// How many nodes aren't counted dead. No more are live where no more were buried than died.
+    /// How many nodes aren't counted dead. No more are live where no more were forgotten than died.
     pub fn live(&self) -> usize
         ensures live { result ≡ most_live self.now }
         ensures fits { result + 1 < 2 ^ 64 }
@@ -159,7 +159,7 @@ impl Listed {
     }
 
     /// One of the nodes dies, and is counted dead.
-    pub fn bury(&mut self)
+    pub fn count_dead(&mut self)
         ensures nodes { self.new.nodes ≡ self.old.nodes }
         ensures dead { self.new.dead ≡ raised self.old.dead }
         ensures spare { self.new.spare ≡ self.old.spare }

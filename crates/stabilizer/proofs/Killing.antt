@@ -1,10 +1,10 @@
 -- What was built for a bind is cut off, and dies.
 pub mod Listing
-pub mod BuryingAll
+pub mod ForgettingAll
 pub mod Died
 pub mod KeepingGates
-pub mod Dooming
+pub mod Invalidating
 pub mod LinksOff
-pub mod Loosened
+pub mod Detached
 pub mod CuttingOff
 pub mod Moves

@@ -27,7 +27,7 @@ use Rattle.node_outcomes.specs.declared.row.Stage.TheVariants.{Gated}
 use Rattle.wiring.specs.Graph.{died_at, rowless}
 use Rattle.wiring.specs.Kept.{IsKept}
 use Rattle.wiring.specs.Stands.{Stands, Counts}
-use Rattle.wiring.specs.Scoped.{HasLoosened}
+use Rattle.wiring.specs.Scoped.{HasDetached}
 use Rattle.wiring.specs.Turning.{IsAttached}
 use Rattle.wiring.specs.Wiring.{IsAtGate, KeepsPlaces, OnlyLoses}
 use Rattle.wiring.specs.declared.work.Work.{Work}
@@ -94,15 +94,15 @@ pub record IsCutOff (old new : Parts) (b : NodeId) : Type 0 where
 pub record LosesRight (arena : Arena) (old new : Work) (b : NodeId) : Type 0 where
   pub row : Row
   pub is_row : row_at arena b ≡ Some row
-  pub loosened : HasLoosened old new b (right_in old.rows old.roots b row.def)
+  pub detached : HasDetached old new b (right_in old.rows old.roots b row.def)
   pub step : IsInStep new.graph
   pub rest : new ≡ record old { graph = new.graph; rows = new.rows }
 
 -- ---- putting back
 
 -- from each state of a round that the parts stand for, in which the gates wait of what is to die, links are taken off
-abbrev pub Dooms : Parts → Parts → NodeId → Type 0
-Dooms old new b =
+abbrev pub Invalidates : Parts → Parts → NodeId → Type 0
+Invalidates old new b =
     (F : Functions) (z : Start) (s : State) (counts : Counts) → Invariant F z s → GatesWait s b → Stands old.arena old.work counts None s
     → (t : State) × Reaches (TakingOff F z) s t × Stands new.arena new.work counts None t
 
@@ -139,8 +139,8 @@ pub record IsPutToGate (arena : Arena) (old new : Work) (n : NodeId) : Type 0 wh
   pub rest : new ≡ record old { graph = new.graph; rows = new.rows }
 
 -- so it was done to nodes inside the bind's scope
-pub record AreDoomed (old new : Parts) (b : NodeId) : Type 0 where
-  pub dooms : Dooms old new b
+pub record AreInvalidated (old new : Parts) (b : NodeId) : Type 0 where
+  pub invalidates : Invalidates old new b
   pub kept : IsKept new.arena new.work
   pub loses : OnlyLoses old.work.graph new.work.graph
   pub heap : (p : Point) → Holds new.work.graph.heap p → Holds old.work.graph.heap p ⊎ Inside (graph_in old) b p.node
@@ -169,8 +169,8 @@ pub record StandsBut (parts : Parts) (b : NodeId) : Type 0 where
   pub none : parts.scopes.killed ≡ []
 
 -- all of them were put back to their gates, and are listed
-pub record IsDoomed (old new : Parts) (b : NodeId) : Type 0 where
-  pub done : AreDoomed old new b
+pub record IsInvalidated (old new : Parts) (b : NodeId) : Type 0 where
+  pub done : AreInvalidated old new b
   pub gated : (p : Point) → Inside (graph_in new) b p.node → IsAtGate new.work p
   pub gates : HaveGatesAlone new b
   pub dying : AreDying (graph_in new) b new.dying.items
@@ -234,7 +234,7 @@ pub record AreListed (arena : Arena) (old new : Work) (nodes : List NodeId) : Ty
   pub rest : new ≡ record old { deaths = new.deaths }
 
 -- the nodes are live with their points, are listed once each, and are among those that died in the round
-pub record MayBury (arena : Arena) (work : Work) (nodes : List NodeId) : Type 0 where
+pub record MayForget (arena : Arena) (work : Work) (nodes : List NodeId) : Type 0 where
   pub sound : IsSound arena
   pub step : IsInStep work.graph
   pub once : NoRepeats nodes
@@ -245,7 +245,7 @@ pub record MayBury (arena : Arena) (work : Work) (nodes : List NodeId) : Type 0 
 
 -- the nodes were dropped, and nothing is kept of them but their needed points with their links. What reads the main of one, and isn't of a node that
 -- died in the round, is in the heap, unless it was settled
-pub record AreBuried (before arena : Arena) (old new : Work) (nodes : List NodeId) : Type 0 where
+pub record AreForgotten (before arena : Arena) (old new : Work) (nodes : List NodeId) : Type 0 where
   pub given : arena.given ≡ before.given
   pub sound : IsSound arena
   pub dead : (n : NodeId) → Among n nodes → row_at arena n ≡ None

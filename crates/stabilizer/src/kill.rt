@@ -10,8 +10,8 @@ ghost use Rattle.node_arena.specs.Arena.{live, IsLive};
 ghost use Rattle.wiring.specs.Graph.{died_at};
 ghost use Rattle.wiring.specs.Kept.{IsKept};
 ghost use Rattle.stabilizer.specs.Kept.{PartsKept, graph_in};
-ghost use Rattle.stabilizer.specs.Dying.{AreDying, IsCutOff, HasDied, HaveGatesAlone, LeavesStanding, StandsBut, scope_at, AreListed, MayBury};
-ghost use Rattle.stabilizer.specs.Dying.{AreBuried, LosesRight, IsDoomed, IsPutToGate, KeepsGate};
+ghost use Rattle.stabilizer.specs.Dying.{AreDying, IsCutOff, HasDied, HaveGatesAlone, LeavesStanding, StandsBut, scope_at, AreListed, MayForget};
+ghost use Rattle.stabilizer.specs.Dying.{AreForgotten, LosesRight, IsInvalidated, IsPutToGate, KeepsGate};
 ghost use Rattle.stabilizer.specs.Staying.{ChangeIsTaken};
 
 use crate::parts::Parts;
@@ -33,28 +33,28 @@ impl Parts {
         ensures few { length self.new.dying.items ≤ node_count self.old.scopes }
         ensures scopes { LeavesStanding self.old self.new bind }
     {
-        self.loosen(bind);
-        self.doom(bind);
+        self.detach(bind);
+        self.invalidate(bind);
     }
 
     /// The bind's change is in the heap again, and its main has no right side any more.
-    fn loosen(&mut self, bind: NodeId)
+    fn detach(&mut self, bind: NodeId)
         requires live { IsLive self.old.arena bind }
         requires needed { Needed self.old.work.graph (change bind) }
         requires step { IsInStep self.old.work.graph }
-        ensures loosened { LosesRight self.old.arena self.old.work self.new.work bind }
+        ensures detached { LosesRight self.old.arena self.old.work self.new.work bind }
         ensures rest { self.new ≡ record self.old { work = self.new.work } }
     {
         if let Some(row) = self.arena.get(bind) {
-            self.work.loosen(bind, &row.def);
+            self.work.detach(bind, &row.def);
         }
     }
 
-    /// The nodes of a bind's scope, and of scopes within it, are put back to their gates, and are to die.
-    fn doom(&mut self, bind: NodeId)
+    /// A bind's scope is invalidated: its nodes, and those of scopes within it, are put back to their gates, and are to die.
+    fn invalidate(&mut self, bind: NodeId)
         requires kept { PartsKept self.old }
         requires room { node_count self.old.scopes ≤ vec_capacity self.old.dying }
-        ensures { IsDoomed self.old self.new bind }
+        ensures { IsInvalidated self.old self.new bind }
     {
         self.scopes.kill(bind);
         while let Some(node) = self.scopes.next_killed() {
@@ -102,7 +102,7 @@ impl Parts {
     {
         self.list_dying();
         self.work.forget_built(bind);
-        self.bury_dying();
+        self.forget_dying();
     }
 
     /// The nodes that are to die are listed among the dead of the round, each with its scope.
@@ -130,15 +130,15 @@ impl Parts {
     }
 
     /// The nodes that are to die are dropped.
-    fn bury_dying(&mut self)
-        requires bury { MayBury self.old.arena self.old.work self.old.dying.items }
-        ensures buried { AreBuried self.old.arena self.new.arena self.old.work self.new.work self.old.dying.items }
+    fn forget_dying(&mut self)
+        requires forget { MayForget self.old.arena self.old.work self.old.dying.items }
+        ensures forgotten { AreForgotten self.old.arena self.new.arena self.old.work self.new.work self.old.dying.items }
         ensures none { self.new.dying.items ≡ [] }
         ensures step { IsInStep self.new.work.graph }
         ensures rest { self.new ≡ record self.old { arena = self.new.arena; work = self.new.work; dying = self.new.dying } }
     {
         while let Some(node) = self.dying.pop() {
-            self.work.bury(node);
+            self.work.forget(node);
             self.arena.drop_node(node);
         }
     }

@@ -39,7 +39,7 @@ pub struct Parts {
     /// Which nodes stand in the scopes of binds.
     pub(crate) scopes: Scopes,
     pub(crate) work: Work,
-    /// The nodes that a kill has found, from when they are put back to when they are buried. None between any two calls.
+    /// The nodes that a kill has found, from when they are put back to when they are forgotten. None between any two calls.
     pub(crate) dying: Vec<NodeId>,
     /// The nodes whose functions were called in the last round that ended, each once.
     pub(crate) ran: Vec<NodeId>,

@@ -13,7 +13,7 @@ pub mod Sight
 pub mod Agreeing
 pub mod Placing
 pub mod TakingOff
-pub mod Loosening
+pub mod Detaching
 pub mod TakingOne
 pub mod GoingBack
 pub mod InHand
@@ -33,5 +33,5 @@ pub mod PuttingBack
 pub mod NodeBack
 pub mod Unlinked
 pub mod Releasing
-pub mod Burying
+pub mod Forgetting
 pub mod Gathering

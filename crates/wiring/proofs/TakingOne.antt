@@ -31,7 +31,7 @@ use Rattle.node_outcomes.specs.declared.row.Progress.{Progress}
 use Rattle.node_outcomes.specs.declared.row.Stage.TheVariants as code
 use Rattle.wiring.specs.Graph.{rowless}
 use Rattle.wiring.specs.Stands.{Stands, Hand, hand, owed_in, Counts}
-use Rattle.wiring.specs.Turning.{IsLoosened, IsAttached, IsOff}
+use Rattle.wiring.specs.Turning.{IsDetached, IsAttached, IsOff}
 use Rattle.wiring.specs.Wiring.{IsMarked, IsSpared, TakesOne, HandIsSpared, is_still, hand_now}
 use Rattle.wiring.specs.declared.work.Work.{Work}
 use Rattle.wiring.proofs.Deciding.{decides_needed}
@@ -69,12 +69,12 @@ nothing_taken arena work in_step F z s counts held inv spared st = (s, here, by_
 
 module _ (old first new : Work) (n : NodeId) (step_old : IsInStep old.graph) (marked : IsMarked old.graph first.graph (change n))
     (only : first ≡ record old { graph = first.graph }) (step_new : IsInStep new.graph) where
-  loose_alone : (right : Option NodeId) (loose : IsLoosened first new n right) → new.graph ≡ loose.mid.graph
+  loose_alone : (right : Option NodeId) (loose : IsDetached first new n right) → new.graph ≡ loose.mid.graph
       → IsLowered old new (main n) (change n) code.Static loose.mid.graph.links
   loose_alone right loose same = lowered_alone old first loose.mid new (main n) (change n) code.Static step_old marked only loose.enqueued loose.rest
       loose.rows loose.last same step_new
 
-  loose_link : (right : Option NodeId) (loose : IsLoosened first new n right) (m : NodeId)
+  loose_link : (right : Option NodeId) (loose : IsDetached first new n right) (m : NodeId)
       → (u : IsUnlinked (rowless new) loose.mid.graph new.graph (main n) (main m)) → IsLowered old new (main n) (change n) code.Static u.links
   loose_link right loose m u = lowered old first loose.mid new (main n) (change n) code.Static step_old marked only loose.enqueued loose.rest
       loose.rows loose.last u.links fewer others u.sweep u.drops step_new
@@ -89,7 +89,7 @@ module _ (old first new : Work) (n : NodeId) (step_old : IsInStep old.graph) (ma
       others : (a b : Point) → (main n ≡ a → ⊥) → times u.links a b ≡ times loose.mid.graph.links a b
       others a b ne = sym (u.off.others a b (λ h. ne (sym (ap (λ (x : Link). x.reader) h))))
 
-  pub loose_lowered : (right : Option NodeId) → IsLoosened first new n right → (links : Links) × IsLowered old new (main n) (change n) code.Static links
+  pub loose_lowered : (right : Option NodeId) → IsDetached first new n right → (links : Links) × IsLowered old new (main n) (change n) code.Static links
   loose_lowered right loose = by right loose.off
     where
       by : (x : Option NodeId) → IsOff (rowless new) loose.mid.graph new.graph n x
@@ -104,7 +104,7 @@ module _ (arena : Arena) (old first new : Work) (n : NodeId) (r : Row) (s_id m :
     (sub : subject_of r.def ≡ Some s_id) (own_row : Holds old.rows (change n))
     (attached : IsAttached old n) (unsettled : settled_in old.round (at old.rows (change n)) ≡ false) (right : right_in old.rows old.roots n r.def ≡ Some m)
     (marked : IsMarked old.graph first.graph (change n)) (only : first ≡ record old { graph = first.graph })
-    (loose : IsLoosened first new n (right_in first.rows first.roots n r.def)) (step_old : IsInStep old.graph) (step_new : IsInStep new.graph) where
+    (loose : IsDetached first new n (right_in first.rows first.roots n r.def)) (step_old : IsInStep old.graph) (step_new : IsInStep new.graph) where
   right_now : right_in first.rows first.roots n r.def ≡ Some m
   right_now = ap (λ (w : Work). right_in w.rows w.roots n r.def) only ∙ right
 
@@ -265,7 +265,7 @@ right_has_subject (form.Fold f v ks) rows roots n m e = absurd (none_of (outcome
 -- rows of what is spared stay
 pub spared_rows : (arena : Arena) (old first new : Work) (n : NodeId) (r : Row) (right : Option NodeId) → row_at arena n ≡ Some r
     → is_some (subject_of r.def) ≡ true → IsAttached old n → settled_in old.round (at old.rows (change n)) ≡ false → first ≡ record old { graph = first.graph }
-    → IsLoosened first new n right → (p : Point) → IsSpared arena old p → at new.rows p ≡ at old.rows p
+    → IsDetached first new n right → (p : Point) → IsSpared arena old p → at new.rows p ≡ at old.rows p
 spared_rows arena old first new n r right row sub attached unsettled only loose p spared = elim (same_or_other p (main n)) [
   | inl e ↦ absurd (
       let settled : settled_in old.round (at old.rows (change n)) ≡ true =

@@ -10,16 +10,16 @@ use Rattle.necessary_graph.specs.Sweep.{Sweep, DropsLeaves}
 use Rattle.node_outcomes.specs.Row.{settled_in}
 use Rattle.wiring.specs.Graph.{died_at, rowless}
 use Rattle.wiring.specs.Places.{ChangesNode}
-use Rattle.wiring.specs.Turning.{IsAttached, IsLoosened}
+use Rattle.wiring.specs.Turning.{IsAttached, IsDetached}
 use Rattle.wiring.specs.Wiring.{KeepsGraph, IsMarked}
 use Rattle.wiring.specs.declared.work.Work.{Work}
 
 -- the change of a bind is in the heap, and then a main with a right side waits again
-pub record HasLoosened (old new : Work) (n : NodeId) (right : Option NodeId) : Type 0 where
+pub record HasDetached (old new : Work) (n : NodeId) (right : Option NodeId) : Type 0 where
   pub mid : Work
   pub marked : IsMarked old.graph mid.graph (change n)
   pub rest : mid ≡ record old { graph = mid.graph }
-  pub loosened : ((new ≡ mid) × (IsAttached old n → ⊥)) ⊎ (IsLoosened mid new n right × IsAttached old n)
+  pub detached : ((new ≡ mid) × (IsAttached old n → ⊥)) ⊎ (IsDetached mid new n right × IsAttached old n)
 
 -- the points that read this one and live on are in the heap, unless they were settled
 pub record AreTold (old new : Work) (p : Point) : Type 0 where
@@ -31,7 +31,7 @@ pub record AreTold (old new : Work) (p : Point) : Type 0 where
       ⊎ (Reads old.graph.links a p × (settled_in old.round (at old.rows a) ≡ false) × (died_at old a.node ≡ None))
 
 -- what is kept of a point is gone, and so is the point where it isn't needed
-pub record IsPointBuried (old new : Work) (p : Point) : Type 0 where
+pub record IsPointForgotten (old new : Work) (p : Point) : Type 0 where
   pub row : Changes old.rows new.rows p None
   pub heap : Changes old.graph.heap new.graph.heap p None
   pub links : new.graph.links ≡ old.graph.links
@@ -40,7 +40,7 @@ pub record IsPointBuried (old new : Work) (p : Point) : Type 0 where
       ⊎ ((Needed old.graph p → ⊥) × Changes old.graph.heights new.graph.heights p None)
 
 -- of a node that died nothing is kept but its needed points with their links; what reads its main and lives on is in the heap, unless it was settled
-pub record IsBuried (old new : Work) (n : NodeId) : Type 0 where
+pub record IsForgotten (old new : Work) (n : NodeId) : Type 0 where
   pub rows : ChangesNode old.rows new.rows n (λ part. None)
   pub roots : (p : Point) → p ≢ change n → at new.roots p ≡ at old.roots p
   pub rootless : Holds old.rows (change n) → at new.roots (change n) ≡ None

@@ -30,7 +30,7 @@ IsOff leaf old new n None = new ≡ old
 IsOff leaf old new n (Some m) = IsUnlinked leaf old new (main n) (main m) ⊎ ((new ≡ old) × (Reads old.links (main n) (main m) → ⊥))
 
 -- a main waits again: it is in the heap, unless it was settled, and its right side is off
-pub record IsLoosened (old new : Work) (n : NodeId) (right : Option NodeId) : Type 0 where
+pub record IsDetached (old new : Work) (n : NodeId) (right : Option NodeId) : Type 0 where
   pub rows : IsRewritten old.rows new.rows (main n) (with_stage Static)
   pub mid : Work
   pub enqueued : IsEnqueued old mid (main n)
@@ -42,6 +42,6 @@ pub record IsLoosened (old new : Work) (n : NodeId) (right : Option NodeId) : Ty
 pub record HasTurned (old new : Work) (n : NodeId) (right : Option NodeId) (given : Outcome) : Type 0 where
   pub mid : Work
   pub turned : ((mid ≡ old) × ((outcome_in (at old.rows (change n)) ≡ Some given) ⊎ (IsAttached old n → ⊥)))
-      ⊎ (IsLoosened old mid n right × IsAttached old n × (outcome_in (at old.rows (change n)) ≢ Some given))
+      ⊎ (IsDetached old mid n right × IsAttached old n × (outcome_in (at old.rows (change n)) ≢ Some given))
   pub rows : IsRewritten mid.rows new.rows (change n) (with_outcome given old.round)
   pub rest : new ≡ record mid { rows = new.rows }

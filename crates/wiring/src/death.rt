@@ -8,7 +8,7 @@ ghost use Rattle.link_table.specs.Links.{Reads};
 ghost use Rattle.necessary_graph.specs.Part.{IsInStep};
 ghost use Rattle.necessary_graph.specs.Sweep.{IsUnlinked};
 ghost use Rattle.wiring.specs.Graph.{died_at, rowless};
-ghost use Rattle.wiring.specs.Scoped.{IsBuried, IsPointBuried, AreTold, IsReleased};
+ghost use Rattle.wiring.specs.Scoped.{IsForgotten, IsPointForgotten, AreTold, IsReleased};
 
 use crate::work::Work;
 use inc_value::{NodeId, Point};
@@ -41,34 +41,34 @@ impl<'a> Skip for Untold<'a> {
 impl Work {
     /// What is kept of a node that died in this round goes, but its points that are needed and their gate's links. What reads
     /// it and lives on is to be recomputed, unless it was settled. This takes no memory.
-    pub fn bury(&mut self, node: NodeId)
+    pub fn forget(&mut self, node: NodeId)
         requires main { Holds self.old.rows (main node) × Holds self.old.graph.heights (main node) }
         requires change { Holds self.old.rows (change node) → Holds self.old.graph.heights (change node) }
         requires died { IsSome (died_at self.old node) }
         requires step { IsInStep self.old.graph }
-        ensures buried { IsBuried self.old self.new node }
+        ensures forgotten { IsForgotten self.old self.new node }
         ensures absent { (p : APoint) → at self.old.graph.heights p ≡ None → at self.new.graph.heights p ≡ None }
         ensures counted { self.new.scoped.dead ≡ raised self.old.scoped.dead }
         ensures pair_counted { Holds self.old.rows (change node) → self.new.pairs.dead ≡ raised self.old.pairs.dead }
         ensures step { IsInStep self.new.graph }
     {
         self.tell_survivors(main_point(node));
-        self.bury_point(main_point(node));
-        self.scoped.bury();
+        self.forget_point(main_point(node));
+        self.scoped.count_dead();
         let own = change_point(node);
         if self.rows.holds(own) {
-            self.bury_point(own);
+            self.forget_point(own);
             self.forget_root(own);
-            self.pairs.bury();
+            self.pairs.count_dead();
         }
     }
 
     /// What is kept of a point of a node that died goes. The point itself stays where it is needed.
-    fn bury_point(&mut self, p: Point)
+    fn forget_point(&mut self, p: Point)
         requires there { Holds self.old.graph.heights p }
         requires row { Holds self.old.rows p }
         requires step { IsInStep self.old.graph }
-        ensures buried { IsPointBuried self.old self.new p }
+        ensures forgotten { IsPointForgotten self.old self.new p }
         ensures step { IsInStep self.new.graph }
         ensures rest { self.new ≡ record self.old { graph = self.new.graph; rows = self.new.rows } }
     {

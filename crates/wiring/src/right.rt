@@ -9,9 +9,9 @@ ghost use Rattle.node_arena.specs.Arena.{row_at};
 ghost use Rattle.node_outcomes.specs.Row.{stage_in, settled_in};
 ghost use Rattle.node_outcomes.specs.Choosing.{right_in};
 ghost use Rattle.wiring.specs.Kept.{IsKept};
-ghost use Rattle.wiring.specs.Turning.{IsWaiting, IsAttached, IsLoosened};
+ghost use Rattle.wiring.specs.Turning.{IsWaiting, IsAttached, IsDetached};
 ghost use Rattle.wiring.specs.Wiring.{KeepsPlaces, Attaches, AttachRefused};
-ghost use Rattle.wiring.specs.Scoped.{HasLoosened};
+ghost use Rattle.wiring.specs.Scoped.{HasDetached};
 
 use crate::refused::Refused;
 use crate::work::Work;
@@ -68,7 +68,7 @@ impl Work {
     pub fn drop_right(&mut self, node: NodeId, def: &Def)
         requires attached { IsAttached self.old node }
         requires step { IsInStep self.old.graph }
-        ensures loosened { IsLoosened self.old self.new node (right_in self.old.rows self.old.roots node (def_of def.now)) }
+        ensures detached { IsDetached self.old self.new node (right_in self.old.rows self.old.roots node (def_of def.now)) }
         ensures step { IsInStep self.new.graph }
     {
         let p = main_point(node);
@@ -84,10 +84,10 @@ impl Work {
 
     /// The main of a bind that is to be built anew has no right side any more. The bind's change stays in the heap until it
     /// is settled.
-    pub fn loosen(&mut self, node: NodeId, def: &Def)
+    pub fn detach(&mut self, node: NodeId, def: &Def)
         requires needed { Needed self.old.graph (change node) }
         requires step { IsInStep self.old.graph }
-        ensures loosened { HasLoosened self.old self.new node (right_in self.old.rows self.old.roots node (def_of def.now)) }
+        ensures detached { HasDetached self.old self.new node (right_in self.old.rows self.old.roots node (def_of def.now)) }
         ensures step { IsInStep self.new.graph }
         ensures rest { self.new ≡ record self.old { graph = self.new.graph; rows = self.new.rows } }
     {

@@ -53,7 +53,7 @@ use Rattle.wiring.specs.Began.{IsRoundOf}
 use Rattle.wiring.specs.Graph.{graph_at}
 use Rattle.wiring.specs.Kept.{IsKept}
 use Rattle.wiring.specs.Stands.{Stands, hand, Counts}
-use Rattle.wiring.specs.Turning.{IsLoosened, HasTurned}
+use Rattle.wiring.specs.Turning.{IsDetached, HasTurned}
 use Rattle.wiring.specs.Wiring.{KeepsRound, IsTurnedIn, WaitsFor}
 use Rattle.wiring.specs.declared.work.Work.{Work}
 use Rattle.stabilizer.proofs.Change.Changing.{before_stands}
@@ -182,11 +182,11 @@ module _ (s : State) (arena : Arena) (old new : Work) (counts : Counts) (st : St
       } in
       settled_stands s arena old new counts st n given there settles s.graph (st.graph ∙ sym same) (waits s n) listed
 
--- ---- a main that was loosened, whatever the worklist
+-- ---- a main that was detached, whatever the worklist
 
-loosened_frame : (old : Work) (g : NecessaryPart) (todo : Work) (mid : Work) (n : NodeId) (right : Option NodeId)
-    → IsLoosened (record old { graph = g; todo = todo.todo }) mid n right → IsLoosened (record old { graph = g }) (record mid { todo = old.todo }) n right
-loosened_frame old g todo mid n right l = record {
+detached_frame : (old : Work) (g : NecessaryPart) (todo : Work) (mid : Work) (n : NodeId) (right : Option NodeId)
+    → IsDetached (record old { graph = g; todo = todo.todo }) mid n right → IsDetached (record old { graph = g }) (record mid { todo = old.todo }) n right
+detached_frame old g todo mid n right l = record {
   rows = l.rows;
   mid = record l.mid { todo = old.todo };
   enqueued = record {
@@ -325,7 +325,7 @@ module _ (M : Meaning) (old turned : Parts) (n : NodeId) (counts : Counts) (all 
         F z s counts st (elim k.1 [ inl e ↦ inl e | inr not ↦ inr (λ a. not (record { needed = a.needed; stage = a.stage })) ]) idle least
     | inr k ↦ ready_loose arena whole (record t.mid { todo = old.work.todo }) g n m.row m.subject whole_kept m.is_row m.is_subject whole_in refl taken_out
         (record { needed = k.1.needed; stage = k.1.stage })
-        (loosened_frame whole g m.woken t.mid n (right_in old.work.rows old.work.roots n m.row.def) k.0)
+        (detached_frame whole g m.woken t.mid n (right_in old.work.rows old.work.roots n m.row.def) k.0)
         F z s counts inv st m.given seen_now k.2 turned.work t.rows graph_last
         (record { roots = round_last.roots; deaths = round_last.deaths; ran = round_last.ran; retries = round_last.retries; round = round_last.round })
         idle least

@@ -32,7 +32,7 @@ use Rattle.stabilize_round.proofs.Parts.{bool_cases}
 use Rattle.stabilize_round.proofs.Points.{same_or_other}
 use Rattle.wiring.specs.Graph.{held_at, graph_at}
 use Rattle.wiring.specs.Kept.{IsKept, IsBind}
-use Rattle.wiring.specs.Turning.{IsAttached, IsLoosened, HasTurned}
+use Rattle.wiring.specs.Turning.{IsAttached, IsDetached, HasTurned}
 use Rattle.wiring.specs.Wiring.{KeepsLists, WaitsFor}
 use Rattle.wiring.specs.declared.work.Work.{Work}
 use Rattle.wiring.proofs.Holding.{dead_unbuilt, died_same, graph_staged, links_same, pairs_same, root_same, scoped_same}
@@ -100,7 +100,7 @@ seen_mapped (Some y) = refl
 module _ (arena : Arena) (taken mid : Work) (todo : Vec Point Global) (n : NodeId) (r : Row) (k : NodeId) (kept : IsKept arena taken)
     (live : row_at arena n ≡ Some r) (sub : subject_of r.def ≡ Some k) (own_row : Holds taken.rows (change n)) (own_need : Needed taken.graph (change n))
     (attached : IsAttached (record taken { todo = todo }) n)
-    (loose : IsLoosened (record taken { todo = todo }) mid n (right_in taken.rows taken.roots n r.def)) where
+    (loose : IsDetached (record taken { todo = todo }) mid n (right_in taken.rows taken.roots n r.def)) where
   round_is : mid.round ≡ taken.round
   round_is = ap (λ (w : Work). w.round) loose.last ∙ ap (λ (w : Work). w.round) loose.rest
 

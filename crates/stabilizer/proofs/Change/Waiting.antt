@@ -21,7 +21,7 @@ use Rattle.stabilize_round.specs.State.{one}
 use Rattle.stabilize_round.proofs.Points.{same_or_other, one_same, one_other}
 use Rattle.wiring.specs.Graph.{rowless}
 use Rattle.wiring.specs.Kept.{IsKept}
-use Rattle.wiring.specs.Turning.{IsAttached, IsLoosened, IsOff}
+use Rattle.wiring.specs.Turning.{IsAttached, IsDetached, IsOff}
 use Rattle.wiring.specs.declared.work.Work.{Work}
 use Rattle.wiring.proofs.Deciding.{need_same}
 
@@ -169,7 +169,7 @@ off_without leaf g new n (Some m) in_step (inr x) = off_none leaf g new n (Some 
 module _ (arena : Arena) (taken mid : Work) (todo : Vec Point Global) (n : NodeId) (r : Row) (k : NodeId) (kept : IsKept arena taken)
     (live : row_at arena n ≡ Some r) (sub : subject_of r.def ≡ Some k) (own_row : Holds taken.rows (change n)) (own_need : Needed taken.graph (change n))
     (attached : IsAttached (record taken { todo = todo }) n)
-    (loose : IsLoosened (record taken { todo = todo }) mid n (right_in taken.rows taken.roots n r.def)) where
+    (loose : IsDetached (record taken { todo = todo }) mid n (right_in taken.rows taken.roots n r.def)) where
   abbrev g0 : NecessaryPart
   g0 = loose.mid.graph
 

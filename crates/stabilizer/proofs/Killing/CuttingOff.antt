@@ -33,16 +33,16 @@ use Rattle.wiring.specs.Turning.{IsAttached}
 use Rattle.wiring.specs.Wiring.{Looks}
 use Rattle.wiring.specs.declared.work.Work.{Work}
 use Rattle.wiring.proofs.InHand.{gated_none}
-use Rattle.wiring.proofs.Loosening.{change_is_other}
+use Rattle.wiring.proofs.Detaching.{change_is_other}
 use Rattle.wiring.proofs.Retrying.{Keeps, off_keeps}
 use Rattle.wiring.proofs.TakingAll.{places_then}
 use Rattle.wiring.proofs.Trying.{same_need}
 use Rattle.wiring.proofs.Wiring.{looks_stands}
-use Rattle.stabilizer.specs.Dying.{StandsBefore, GatesWait, CutsTo, IsCutOff, IsGateOf, LosesRight, IsDoomed, LeavesStanding}
+use Rattle.stabilizer.specs.Dying.{StandsBefore, GatesWait, CutsTo, IsCutOff, IsGateOf, LosesRight, IsInvalidated, LeavesStanding}
 use Rattle.stabilizer.specs.Kept.{PartsKept, graph_in}
 use Rattle.stabilizer.specs.declared.parts.Parts.{Parts}
-use Rattle.stabilizer.proofs.Killing.Dooming.{inside_as, never_inside, one_scope}
-use Rattle.stabilizer.proofs.Killing.Loosened.{mid, marked, mid_rest, need_mid, need_old, into_mid, subject, loose_kept, loose_places, loose_heap, loose_change, loose_rows, loose_main, loose_right, loosens}
+use Rattle.stabilizer.proofs.Killing.Invalidating.{inside_as, never_inside, one_scope}
+use Rattle.stabilizer.proofs.Killing.Detached.{mid, marked, mid_rest, need_mid, need_old, into_mid, subject, loose_kept, loose_places, loose_heap, loose_change, loose_rows, loose_main, loose_right, detaches}
 use Rattle.stabilizer.proofs.Killing.LinksOff.{Leaves, off_leaves, off_prepares, stays_needed, inside_above, main_above}
 
 -- the gate of a node inside the bind's scope is the bind's, or of a node that is inside too
@@ -140,7 +140,7 @@ module _ (old : Parts) (b : NodeId) (kept : PartsKept old) (there : Holds old.wo
 
   -- ---- and what is to die was put back
 
-  module _ (new : Parts) (doom : IsDoomed begun new b) where
+  module _ (new : Parts) (invalidate : IsInvalidated begun new b) where
     inside_old : (n : NodeId) → Inside (graph_in begun) b n → Inside (graph_in old) b n
     inside_old n i = inside_as (graph_in begun) (graph_in old) (λ m. refl) b n i
 
@@ -159,7 +159,7 @@ module _ (old : Parts) (b : NodeId) (kept : PartsKept old) (there : Holds old.wo
       least = first_least s counts sb
 
       loosed : (t : State) × Reaches (TakingOff F z) s t × Stands old.arena loose counts None t
-      loosed = loosens old.arena old.work loose b lost kept.work need there F z s counts inv st unsettled
+      loosed = detaches old.arena old.work loose b lost kept.work need there F z s counts inv st unsettled
 
       waits_still : GatesWait loosed.0 b
       waits_still n c r i row scope =
@@ -168,7 +168,7 @@ module _ (old : Parts) (b : NodeId) (kept : PartsKept old) (there : Holds old.wo
           ∙ waits n c r (subst (λ (G : Graph). Inside G b n) k.graph i) (sym (ap (λ (G : Graph). G.row n) k.graph) ∙ row) scope
 
       cut : (t : State) × Reaches (TakingOff F z) loosed.0 t × Stands new.arena new.work counts None t
-      cut = doom.done.dooms F z loosed.0 counts (moves_keep F z s loosed.0 (off_moves F z s loosed.0 loosed.1) inv) waits_still loosed.2
+      cut = invalidate.done.invalidates F z loosed.0 counts (moves_keep F z s loosed.0 (off_moves F z s loosed.0 loosed.1) inv) waits_still loosed.2
 
       abbrev last : State
       last = cut.0
@@ -192,7 +192,7 @@ module _ (old : Parts) (b : NodeId) (kept : PartsKept old) (there : Holds old.wo
       stands = cut.2
 
       row_now : (m : NodeId) → last.graph.row m ≡ row_at old.arena m
-      row_now m = ap (λ (G : Graph). G.row m) stands.graph ∙ ap (λ (a : Arena). row_at a m) doom.done.arena
+      row_now m = ap (λ (G : Graph). G.row m) stands.graph ∙ ap (λ (a : Arena). row_at a m) invalidate.done.arena
 
       inside_now : (n : NodeId) → Inside (graph_in begun) b n → Inside last.graph b n
       inside_now n i = inside_as (graph_in begun) last.graph row_now b n i
@@ -238,7 +238,7 @@ module _ (old : Parts) (b : NodeId) (kept : PartsKept old) (there : Holds old.wo
         where
           by : (x : Option Row) → s.graph.row p.node ≡ x → Above p ⊎ (last.stage p ≡ s.stage p)
           by None e = inr (leaves.dead p e)
-          by (Some r) e = elim (doom.done.rows p) [
+          by (Some r) e = elim (invalidate.done.rows p) [
             | inr x ↦ inl (inl (inside_now p.node x.0))
             | inl f ↦ elim (loose_rows old.arena old.work loose b lost kept.work need there p) [
               | inl g ↦ inr (same_stage p (f ∙ g) (live_row p r e was))
@@ -257,7 +257,7 @@ module _ (old : Parts) (b : NodeId) (kept : PartsKept old) (there : Holds old.wo
       change_itself p e = subst (λ (x : Point). last.height (change b) ≤ last.height x) (sym e) (omega arith)
 
       attached_above : IsAttached old.work b → Above (main b)
-      attached_above a = elim (doom.done.rows (main b)) [
+      attached_above a = elim (invalidate.done.rows (main b)) [
         | inr x ↦ inl (inside_now b x.0)
         | inl f ↦ inr (refl, static_now (f ∙ loose_main old.arena old.work loose b lost kept.work need there a))
       ]
@@ -285,9 +285,9 @@ module _ (old : Parts) (b : NodeId) (kept : PartsKept old) (there : Holds old.wo
       least_now : IsLeast last (change b)
       least_now = record {
         heap = (let n : Needed new.work.graph (change b) = (stands.needed (change b)).0 wanted_now in
-            stands.heap (change b) ∙ doom.done.loses.heap (change b)
-            (loose_change old.arena old.work loose b lost kept.work need there (doom.done.loses.less (change b) n)) n);
-        least = λ q h. let n = last_inv.web.heap q h in elim (doom.done.heap q (sym (stands.heap q) ∙ h)) [
+            stands.heap (change b) ∙ invalidate.done.loses.heap (change b)
+            (loose_change old.arena old.work loose b lost kept.work need there (invalidate.done.loses.less (change b) n)) n);
+        least = λ q h. let n = last_inv.web.heap q h in elim (invalidate.done.heap q (sym (stands.heap q) ∙ h)) [
           | inl in_begun ↦ from_begun q in_begun n
           | inr x ↦ elim x [
             | inl i ↦ not_lower q (inl (inside_now q.node i)) n
@@ -311,7 +311,7 @@ module _ (old : Parts) (b : NodeId) (kept : PartsKept old) (there : Holds old.wo
       )
 
     own_row : at new.work.rows (change b) ≡ at old.work.rows (change b)
-    own_row = elim (doom.done.rows (change b)) [
+    own_row = elim (invalidate.done.rows (change b)) [
       | inr x ↦ absurd (never_inside old.arena old.work kept.work.older b (inside_old b x.0))
       | inl e ↦ elim (loose_rows old.arena old.work loose b lost kept.work need there (change b)) [
         | inl f ↦ e ∙ f
@@ -320,30 +320,30 @@ module _ (old : Parts) (b : NodeId) (kept : PartsKept old) (there : Holds old.wo
     ]
 
     detached : IsAttached new.work b → ⊥
-    detached a = elim (doom.done.rows (main b)) [
-      | inl e ↦ loose_right old.arena old.work loose b lost kept.work need there new.work e (doom.done.loses.less (main b)) a
+    detached a = elim (invalidate.done.rows (main b)) [
+      | inl e ↦ loose_right old.arena old.work loose b lost kept.work need there new.work e (invalidate.done.loses.less (main b)) a
       | inr x ↦ gated_none (at loose.rows (main b)) (inr (ap stage_in (sym x.1) ∙ a.stage))
     ]
 
     pub cut_off : IsCutOff old new b
     cut_off = record {
       cuts = λ F z s counts inv quiet waits unsettled sb. cuts_to F z s counts inv quiet waits unsettled sb;
-      kept = doom.done.kept;
-      gated = doom.gated;
-      gates = doom.gates;
+      kept = invalidate.done.kept;
+      gated = invalidate.gated;
+      gates = invalidate.gates;
       right = detached;
       own = own_row;
-      places = places_then old.work loose new.work (loose_places old.arena old.work loose b lost kept.work need there) doom.done.places;
-      rest = doom.done.rest ∙ ap (λ (w : Work). record w { graph = new.work.graph; rows = new.work.rows }) lost.rest;
-      arena = doom.done.arena;
-      ran = doom.done.ran;
+      places = places_then old.work loose new.work (loose_places old.arena old.work loose b lost kept.work need there) invalidate.done.places;
+      rest = invalidate.done.rest ∙ ap (λ (w : Work). record w { graph = new.work.graph; rows = new.work.rows }) lost.rest;
+      arena = invalidate.done.arena;
+      ran = invalidate.done.ran;
     }
 
     pub cut_standing : LeavesStanding old new b
     cut_standing = record {
       stands = λ n c. (
-        λ h. let y = (doom.scopes.stands n c).0 h in (y.0, λ i. y.1 (inside_begun n i)),
-        λ h. (doom.scopes.stands n c).1 (h.0, λ i. h.1 (inside_old n i)),
+        λ h. let y = (invalidate.scopes.stands n c).0 h in (y.0, λ i. y.1 (inside_begun n i)),
+        λ h. (invalidate.scopes.stands n c).1 (h.0, λ i. h.1 (inside_old n i)),
       );
-      none = doom.scopes.none;
+      none = invalidate.scopes.none;
     }

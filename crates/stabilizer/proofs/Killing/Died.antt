@@ -1,4 +1,4 @@
--- What was listed, forgotten and buried has died, and what parts keep is kept.
+-- What was listed, forgotten and forgotten has died, and what parts keep is kept.
 use Rattle.std.proofs.Common.{◌≡◌, ◌≢◌, ◌⊎◌, inl, inr, ℕ, ◌<◌, ◌≤◌, List, Option, None, Some, refl, sym, ap, subst, ◌∙◌, arith}
 use Rattle.std.specs.Prelude.{is_some, IsSome, option_map, option_and_then, []}
 use Rattle.std.proofs.lemmas.Option.{none-some, same_Some}
@@ -31,10 +31,10 @@ use Rattle.wiring.proofs.Deciding.{need_same, decides_needed}
 use Rattle.wiring.proofs.Holding.{died_same, right_as}
 use Rattle.wiring.proofs.Linking.{some_or_none}
 use Rattle.wiring.proofs.Releasing.{main_apart}
-use Rattle.stabilizer.specs.Dying.{AreDying, AreListed, MayBury, AreBuried, HasDied, HaveGatesAlone, StandsBut, scope_at}
+use Rattle.stabilizer.specs.Dying.{AreDying, AreListed, MayForget, AreForgotten, HasDied, HaveGatesAlone, StandsBut, scope_at}
 use Rattle.stabilizer.specs.Kept.{PartsKept, KeepsScopes, graph_in}
 use Rattle.stabilizer.specs.declared.parts.Parts.{Parts}
-use Rattle.stabilizer.proofs.Killing.BuryingAll.{not_none}
+use Rattle.stabilizer.proofs.Killing.ForgettingAll.{not_none}
 use Rattle.stabilizer.proofs.Between.Typing.{KeepsTypes, typed_still, right_still}
 
 -- ---- a row without its outcome
@@ -147,8 +147,8 @@ module _ (old : Parts) (listed forgot : Work) (b : NodeId) (nodes : List NodeId)
   main_held : (n : NodeId) → In n → Holds old.work.rows (main n)
   main_held n i = kept.rows (main n) ∙ ap (λ (x : Option Row). has_part x Main) (inside_row old b n i).2
 
-  pub may_bury : MayBury old.arena forgot nodes
-  may_bury = record {
+  pub may_forget : MayForget old.arena forgot nodes
+  may_forget = record {
     sound = kept.sound;
     step = subst (λ (g : NecessaryPart). IsInStep g) (sym graph_is) kept.step;
     once = dying.once;
@@ -161,7 +161,7 @@ module _ (old : Parts) (listed forgot : Work) (b : NodeId) (nodes : List NodeId)
       there : (p : Point) → Holds old.work.rows p → Holds forgot.graph.heights p
       there p h = ap (λ (g : NecessaryPart). is_some (at g.heights p)) graph_is ∙ kept.there p h
 
-  module _ (new : Parts) (buried : AreBuried old.arena new.arena forgot new.work nodes) (ran : new.ran ≡ old.ran) where
+  module _ (new : Parts) (forgotten : AreForgotten old.arena new.arena forgot new.work nodes) (ran : new.ran ≡ old.ran) where
     need_then : (p : Point) → Needed old.work.graph p → Needed forgot.graph p
     need_then p need = subst (λ (g : NecessaryPart). Needed g p) (sym graph_is) need
 
@@ -181,7 +181,7 @@ module _ (old : Parts) (listed forgot : Work) (b : NodeId) (nodes : List NodeId)
     reads_was p q r = subst (λ (g : NecessaryPart). Reads g.links p q) graph_is r
 
     died_now : (n : NodeId) → died_at new.work n ≡ died_at listed n
-    died_now n = died_same forgot new.work buried.deaths n ∙ died_is n
+    died_now n = died_same forgot new.work forgotten.deaths n ∙ died_is n
 
     -- a point that reads a main is of no node that died before
     reader_undead : (p : Point) (n : NodeId) → Reads old.work.graph.links p (main n) → IsSome (died_at old.work p.node) → ⊥
@@ -216,11 +216,11 @@ module _ (old : Parts) (listed forgot : Work) (b : NodeId) (nodes : List NodeId)
     -- what left the heap, or was never in it
     out_of_heap : (p : Point) → In p.node → at new.work.graph.heap p ≡ None
     out_of_heap p i = elim (some_or_none (at old.work.rows p)) [
-      | inl k ↦ buried.out p (among p.node i) (held_is p ∙ ap is_some k.1)
+      | inl k ↦ forgotten.out p (among p.node i) (held_is p ∙ ap is_some k.1)
       | inr none ↦ elim (some_or_none (at new.work.graph.heap p)) [
-        | inl h ↦ elim (buried.only p (ap is_some h.1)) [
+        | inl h ↦ elim (forgotten.only p (ap is_some h.1)) [
           | inl was ↦ absurd (not_none (at old.work.rows p) none (kept.heap p (sym (heap_is p) ∙ was)))
-          | inr x ↦ absurd (not_none (died_at forgot p.node) x.1 (may_bury.died p.node (among p.node i)))
+          | inr x ↦ absurd (not_none (died_at forgot p.node) x.1 (may_forget.died p.node (among p.node i)))
         ]
         | inr z ↦ z
       ]
@@ -228,51 +228,51 @@ module _ (old : Parts) (listed forgot : Work) (b : NodeId) (nodes : List NodeId)
 
     pub all_died : HasDied old new b
     all_died = record {
-      given = buried.given;
-      sound = buried.sound;
+      given = forgotten.given;
+      sound = forgotten.sound;
       nodes = λ n. elim (among_or_not n nodes) [
-        | inl a ↦ inl (inside n a, buried.dead n a)
-        | inr no_ ↦ inr ((λ i. no_ (among n i)), buried.others n no_)
+        | inl a ↦ inl (inside n a, forgotten.dead n a)
+        | inr no_ ↦ inr ((λ i. no_ (among n i)), forgotten.others n no_)
       ];
-      rows = λ p no_ other. buried.rows p (out p.node no_) ∙ row_other p other;
-      own = buried.rows (change b) (out b (not_inside old b kept)) ∙ row_own;
-      gone = λ p i. buried.gone p (among p.node i);
-      roots = λ p no_ other. buried.roots p (out p.node no_) ∙ (root.others p other ∙ roots_are p);
-      own_root = buried.roots (change b) (out b (not_inside old b kept)) ∙ root.changed;
+      rows = λ p no_ other. forgotten.rows p (out p.node no_) ∙ row_other p other;
+      own = forgotten.rows (change b) (out b (not_inside old b kept)) ∙ row_own;
+      gone = λ p i. forgotten.gone p (among p.node i);
+      roots = λ p no_ other. forgotten.roots p (out p.node no_) ∙ (root.others p other ∙ roots_are p);
+      own_root = forgotten.roots (change b) (out b (not_inside old b kept)) ∙ root.changed;
       rootless = λ n i. elim (some_or_none (at old.work.rows (change n))) [
-        | inl k ↦ buried.rootless n (among n i) (held_is (change n) ∙ ap is_some k.1)
-        | inr none ↦ buried.fewer (change n) (root_before n i (no_root n none))
+        | inl k ↦ forgotten.rootless n (among n i) (held_is (change n) ∙ ap is_some k.1)
+        | inr none ↦ forgotten.fewer (change n) (root_before n i (no_root n none))
       ];
-      links = buried.links ∙ ap (λ (g : NecessaryPart). g.links) graph_is;
-      graph_roots = buried.graph_roots ∙ ap (λ (g : NecessaryPart). g.roots) graph_is;
+      links = forgotten.links ∙ ap (λ (g : NecessaryPart). g.links) graph_is;
+      graph_roots = forgotten.graph_roots ∙ ap (λ (g : NecessaryPart). g.roots) graph_is;
       heights = λ p x. elim x [
-        | inl no_ ↦ buried.heights p (inl (out p.node no_)) ∙ height_is p
-        | inr need ↦ buried.heights p (inr (need_then p need)) ∙ height_is p
+        | inl no_ ↦ forgotten.heights p (inl (out p.node no_)) ∙ height_is p
+        | inr need ↦ forgotten.heights p (inr (need_then p need)) ∙ height_is p
       ];
       dropped = λ p i no_. elim (some_or_none (at old.work.rows p)) [
-        | inl k ↦ buried.dropped p (among p.node i) (held_is p ∙ ap is_some k.1) (λ need. no_ (need_was p need))
-        | inr none ↦ buried.absent p (height_is p ∙ no_height p i none)
+        | inl k ↦ forgotten.dropped p (among p.node i) (held_is p ∙ ap is_some k.1) (λ need. no_ (need_was p need))
+        | inr none ↦ forgotten.absent p (height_is p ∙ no_height p i none)
       ];
       out = out_of_heap;
-      heap = λ p no_ h. buried.heap p (out p.node no_) (heap_is p ∙ h);
-      told = λ p n no_ i reads. elim (buried.told p n (among n i) (reads_then p (main n) reads)) [
+      heap = λ p no_ h. forgotten.heap p (out p.node no_) (heap_is p ∙ h);
+      told = λ p n no_ i reads. elim (forgotten.told p n (among n i) (reads_then p (main n) reads)) [
         | inl h ↦ inl h
         | inr (inl t) ↦ inr (sym (settled_is p) ∙ t)
         | inr (inr d) ↦ absurd (reader_undead p n reads
             (sym (ap is_some (died_is p.node ∙ list.others p.node (out p.node no_))) ∙ d))
       ];
-      only = λ p h. elim (buried.only p h) [
+      only = λ p h. elim (forgotten.only p h) [
         | inl was ↦ inl (sym (heap_is p) ∙ was)
         | inr x ↦ inr (sym (settled_is p) ∙ x.0, x.2, inside x.2 x.3, reads_was p (main x.2) x.4)
       ];
       died = λ n r e i. died_now n ∙ (list.died n (among n i) ∙ ap (λ (y : Option Row). option_and_then (λ (r : Row). r.scope) y) e);
       died_before = λ n no_. died_now n ∙ list.others n (out n no_);
-      pairs = buried.pairs ∙ (ap (λ (w : Work). w.pairs.nodes) rest ∙ ap (λ (w : Work). w.pairs.nodes) list.rest);
-      scoped = buried.scoped ∙ (ap (λ (w : Work). w.scoped.nodes) rest ∙ ap (λ (w : Work). w.scoped.nodes) list.rest);
-      todo = buried.todo ∙ (ap (λ (w : Work). w.todo.items) rest ∙ ap (λ (w : Work). w.todo.items) list.rest);
-      called = buried.ran ∙ (ap (λ (w : Work). w.ran.items) rest ∙ ap (λ (w : Work). w.ran.items) list.rest);
-      retries = buried.retries ∙ (ap (λ (w : Work). w.retries) rest ∙ ap (λ (w : Work). w.retries) list.rest);
-      round = buried.round ∙ round_is;
+      pairs = forgotten.pairs ∙ (ap (λ (w : Work). w.pairs.nodes) rest ∙ ap (λ (w : Work). w.pairs.nodes) list.rest);
+      scoped = forgotten.scoped ∙ (ap (λ (w : Work). w.scoped.nodes) rest ∙ ap (λ (w : Work). w.scoped.nodes) list.rest);
+      todo = forgotten.todo ∙ (ap (λ (w : Work). w.todo.items) rest ∙ ap (λ (w : Work). w.todo.items) list.rest);
+      called = forgotten.ran ∙ (ap (λ (w : Work). w.ran.items) rest ∙ ap (λ (w : Work). w.ran.items) list.rest);
+      retries = forgotten.retries ∙ (ap (λ (w : Work). w.retries) rest ∙ ap (λ (w : Work). w.retries) list.rest);
+      round = forgotten.round ∙ round_is;
       ran = ran;
     }
 
@@ -472,15 +472,15 @@ module _ (old mid : Parts) (forgot : Work) (b : NodeId) (kept : IsKept old.arena
     (list : AreListed old.arena old.work mid.work old.dying.items) (mid_rest : mid ≡ record old { work = mid.work })
     (root : Changes mid.work.roots forgot.roots (change b) None) (row : IsRewritten mid.work.rows forgot.rows (change b) without_outcome)
     (rest : forgot ≡ record mid.work { rows = forgot.rows; roots = forgot.roots }) where
-  pub dying_may : MayBury mid.arena forgot mid.dying.items
-  dying_may = subst (λ (p : Parts). MayBury p.arena forgot p.dying.items) (sym mid_rest)
-      (may_bury old mid.work forgot b old.dying.items kept dying list root row rest)
+  pub dying_may : MayForget mid.arena forgot mid.dying.items
+  dying_may = subst (λ (p : Parts). MayForget p.arena forgot p.dying.items) (sym mid_rest)
+      (may_forget old mid.work forgot b old.dying.items kept dying list root row rest)
 
-  module _ (new : Parts) (buried : AreBuried mid.arena new.arena forgot new.work mid.dying.items)
+  module _ (new : Parts) (forgotten : AreForgotten mid.arena new.arena forgot new.work mid.dying.items)
       (new_rest : new ≡ record mid { arena = new.arena; work = new.work; dying = new.dying }) where
     pub died_all : HasDied old new b
     died_all = all_died old mid.work forgot b old.dying.items kept dying list root row rest new
-        (subst (λ (p : Parts). AreBuried p.arena new.arena forgot new.work p.dying.items) mid_rest buried)
+        (subst (λ (p : Parts). AreForgotten p.arena new.arena forgot new.work p.dying.items) mid_rest forgotten)
         (ap (λ (p : Parts). p.ran) new_rest ∙ ap (λ (p : Parts). p.ran) mid_rest)
 
     pub kept_all : HaveGatesAlone old b → StandsBut old b → IsInStep new.work.graph → new.dying.items ≡ [] → PartsKept new

@@ -40,13 +40,13 @@ use Rattle.node_outcomes.specs.declared.row.Stage.TheVariants as code
 use Rattle.wiring.specs.Graph.{rowless}
 use Rattle.wiring.specs.Kept.{IsKept}
 use Rattle.wiring.specs.Stands.{Stands, Counts}
-use Rattle.wiring.specs.Turning.{IsAttached, IsLoosened, IsOff}
+use Rattle.wiring.specs.Turning.{IsAttached, IsDetached, IsOff}
 use Rattle.wiring.specs.Wiring.{KeepsGraph, KeepsRound}
 use Rattle.wiring.specs.declared.work.Work.{Work}
 use Rattle.wiring.proofs.GoingBack.{IsLowered, heap_needed, height_same, need_before as lowered_need}
 use Rattle.wiring.proofs.GoingBack as back
 use Rattle.wiring.proofs.Holding.{targets_at}
-use Rattle.wiring.proofs.Loosening.{change_is_other}
+use Rattle.wiring.proofs.Detaching.{change_is_other}
 use Rattle.wiring.proofs.Retrying.{Keeps, off_keeps}
 use Rattle.wiring.proofs.Sight.{change_is}
 use Rattle.wiring.proofs.TakingOff.{MayLower, scheduled, row_at_stage, takes, stands_off}
@@ -87,7 +87,7 @@ pub record IsMadeReady (F : Functions) (z : Start) (s : State) (arena : Arena) (
 module _ (arena : Arena) (old mid : Work) (g : NecessaryPart) (n : NodeId) (r : Row) (m : NodeId) (kept : IsKept arena old)
     (live : row_at arena n ≡ Some r) (sub : subject_of r.def ≡ Some m) (was : Holds old.graph.heap (change n))
     (rest : g ≡ record old.graph { heap = g.heap }) (c : Changes old.graph.heap g.heap (change n) None)
-    (attached : IsAttached (record old { graph = g }) n) (loose : IsLoosened (record old { graph = g }) mid n (right_in old.rows old.roots n r.def)) where
+    (attached : IsAttached (record old { graph = g }) n) (loose : IsDetached (record old { graph = g }) mid n (right_in old.rows old.roots n r.def)) where
   abbrev g0 : NecessaryPart
   g0 = loose.mid.graph
 

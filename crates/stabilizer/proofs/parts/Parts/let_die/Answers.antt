@@ -23,11 +23,11 @@ forget_built-requires c = record {
   row = ap (λ (w : Work). is_some (at w.rows (change c.args.bind))) c.list_dying.ensures.listed.rest ∙ c.requires.row;
 }
 
-pub bury_dying-requires : goal.bury_dying-requires
-bury_dying-requires c =
+pub forget_dying-requires : goal.forget_dying-requires
+forget_dying-requires c =
     let list = c.list_dying.ensures in
     let forgot = c.forget_built.ensures in record {
-      bury = dying_may c.args.self.now c.list_dying.new.self c.forget_built.new.self c.args.bind c.requires.kept c.requires.dying list.listed list.rest
+      forget = dying_may c.args.self.now c.list_dying.new.self c.forget_built.new.self c.args.bind c.requires.kept c.requires.dying list.listed list.rest
           forgot.root forgot.row forgot.rest;
     }
 
@@ -35,11 +35,11 @@ pub returns-clause-died : goal.returns-clause-died
 returns-clause-died c =
     let forgot = c.forget_built.ensures in
     died_all c.args.self.now c.list_dying.new.self c.forget_built.new.self c.args.bind c.requires.kept c.requires.dying c.list_dying.ensures.listed
-    c.list_dying.ensures.rest forgot.root forgot.row forgot.rest c.bury_dying.new.self c.bury_dying.ensures.buried c.bury_dying.ensures.rest
+    c.list_dying.ensures.rest forgot.root forgot.row forgot.rest c.forget_dying.new.self c.forget_dying.ensures.forgotten c.forget_dying.ensures.rest
 
 pub returns-clause-kept : goal.returns-clause-kept
 returns-clause-kept c =
     let forgot = c.forget_built.ensures in
     kept_all c.args.self.now c.list_dying.new.self c.forget_built.new.self c.args.bind c.requires.kept c.requires.dying c.list_dying.ensures.listed
-    c.list_dying.ensures.rest forgot.root forgot.row forgot.rest c.bury_dying.new.self c.bury_dying.ensures.buried c.bury_dying.ensures.rest
-    c.requires.gates c.requires.scopes c.bury_dying.ensures.step c.bury_dying.ensures.none
+    c.list_dying.ensures.rest forgot.root forgot.row forgot.rest c.forget_dying.new.self c.forget_dying.ensures.forgotten c.forget_dying.ensures.rest
+    c.requires.gates c.requires.scopes c.forget_dying.ensures.step c.forget_dying.ensures.none

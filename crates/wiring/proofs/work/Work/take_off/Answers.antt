@@ -70,19 +70,19 @@ module _ (c : goal.After-drop_right) where
 
   back : (links : Links) × IsLowered c.args.self.now c.drop_right.new.self (main c.args.node) (change c.args.node) code.Static links
   back = loose_lowered c.args.self.now c.schedule.new.self c.drop_right.new.self c.args.node c.requires.kept.step marked c.schedule.ensures.rest
-      c.drop_right.ensures.step _ c.drop_right.ensures.loosened
+      c.drop_right.ensures.step _ c.drop_right.ensures.detached
 
 pub returns-then-is_some-clause-taken : goal.returns-then-is_some-clause-taken
 returns-then-is_some-clause-taken c =
     let s = subject c in
     let t = target c in
     one_taken c.args.arena.now c.args.self.now c.schedule.new.self c.drop_right.new.self c.args.node (r c) s.0 t.0 (live c) s.1 (own c) (attached c)
-    (unsettled c) t.1 (marked c) c.schedule.ensures.rest c.drop_right.ensures.loosened c.requires.kept.step c.drop_right.ensures.step
+    (unsettled c) t.1 (marked c) c.schedule.ensures.rest c.drop_right.ensures.detached c.requires.kept.step c.drop_right.ensures.step
 
 pub returns-then-is_some-clause-spared : goal.returns-then-is_some-clause-spared
 returns-then-is_some-clause-spared c =
     spared_rows c.args.arena.now c.args.self.now c.schedule.new.self c.drop_right.new.self c.args.node (r c) _ (live c) (ap is_some (subject c).1)
-    (attached c) (unsettled c) c.schedule.ensures.rest c.drop_right.ensures.loosened
+    (attached c) (unsettled c) c.schedule.ensures.rest c.drop_right.ensures.detached
 
 pub returns-then-is_some-clause-stays : goal.returns-then-is_some-clause-stays
 returns-then-is_some-clause-stays c =

@@ -1,4 +1,4 @@
-use Rattle.wiring.proofs.Burying.{survivors_told}
+use Rattle.wiring.proofs.Forgetting.{survivors_told}
 use Rattle.wiring.proofs.work.Work.tell_survivors.Goals as goal
 
 pub returns-clause-told : goal.returns-clause-told

@@ -4,9 +4,9 @@ use Rattle.inc_terms.specs.Code.{def_of}
 use Rattle.inc_terms.specs.Depend.{change}
 use Rattle.node_outcomes.specs.Choosing.{right_in}
 use Rattle.node_outcomes.specs.Row.{IsRewritten, with_outcome}
-use Rattle.wiring.specs.Turning.{IsLoosened}
+use Rattle.wiring.specs.Turning.{IsDetached}
 use Rattle.wiring.specs.declared.work.Work.{Work}
-use Rattle.wiring.proofs.Loosening.{BeforeIt, turned}
+use Rattle.wiring.proofs.Detaching.{BeforeIt, turned}
 use Rattle.wiring.proofs.work.Work.turn.Goals as goal
 use Rattle.wiring.proofs.work.Work.turn.Goals.{then-not-ran_with+then-is_attached, else-not-ran_with, else-not-ran_with-via-then-not-ran_with+else-is_attached, else-not-ran_with-via-else-not-ran_with}
 
@@ -22,7 +22,7 @@ returns c =
     let before : BeforeIt old mid n right c.args.given =
     elim c.if-not-ran_with.branch [
       | then-not-ran_with+then-is_attached w ↦ inr (
-        subst (λ (x : Work). IsLoosened old x n right) (sym w.self-is) w.drop_right.ensures.loosened,
+        subst (λ (x : Work). IsDetached old x n right) (sym w.self-is) w.drop_right.ensures.detached,
         w.is_attached.ensures.0 w.if-is_attached.true,
         λ e. let t = c.ran_with.ensures.1 e in let f = w.if-not-ran_with.true in cc,
       )

@@ -23,7 +23,7 @@ use Rattle.wiring.proofs.Placing.{among_before, among_cases}
 use Rattle.wiring.proofs.Placing as placing
 use Rattle.wiring.proofs.Retrying.{off_keeps}
 use Rattle.wiring.proofs.TakingAll.{loses_none, loses_then, places_then}
-use Rattle.stabilizer.specs.Dying.{AreDoomed, Dooms, GateWaits, IsDoomed, IsGateOf, IsPutToGate, HaveGatesAlone, scope_at}
+use Rattle.stabilizer.specs.Dying.{AreInvalidated, Invalidates, GateWaits, IsInvalidated, IsGateOf, IsPutToGate, HaveGatesAlone, scope_at}
 use Rattle.stabilizer.specs.Kept.{KeepsScopes, PartsKept, ScopesAreOlder, graph_in}
 use Rattle.stabilizer.specs.declared.parts.Parts.{Parts}
 
@@ -74,8 +74,8 @@ never_inside arena work older b i = let low = inside_older arena work older b b 
 -- ---- while they are put back
 
 -- some were put back and are listed, and the others of the bind's scope, and of scopes within it, are still to be given
-pub record IsDooming (old now : Parts) (b : NodeId) : Type 0 where
-  pub done : AreDoomed old now b
+pub record IsInvalidating (old now : Parts) (b : NodeId) : Type 0 where
+  pub done : AreInvalidated old now b
   pub gated : (n : NodeId) → Among n now.dying.items → (p : Point) → p.node ≡ n → IsAtGate now.work p
   pub gates : (n : NodeId) → Among n now.dying.items → (p q : Point) → p.node ≡ n → Reads now.work.graph.links p q → IsGateOf old.arena n q
   pub dying : (n : NodeId) → (IsDying now.scopes n ⊎ Among n now.dying.items) ↔ Inside (graph_in old) b n
@@ -86,12 +86,12 @@ pub record IsDooming (old now : Parts) (b : NodeId) : Type 0 where
   pub room : node_count now.scopes + vec_len now.dying ≤ vec_capacity now.dying
 
 -- none was yet
-pub dooming_first : (old : Parts) (b : NodeId) (scopes : Scopes) → PartsKept old → node_count old.scopes ≤ vec_capacity old.dying
+pub invalidating_first : (old : Parts) (b : NodeId) (scopes : Scopes) → PartsKept old → node_count old.scopes ≤ vec_capacity old.dying
     → ((n : NodeId) → IsDying scopes n ↔ standing.Inside old.scopes b n) → Empties old.scopes scopes b → node_count scopes ≡ node_count old.scopes
-    → IsDooming old (record old { scopes = scopes }) b
-dooming_first old b scopes kept room dying empties count = record {
+    → IsInvalidating old (record old { scopes = scopes }) b
+invalidating_first old b scopes kept room dying empties count = record {
   done = record {
-    dooms = λ F z s counts inv waits st. (s, here, st);
+    invalidates = λ F z s counts inv waits st. (s, here, st);
     kept = kept.work;
     loses = loses_none old.work.graph;
     heap = λ p h. inl h;
@@ -131,7 +131,7 @@ no_repeats_more (x ∷ xs) g once out = (
 )
 
 -- one more is
-module _ (old now : Parts) (b g : NodeId) (scopes : Scopes) (work : Work) (dying : Vec NodeId Global) (so : IsDooming old now b)
+module _ (old now : Parts) (b g : NodeId) (scopes : Scopes) (work : Work) (dying : Vec NodeId Global) (so : IsInvalidating old now b)
     (was : IsDying now.scopes g) (gives : Gives now.scopes scopes g) (empties : Empties now.scopes scopes g)
     (fewer : node_count scopes + 1 ≡ node_count now.scopes) (put : IsPutToGate now.arena now.work work g)
     (items : dying.items ≡ now.dying.items ++ g ∷ []) (len : vec_len dying ≡ vec_len now.dying + 1)
@@ -151,9 +151,9 @@ module _ (old now : Parts) (b g : NodeId) (scopes : Scopes) (work : Work) (dying
   fell_then : (p : Point) → FallsBack now.work work p
   fell_then p = elim (put.rows p) [ inl e ↦ inl e | inr x ↦ inr x.1 ]
 
-  dooms_next : Dooms old next b
-  dooms_next F z s counts inv waits st =
-      let a = so.done.dooms F z s counts inv waits st in
+  invalidates_next : Invalidates old next b
+  invalidates_next F z s counts inv waits st =
+      let a = so.done.invalidates F z s counts inv waits st in
       let k = off_keeps F z s a.0 a.1 in
       let gate : GateWaits now.arena a.0 g = λ r c row scope. ap (λ (f : Point → _). f (change c)) k.settled
       ∙ waits g c r (subst (λ (G : Graph). Inside G b g) (sym st.graph) inside_it)
@@ -161,9 +161,9 @@ module _ (old now : Parts) (b g : NodeId) (scopes : Scopes) (work : Work) (dying
       let d = put.taken F z a.0 counts (moves_keep F z s a.0 (off_moves F z s a.0 a.1) inv) gate a.2 in
       (d.0, joined (TakingOff F z) s a.0 d.0 a.1 d.1, d.2)
 
-  done_next : AreDoomed old next b
+  done_next : AreInvalidated old next b
   done_next = record {
-    dooms = dooms_next;
+    invalidates = invalidates_next;
     kept = put.kept;
     loses = loses_then old.work.graph now.work.graph work.graph so.done.loses put.loses;
     heap = λ p h. elim (put.heap p h) [
@@ -220,8 +220,8 @@ module _ (old now : Parts) (b g : NodeId) (scopes : Scopes) (work : Work) (dying
     λ h. (empties n c).1 ((so.standing n c).1 (h.0, h.1, λ a. h.2 (still_listed c a)), λ e. h.2 (it_listed c e)),
   )
 
-  pub dooming_more : IsDooming old next b
-  dooming_more = record {
+  pub invalidating_more : IsInvalidating old next b
+  invalidating_more = record {
     done = done_next;
     gated = λ n a p e. elim (listed n a) [
       | inl before ↦ λ need more. so.gated n before p e (put.loses.less p need) (falls_more now.work work p (fell_then p) more)
@@ -240,14 +240,14 @@ module _ (old now : Parts) (b g : NodeId) (scopes : Scopes) (work : Work) (dying
   }
 
 -- a node that is given stands in a scope
-pub given_scoped : (old now : Parts) (b g : NodeId) → IsDooming old now b → IsDying now.scopes g → IsSome (scope_at now.arena g)
+pub given_scoped : (old now : Parts) (b g : NodeId) → IsInvalidating old now b → IsDying now.scopes g → IsSome (scope_at now.arena g)
 given_scoped old now b g so was =
     let k = inside_scoped (graph_in old) b g ((so.dying g).0 (inl was)) in
     let row : row_at now.arena g ≡ Some k.0 = subst (λ (a : Arena). row_at a g ≡ Some k.0) (sym so.done.arena) k.2 in
     ap is_some (ap (option_and_then (λ (r : Row). r.scope)) row ∙ k.3)
 
 -- all are
-module _ (old now : Parts) (b : NodeId) (scopes : Scopes) (kept : PartsKept old) (so : IsDooming old now b) (same : scopes ≡ now.scopes)
+module _ (old now : Parts) (b : NodeId) (scopes : Scopes) (kept : PartsKept old) (so : IsInvalidating old now b) (same : scopes ≡ now.scopes)
     (none : (n : NodeId) → IsDying now.scopes n → ⊥) (given : scopes.killed ≡ []) where
   row_then : (n : NodeId) → row_at old.arena n ≡ row_at now.arena n
   row_then n = ap (λ (a : Arena). row_at a n) (sym so.done.arena)
@@ -286,8 +286,8 @@ module _ (old now : Parts) (b : NodeId) (scopes : Scopes) (kept : PartsKept old)
       let g = so.gates p.node (all_listed p.node (inside_then p.node i)) p q refl reads in
       g.4 ∙ ap change (one_scope old.arena p.node g.1 c g.0 r g.2 g.3 (row_then p.node ∙ row) scope)
 
-  doomed_now : IsDoomed old now b
-  doomed_now = record {
+  invalidated_now : IsInvalidated old now b
+  invalidated_now = record {
     done = so.done;
     gated = λ p i. so.gated p.node (all_listed p.node (inside_then p.node i)) p refl;
     gates = gates_alone;
@@ -299,5 +299,5 @@ module _ (old now : Parts) (b : NodeId) (scopes : Scopes) (kept : PartsKept old)
     scopes = record { stands = stands_then; none = subst (λ (x : Scopes). x.killed ≡ []) same given };
   }
 
-  pub doomed : IsDoomed old (record now { scopes = scopes }) b
-  doomed = subst (λ (x : Scopes). IsDoomed old (record now { scopes = x }) b) (sym same) doomed_now
+  pub invalidated : IsInvalidated old (record now { scopes = scopes }) b
+  invalidated = subst (λ (x : Scopes). IsInvalidated old (record now { scopes = x }) b) (sym same) invalidated_now

@@ -1,4 +1,4 @@
--- The nodes that are to die are buried and dropped one after the other.
+-- The nodes that are to die are forgotten and dropped one after the other.
 use Rattle.std.proofs.Common.{◌≡◌, ◌≢◌, ◌⊎◌, inl, inr, ℕ, true, List, [], ◌∷◌, ◌++◌, Option, None, refl, sym, ap, subst, ◌∙◌}
 use Rattle.std.specs.Prelude.{is_some, IsSome}
 use Rattle.std.proofs.lemmas.List.{append_assoc}
@@ -17,19 +17,19 @@ use Rattle.node_outcomes.specs.Row.{settled_in}
 use Rattle.node_outcomes.specs.declared.row.Progress.{Progress}
 use Rattle.stabilize_round.proofs.Points.{same_or_other, node_or_other, among_or_not}
 use Rattle.wiring.specs.Graph.{died_at}
-use Rattle.wiring.specs.Scoped.{IsBuried}
+use Rattle.wiring.specs.Scoped.{IsForgotten}
 use Rattle.wiring.specs.declared.work.Work.{Work}
 use Rattle.wiring.proofs.Deciding.{need_same}
 use Rattle.wiring.proofs.Holding.{died_same}
 use Rattle.wiring.proofs.Linking.{some_or_none}
 use Rattle.wiring.proofs.Placing.{at_node, among_last}
-use Rattle.stabilizer.specs.Dying.{MayBury, AreBuried}
+use Rattle.stabilizer.specs.Dying.{MayForget, AreForgotten}
 
--- some of the nodes were buried, and the others are left
-pub record IsBurying (before : Arena) (old : Work) (all : List NodeId) (arena : Arena) (now : Work) (left : List NodeId) : Type 0 where
+-- some of the nodes were forgotten, and the others are left
+pub record IsForgetting (before : Arena) (old : Work) (all : List NodeId) (arena : Arena) (now : Work) (left : List NodeId) : Type 0 where
   pub done : List NodeId
   pub parts : all ≡ left ++ done
-  pub buried : AreBuried before arena old now done
+  pub forgotten : AreForgotten before arena old now done
   pub step : IsInStep now.graph
 
 -- what stands in the first list doesn't in the second
@@ -43,8 +43,8 @@ not_none x none some = let e = sym (ap is_some none) ∙ some in absurd (cc)
 
 -- ---- the next one
 
-module _ (before mid : Arena) (old now : Work) (all left rest : List NodeId) (n : NodeId) (may : MayBury before old all)
-    (so : IsBurying before old all mid now left) (last : left ≡ rest ++ n ∷ []) where
+module _ (before mid : Arena) (old now : Work) (all left rest : List NodeId) (n : NodeId) (may : MayForget before old all)
+    (so : IsForgetting before old all mid now left) (last : left ≡ rest ++ n ∷ []) where
   is_left : Among n left
   is_left = subst (λ (xs : List NodeId). Among n xs) (sym last) (among_last n rest)
 
@@ -58,12 +58,12 @@ module _ (before mid : Arena) (old now : Work) (all left rest : List NodeId) (n 
   was_one m a = subst (λ (xs : List NodeId). Among m xs) (sym so.parts) (among_right m left so.done a)
 
   row_as : (p : Point) → p.node ≡ n → at now.rows p ≡ at old.rows p
-  row_as p e = so.buried.rows p (λ a. fresh (subst (λ (x : NodeId). Among x so.done) e a))
+  row_as p e = so.forgotten.rows p (λ a. fresh (subst (λ (x : NodeId). Among x so.done) e a))
 
   height_as : (p : Point) → p.node ≡ n → at now.graph.heights p ≡ at old.graph.heights p
-  height_as p e = so.buried.heights p (inl (λ a. fresh (subst (λ (x : NodeId). Among x so.done) e a)))
+  height_as p e = so.forgotten.heights p (inl (λ a. fresh (subst (λ (x : NodeId). Among x so.done) e a)))
 
-  -- it may be buried
+  -- it may be forgotten
   pub next_main : Holds now.rows (main n) × Holds now.graph.heights (main n)
   next_main = let h = may.mains n is_one in (ap is_some (row_as (main n) refl) ∙ h.0, ap is_some (height_as (main n) refl) ∙ h.1)
 
@@ -71,39 +71,39 @@ module _ (before mid : Arena) (old now : Work) (all left rest : List NodeId) (n 
   next_change h = ap is_some (height_as (change n) refl) ∙ may.changes n is_one (sym (ap is_some (row_as (change n) refl)) ∙ h)
 
   pub next_died : IsSome (died_at now n)
-  next_died = ap is_some (died_same old now so.buried.deaths n) ∙ may.died n is_one
+  next_died = ap is_some (died_same old now so.forgotten.deaths n) ∙ may.died n is_one
 
   pub next_live : nodes.IsLive mid n
-  next_live = ap is_some (so.buried.others n fresh) ∙ may.live n is_one
+  next_live = ap is_some (so.forgotten.others n fresh) ∙ may.live n is_one
 
   -- and then it was
-  module _ (arena : Arena) (new : Work) (b : IsBuried now new n)
+  module _ (arena : Arena) (new : Work) (b : IsForgotten now new n)
       (no_points : (p : Point) → at now.graph.heights p ≡ None → at new.graph.heights p ≡ None) (dropped : nodes.Changes mid arena n None)
       (given : arena.given ≡ mid.given) (sound : IsSound arena) where
     apart : (m : NodeId) → Among m so.done → m ≢ n
     apart m a e = fresh (subst (λ (x : NodeId). Among x so.done) e a)
 
     died_then : (m : NodeId) → Among m all → IsSome (died_at now m)
-    died_then m a = ap is_some (died_same old now so.buried.deaths m) ∙ may.died m a
+    died_then m a = ap is_some (died_same old now so.forgotten.deaths m) ∙ may.died m a
 
     need_now : (p : Point) → Needed old.graph p → Needed now.graph p
-    need_now p need = need_same old.graph now.graph so.buried.links so.buried.graph_roots p need
+    need_now p need = need_same old.graph now.graph so.forgotten.links so.forgotten.graph_roots p need
 
     need_was : (p : Point) → Needed now.graph p → Needed old.graph p
-    need_was p need = need_same now.graph old.graph (sym so.buried.links) (sym so.buried.graph_roots) p need
+    need_was p need = need_same now.graph old.graph (sym so.forgotten.links) (sym so.forgotten.graph_roots) p need
 
     held : (p : Point) → p.node ≡ n → Holds old.rows p → Holds now.rows p
     held p e h = ap is_some (row_as p e) ∙ h
 
     reads_now : (p q : Point) → Reads old.graph.links p q → Reads now.graph.links p q
-    reads_now p q r = subst (λ (x : Links). Reads x p q) (sym so.buried.links) r
+    reads_now p q r = subst (λ (x : Links). Reads x p q) (sym so.forgotten.links) r
 
     reads_was : (p q : Point) → Reads now.graph.links p q → Reads old.graph.links p q
-    reads_was p q r = subst (λ (x : Links). Reads x p q) so.buried.links r
+    reads_was p q r = subst (λ (x : Links). Reads x p q) so.forgotten.links r
 
     settled_as : (p : Point) → (Among p.node so.done → ⊥) → settled_in now.round (at now.rows p) ≡ settled_in old.round (at old.rows p)
-    settled_as p out = ap (λ (k : ℕ). settled_in k (at now.rows p)) so.buried.round
-        ∙ ap (λ (x : Option Progress). settled_in old.round x) (so.buried.rows p out)
+    settled_as p out = ap (λ (k : ℕ). settled_in k (at now.rows p)) so.forgotten.round
+        ∙ ap (λ (x : Option Progress). settled_in old.round x) (so.forgotten.rows p out)
 
     -- what left the heap stays out
     stays_out : (p : Point) → Among p.node so.done → at now.graph.heap p ≡ None → at new.graph.heap p ≡ None
@@ -133,7 +133,7 @@ module _ (before mid : Arena) (old now : Work) (all left rest : List NodeId) (n 
         | inl a ↦ inr (inr (may.died p.node (was_one p.node a)))
         | inr out ↦ inr (inl (sym (settled_as p out) ∙ t))
       ]
-      | inr (inr d) ↦ inr (inr (sym (ap is_some (died_same old now so.buried.deaths p.node)) ∙ d))
+      | inr (inr d) ↦ inr (inr (sym (ap is_some (died_same old now so.forgotten.deaths p.node)) ∙ d))
     ]
 
     told_still : (p : Point) → Holds now.graph.heap p ⊎ (settled_in old.round (at old.rows p) ≡ true) ⊎ IsSome (died_at old p.node)
@@ -144,63 +144,63 @@ module _ (before mid : Arena) (old now : Work) (all left rest : List NodeId) (n 
     ]
     told_still p (inr x) = inr x
 
-    one_buried : AreBuried before arena old new (n ∷ so.done)
-    one_buried = record {
-      given = given ∙ so.buried.given;
+    one_forgotten : AreForgotten before arena old new (n ∷ so.done)
+    one_forgotten = record {
+      given = given ∙ so.forgotten.given;
       sound = sound;
       dead = λ m a. elim a [
         | inl e ↦ ap (row_at arena) e ∙ dropped.changed
-        | inr k ↦ dropped.others m (apart m k) ∙ so.buried.dead m k
+        | inr k ↦ dropped.others m (apart m k) ∙ so.forgotten.dead m k
       ];
-      others = λ m out. dropped.others m (λ e. out (inl e)) ∙ so.buried.others m (λ k. out (inr k));
-      rows = λ p out. b.rows.others p (λ e. out (inl e)) ∙ so.buried.rows p (λ k. out (inr k));
+      others = λ m out. dropped.others m (λ e. out (inl e)) ∙ so.forgotten.others m (λ k. out (inr k));
+      rows = λ p out. b.rows.others p (λ e. out (inl e)) ∙ so.forgotten.rows p (λ k. out (inr k));
       gone = λ p a. elim a [
         | inl e ↦ at_node new.rows p n e ∙ b.rows.now p.part
-        | inr k ↦ b.rows.others p (apart p.node k) ∙ so.buried.gone p k
+        | inr k ↦ b.rows.others p (apart p.node k) ∙ so.forgotten.gone p k
       ];
-      roots = λ p out. b.roots p (λ e. out (inl (ap (λ (x : Point). x.node) e))) ∙ so.buried.roots p (λ k. out (inr k));
-      fewer = λ p none. stays_rootless p (so.buried.fewer p none);
+      roots = λ p out. b.roots p (λ e. out (inl (ap (λ (x : Point). x.node) e))) ∙ so.forgotten.roots p (λ k. out (inr k));
+      fewer = λ p none. stays_rootless p (so.forgotten.fewer p none);
       rootless = λ m a h. elim a [
         | inl e ↦ subst (λ (x : NodeId). at new.roots (change x) ≡ None) (sym e)
             (b.rootless (held (change n) refl (subst (λ (x : NodeId). Holds old.rows (change x)) e h)))
-        | inr k ↦ stays_rootless (change m) (so.buried.rootless m k h)
+        | inr k ↦ stays_rootless (change m) (so.forgotten.rootless m k h)
       ];
-      links = b.links ∙ so.buried.links;
-      graph_roots = b.graph_roots ∙ so.buried.graph_roots;
+      links = b.links ∙ so.forgotten.links;
+      graph_roots = b.graph_roots ∙ so.forgotten.graph_roots;
       heights = λ p x. elim x [
-        | inl out ↦ b.others p (λ e. out (inl e)) ∙ so.buried.heights p (inl (λ k. out (inr k)))
-        | inr need ↦ b.there p (need_now p need) ∙ so.buried.heights p (inr need)
+        | inl out ↦ b.others p (λ e. out (inl e)) ∙ so.forgotten.heights p (inl (λ k. out (inr k)))
+        | inr need ↦ b.there p (need_now p need) ∙ so.forgotten.heights p (inr need)
       ];
       dropped = λ p a h none. elim a [
         | inl e ↦ b.gone p e (held p e h) (λ need. none (need_was p need))
-        | inr k ↦ no_points p (so.buried.dropped p k h none)
+        | inr k ↦ no_points p (so.forgotten.dropped p k h none)
       ];
-      absent = λ p e. no_points p (so.buried.absent p e);
-      out = λ p a h. elim a [ inl e ↦ b.out p e (held p e h) | inr k ↦ stays_out p k (so.buried.out p k h) ];
-      heap = λ p out h. b.kept p (λ e. out (inl e)) (so.buried.heap p (λ k. out (inr k)) h);
+      absent = λ p e. no_points p (so.forgotten.absent p e);
+      out = λ p a h. elim a [ inl e ↦ b.out p e (held p e h) | inr k ↦ stays_out p k (so.forgotten.out p k h) ];
+      heap = λ p out h. b.kept p (λ e. out (inl e)) (so.forgotten.heap p (λ k. out (inr k)) h);
       told = λ p m a reads. elim a [
         | inl e ↦ told_more p (reads_now p (main n) (subst (λ (x : NodeId). Reads old.graph.links p (main x)) e reads))
-        | inr k ↦ told_still p (so.buried.told p m k reads)
+        | inr k ↦ told_still p (so.forgotten.told p m k reads)
       ];
       only = λ p h. elim (b.only p h) [
-        | inl was ↦ elim (so.buried.only p was) [ inl first ↦ inl first | inr x ↦ inr (x.0, x.1, x.2, inr x.3, x.4) ]
+        | inl was ↦ elim (so.forgotten.only p was) [ inl first ↦ inl first | inr x ↦ inr (x.0, x.1, x.2, inr x.3, x.4) ]
         | inr x ↦
             let out : Among p.node so.done → ⊥ = (λ k. not_none (died_at now p.node) x.2 (died_then p.node (was_one p.node k))) in
-            inr (sym (settled_as p out) ∙ x.1, sym (died_same old now so.buried.deaths p.node) ∙ x.2, n, inl refl, reads_was p (main n) x.0)
+            inr (sym (settled_as p out) ∙ x.1, sym (died_same old now so.forgotten.deaths p.node) ∙ x.2, n, inl refl, reads_was p (main n) x.0)
       ];
-      deaths = b.deaths ∙ so.buried.deaths;
-      pairs = b.pairs ∙ so.buried.pairs;
-      scoped = b.scoped ∙ so.buried.scoped;
-      todo = rw b.todo so.buried.todo;
-      ran = rw b.ran so.buried.ran;
-      retries = b.retries ∙ so.buried.retries;
-      round = b.round ∙ so.buried.round;
+      deaths = b.deaths ∙ so.forgotten.deaths;
+      pairs = b.pairs ∙ so.forgotten.pairs;
+      scoped = b.scoped ∙ so.forgotten.scoped;
+      todo = rw b.todo so.forgotten.todo;
+      ran = rw b.ran so.forgotten.ran;
+      retries = b.retries ∙ so.forgotten.retries;
+      round = b.round ∙ so.forgotten.round;
     }
 
-    pub burying_more : IsInStep new.graph → IsBurying before old all arena new rest
-    burying_more step = record {
+    pub forgetting_more : IsInStep new.graph → IsForgetting before old all arena new rest
+    forgetting_more step = record {
       done = n ∷ so.done;
       parts = so.parts ∙ (ap (λ (xs : List NodeId). xs ++ so.done) last ∙ append_assoc rest (n ∷ []) so.done);
-      buried = one_buried;
+      forgotten = one_forgotten;
       step = step;
     }

@@ -1,10 +1,10 @@
 use Rattle.std.proofs.Common.{[], ◌∷◌, ◌++◌, ◌+◌, sym, ap, subst, ◌∙◌, vec_len, vec_capacity}
 use Rattle.stabilizer.specs.declared.parts.Parts.{Parts}
-use Rattle.stabilizer.proofs.Killing.Dooming.{IsDooming, dooming_first, dooming_more, given_scoped, doomed}
-use Rattle.stabilizer.proofs.parts.Parts.doom.Goals as goal
+use Rattle.stabilizer.proofs.Killing.Invalidating.{IsInvalidating, invalidating_first, invalidating_more, given_scoped, invalidated}
+use Rattle.stabilizer.proofs.parts.Parts.invalidate.Goals as goal
 
 pub loop-node-init : goal.loop-node-init
-loop-node-init c = dooming_first c.args.self.now c.args.bind c.kill.new.self c.requires.kept c.requires.room c.kill.ensures.dying
+loop-node-init c = invalidating_first c.args.self.now c.args.bind c.kill.new.self c.requires.kept c.requires.room c.kill.ensures.dying
     c.kill.ensures.standing c.kill.ensures.count
 
 pub put_to_gate-requires-clause-scoped : goal.put_to_gate-requires-clause-scoped
@@ -15,8 +15,8 @@ pub loop-node-preserved : goal.loop-node-preserved
 loop-node-preserved c =
     let k = c.in-Some.ensures in
     let r = c.put_to_gate.ensures.rest in
-    subst (λ (x : Parts). IsDooming c.args.self.now (record x { dying = c.push_reserved.new.self }) c.args.bind) (sym r)
-    (dooming_more c.args.self.now c.loop-node.self c.args.bind c.in-Some.node c.next_killed.new.self c.put_to_gate.new.self.work
+    subst (λ (x : Parts). IsInvalidating c.args.self.now (record x { dying = c.push_reserved.new.self }) c.args.bind) (sym r)
+    (invalidating_more c.args.self.now c.loop-node.self c.args.bind c.in-Some.node c.next_killed.new.self c.put_to_gate.new.self.work
     c.push_reserved.new.self c.loop-node.invariant k.was k.gives k.standing k.count c.put_to_gate.ensures.put
     (c.push_reserved.ensures.items ∙ ap (λ (x : Parts). x.dying.items ++ c.in-Some.node ∷ []) r)
     (c.push_reserved.ensures.len ∙ ap (λ (x : Parts). vec_len x.dying + 1) r)
@@ -25,4 +25,4 @@ loop-node-preserved c =
 pub returns : goal.returns
 returns c =
     let k = c.in_default.ensures in
-    doomed c.args.self.now c.loop-node.self c.args.bind c.next_killed.new.self c.requires.kept c.loop-node.invariant k.unchanged k.none k.all_given
+    invalidated c.args.self.now c.loop-node.self c.args.bind c.next_killed.new.self c.requires.kept c.loop-node.invariant k.unchanged k.none k.all_given

@@ -11,7 +11,7 @@ use Rattle.necessary_graph.specs.Part.{NecessaryPart, Needed, IsInStep}
 use Rattle.necessary_graph.specs.Sweep.{IsUnlinked}
 use Rattle.node_outcomes.specs.Row.{IsRewritten, with_stage, with_outcome, stage_in, outcome_in}
 use Rattle.wiring.specs.Graph.{rowless}
-use Rattle.wiring.specs.Turning.{IsAttached, IsLoosened, IsOff, HasTurned}
+use Rattle.wiring.specs.Turning.{IsAttached, IsDetached, IsOff, HasTurned}
 use Rattle.node_outcomes.specs.Choosing.{right_by, right_in}
 use Rattle.wiring.specs.Wiring.{IsEnqueued, IsMarked, KeepsGraph}
 use Rattle.node_outcomes.specs.declared.row.Progress.{Progress}
@@ -30,10 +30,10 @@ right_same old new n def e roots = ap (λ (x : Option Progress). right_by def n 
     ∙ ap (λ (m : Rows NodeId). right_by def n (outcome_in (at old.rows (change n))) (at m (change n))) roots
 
 -- the main has its stage, and the right side is off
-pub loosened : (old mid new : Work) (n : NodeId) (def : Def) (right : Option NodeId) → IsEnqueued old mid (main n) → mid ≡ record old { graph = mid.graph }
+pub detached : (old mid new : Work) (n : NodeId) (def : Def) (right : Option NodeId) → IsEnqueued old mid (main n) → mid ≡ record old { graph = mid.graph }
     → IsRewritten mid.rows new.rows (main n) (with_stage code.Static) → new ≡ record mid { graph = new.graph; rows = new.rows }
-    → right ≡ right_in new.rows new.roots n def → IsOff (rowless new) mid.graph new.graph n right → IsLoosened old new n (right_in old.rows old.roots n def)
-loosened old mid new n def right enqueued rest rows last is off = record {
+    → right ≡ right_in new.rows new.roots n def → IsOff (rowless new) mid.graph new.graph n right → IsDetached old new n (right_in old.rows old.roots n def)
+detached old mid new n def right enqueued rest rows last is off = record {
   rows = subst (λ (m : Rows Progress). IsRewritten m new.rows (main n) (with_stage code.Static)) rows_of rows;
   mid = mid;
   enqueued = enqueued;
@@ -50,11 +50,11 @@ loosened old mid new n def right enqueued rest rows last is off = record {
         (ap (λ (w : Work). w.roots) last ∙ ap (λ (w : Work). w.roots) rest)
 
 -- so it is where the link was there
-pub loosened_off : (old mid new : Work) (rows : Rows Progress) (n m : NodeId) (def : Def) → IsEnqueued old mid (main n) → mid ≡ record old { graph = mid.graph }
+pub detached_off : (old mid new : Work) (rows : Rows Progress) (n m : NodeId) (def : Def) → IsEnqueued old mid (main n) → mid ≡ record old { graph = mid.graph }
     → IsRewritten mid.rows rows (main n) (with_stage code.Static) → new ≡ record mid { graph = new.graph; rows = rows }
     → Some m ≡ right_in rows mid.roots n def → IsUnlinked (rowless (record mid { rows = rows })) mid.graph new.graph (main n) (main m)
-    → IsLoosened old new n (right_in old.rows old.roots n def)
-loosened_off old mid new rows n m def enqueued rest written last is unlinked = loosened old mid new n def (Some m) enqueued rest
+    → IsDetached old new n (right_in old.rows old.roots n def)
+detached_off old mid new rows n m def enqueued rest written last is unlinked = detached old mid new n def (Some m) enqueued rest
     (subst (λ (x : Rows Progress). IsRewritten mid.rows x (main n) (with_stage code.Static)) (sym rows_are) written)
     (last ∙ ap (λ (x : Rows Progress). record mid { graph = new.graph; rows = x }) (sym rows_are))
     (is ∙ sym (ap (λ (w : Work). right_in w.rows w.roots n def) last))
@@ -71,7 +71,7 @@ off_none leaf g n (Some m) not = absurd (not m refl)
 -- the change's row is written then
 abbrev pub BeforeIt : Work → Work → NodeId → Option NodeId → Outcome → Type 0
 BeforeIt old mid n right given = ((mid ≡ old) × ((outcome_in (at old.rows (change n)) ≡ Some given) ⊎ (IsAttached old n → ⊥)))
-    ⊎ (IsLoosened old mid n right × IsAttached old n × (outcome_in (at old.rows (change n)) ≢ Some given))
+    ⊎ (IsDetached old mid n right × IsAttached old n × (outcome_in (at old.rows (change n)) ≢ Some given))
 
 pub turned : (old mid : Work) (rows : Rows Progress) (n : NodeId) (right : Option NodeId) (given : Outcome) → BeforeIt old mid n right given
     → IsRewritten mid.rows rows (change n) (with_outcome given mid.round) → HasTurned old (record mid { rows = rows }) n right given
@@ -117,7 +117,7 @@ attached_still old new n rows graph a = record {
 }
 
 -- the graph and the rows are all that changed
-pub loosened_rest : (old first new : Work) (n : NodeId) (right : Option NodeId) → first ≡ record old { graph = first.graph } → IsLoosened first new n right
+pub detached_rest : (old first new : Work) (n : NodeId) (right : Option NodeId) → first ≡ record old { graph = first.graph } → IsDetached first new n right
     → new ≡ record old { graph = new.graph; rows = new.rows }
-loosened_rest old first new n right only l = l.last ∙ (ap (λ (w : Work). record w { graph = new.graph; rows = new.rows }) l.rest
+detached_rest old first new n right only l = l.last ∙ (ap (λ (w : Work). record w { graph = new.graph; rows = new.rows }) l.rest
     ∙ ap (λ (w : Work). record w { graph = new.graph; rows = new.rows }) only)

@@ -1,10 +1,10 @@
 use Rattle.std.proofs.Common.{◌≡◌, length}
-use Rattle.stabilizer.proofs.Killing.BuryingAll.{IsBurying}
-use Rattle.stabilizer.proofs.parts.Parts.bury_dying.Given as goal
+use Rattle.stabilizer.proofs.Killing.ForgettingAll.{IsForgetting}
+use Rattle.stabilizer.proofs.parts.Parts.forget_dying.Given as goal
 
 abbrev pub invariant-loop-node : goal.invariant-loop-node
 invariant-loop-node l = record {
-  burying : IsBurying l.fn.self.arena l.fn.self.work l.fn.self.dying.items l.self.arena l.self.work l.self.dying.items;
+  forgetting : IsForgetting l.fn.self.arena l.fn.self.work l.fn.self.dying.items l.self.arena l.self.work l.self.dying.items;
   rest : l.self ≡ record l.fn.self { arena = l.self.arena; work = l.self.work; dying = l.self.dying };
 }
 

@@ -18,7 +18,7 @@ use Rattle.node_outcomes.specs.declared.row.Progress.{Progress}
 use Rattle.stabilize_round.proofs.Parts.{bool_cases}
 use Rattle.stabilize_round.proofs.Points.{node_or_other}
 use Rattle.wiring.specs.Graph.{died_at}
-use Rattle.wiring.specs.Scoped.{AreTold, IsPointBuried, IsBuried}
+use Rattle.wiring.specs.Scoped.{AreTold, IsPointForgotten, IsForgotten}
 use Rattle.wiring.specs.declared.work.Work.{Work}
 use Rattle.wiring.proofs.Deciding.{need_same}
 use Rattle.wiring.proofs.Enqueuing.{keeps_graph}
@@ -71,7 +71,7 @@ module _ (old new : Work) (q : Point) (e : new.graph ≡ record old.graph { heap
 
 -- ---- one point
 
-module _ (old new : Work) (q : Point) (b : IsPointBuried old new q) where
+module _ (old new : Work) (q : Point) (b : IsPointForgotten old new q) where
   -- need stays
   pub need_kept : (p : Point) → Needed old.graph p → Needed new.graph p
   need_kept p n = need_same old.graph new.graph b.links b.roots p n
@@ -130,7 +130,7 @@ module _ (old : Work) (p : Point) (g : NecessaryPart) (rows : Rows Progress) (e 
   need_too n = need_same old.graph g (ap (λ (x : NecessaryPart). x.links) e) (ap (λ (x : NecessaryPart). x.roots) e) p n
 
   -- a needed one stays
-  pub point_kept : Needed g p → IsPointBuried old (record old { graph = g; rows = rows }) p
+  pub point_kept : Needed g p → IsPointForgotten old (record old { graph = g; rows = rows }) p
   point_kept n = record {
     row = row;
     heap = heap;
@@ -141,7 +141,7 @@ module _ (old : Work) (p : Point) (g : NecessaryPart) (rows : Rows Progress) (e 
 
   -- another goes
   pub point_gone : (new : NecessaryPart) → (Needed g p → ⊥) → Changes g.heights new.heights p None → new.roots ≡ g.roots → new.links ≡ g.links
-      → new.heap ≡ g.heap → IsPointBuried old (record old { graph = new; rows = rows }) p
+      → new.heap ≡ g.heap → IsPointForgotten old (record old { graph = new; rows = rows }) p
   point_gone new none dropped roots links same = record {
     row = row;
     heap = subst (λ (m : Rows ℕ). Changes old.graph.heap m p None) (sym same) heap;
@@ -173,17 +173,17 @@ pub told_rows : (old told : Work) → told ≡ record old { graph = told.graph }
 told_rows old told e = ap (λ (w : Work). w.rows) e
 
 -- the change's row is as it was while the main goes
-pub row_before : (old told gone : Work) (n : NodeId) → told.rows ≡ old.rows → IsPointBuried told gone (main n) → at gone.rows (change n) ≡ at old.rows (change n)
+pub row_before : (old told gone : Work) (n : NodeId) → told.rows ≡ old.rows → IsPointForgotten told gone (main n) → at gone.rows (change n) ≡ at old.rows (change n)
 row_before old told gone n rows b = b.row.others (change n) (λ e. main_apart n n (sym e)) ∙ ap (λ m. at m (change n)) rows
 
-pub height_before : (old told gone : Work) (n : NodeId) → AreTold old told (main n) → IsPointBuried told gone (main n)
+pub height_before : (old told gone : Work) (n : NodeId) → AreTold old told (main n) → IsPointForgotten told gone (main n)
     → at gone.graph.heights (change n) ≡ at old.graph.heights (change n)
 height_before old told gone n t b =
     height_other told gone (main n) b (change n) (λ e. main_apart n n (sym e)) ∙ ap (λ m. at m (change n)) t.graph.heights
 
 -- a node of one point
 module _ (old told gone : Work) (n : NodeId) (died : IsSome (died_at old n)) (t : AreTold old told (main n)) (rows : told.rows ≡ old.rows)
-    (b : IsPointBuried told gone (main n)) where
+    (b : IsPointForgotten told gone (main n)) where
   -- what is of the graph before is of it after the readers were told
   told_need : (p : Point) → Needed old.graph p → Needed told.graph p
   told_need p n = need_same old.graph told.graph t.graph.links t.graph.roots p n
@@ -197,9 +197,9 @@ module _ (old told gone : Work) (n : NodeId) (died : IsSome (died_at old n)) (t 
   told_row : (p : Point) → at told.rows p ≡ at old.rows p
   told_row p = ap (λ m. at m p) rows
 
-  pub buried_alone : (scoped : Listed) → at old.rows (change n) ≡ None → gone.roots ≡ old.roots → IsElsewhere old (record gone { scoped = scoped })
-      → IsBuried old (record gone { scoped = scoped }) n
-  buried_alone scoped none roots beside = record {
+  pub forgotten_alone : (scoped : Listed) → at old.rows (change n) ≡ None → gone.roots ≡ old.roots → IsElsewhere old (record gone { scoped = scoped })
+      → IsForgotten old (record gone { scoped = scoped }) n
+  forgotten_alone scoped none roots beside = record {
     rows = record {
       now = λ part. now part;
       others = λ p other. b.row.others p (other_node p (main n) n refl other) ∙ told_row p;
@@ -243,9 +243,9 @@ module _ (old told gone : Work) (n : NodeId) (died : IsSome (died_at old n)) (t 
 
   -- a node of two points
   module _ (scoped : Listed) (mid last : Work) (graph : last.graph ≡ mid.graph) (same_rows : last.rows ≡ mid.rows)
-      (c : IsPointBuried (record gone { scoped = scoped }) mid (change n)) where
+      (c : IsPointForgotten (record gone { scoped = scoped }) mid (change n)) where
     -- what follows for the second point, over what the first left
-    second : IsPointBuried gone last (change n)
+    second : IsPointForgotten gone last (change n)
     second = record {
       row = subst (λ (m : Rows Progress). Changes gone.rows m (change n) None) (sym same_rows) c.row;
       heap = subst (λ (g : NecessaryPart). Changes gone.graph.heap g.heap (change n) None) (sym graph) c.heap;
@@ -255,9 +255,9 @@ module _ (old told gone : Work) (n : NodeId) (died : IsSome (died_at old n)) (t 
           ⊎ ((Needed gone.graph (change n) → ⊥) × Changes gone.graph.heights g.heights (change n) None)) (sym graph) c.heights;
     }
 
-    pub buried_both : (pairs : Listed) → Holds old.rows (change n) → Changes old.roots last.roots (change n) None
-        → IsElsewhere old (record last { pairs = pairs }) → IsBuried old (record last { pairs = pairs }) n
-    buried_both pairs there roots beside = record {
+    pub forgotten_both : (pairs : Listed) → Holds old.rows (change n) → Changes old.roots last.roots (change n) None
+        → IsElsewhere old (record last { pairs = pairs }) → IsForgotten old (record last { pairs = pairs }) n
+    forgotten_both pairs there roots beside = record {
       rows = both_gone old.rows gone.rows last.rows n (subst (λ (m : Rows Progress). Changes m gone.rows (main n) None) rows b.row) second.row;
       roots = λ p other. roots.others p other;
       rootless = λ h. roots.changed;

@@ -29,13 +29,13 @@ use Rattle.node_outcomes.specs.declared.row.Progress.{Progress}
 use Rattle.node_outcomes.specs.declared.row.Stage.TheVariants as code
 use Rattle.wiring.specs.Kept.{IsKept}
 use Rattle.wiring.specs.Stands.{Stands, Counts}
-use Rattle.wiring.specs.Turning.{IsAttached, IsLoosened}
+use Rattle.wiring.specs.Turning.{IsAttached, IsDetached}
 use Rattle.wiring.specs.Wiring.{IsMarked, KeepsPlaces}
 use Rattle.wiring.specs.declared.work.Work.{Work}
 use Rattle.wiring.proofs.Deciding.{need_same}
 use Rattle.wiring.proofs.GoingBack.{IsLowered, lowered_alone, lowered_kept, lowered_places, lowered_heap, need_before}
 use Rattle.wiring.proofs.Holding.{targets_at}
-use Rattle.wiring.proofs.Loosening.{change_is_other, attached_still}
+use Rattle.wiring.proofs.Detaching.{change_is_other, attached_still}
 use Rattle.wiring.proofs.Scheduling.{marked_kept, marked_places, marked_need}
 use Rattle.wiring.proofs.TakingOff.{MayLower, scheduled, row_at_stage, takes, stands_off}
 use Rattle.wiring.proofs.TakingOne.{loose_lowered, one_taken}
@@ -49,7 +49,7 @@ some_of (Some m) e = (m, refl)
 
 module _ (arena : Arena) (old new : Work) (n k : NodeId) (r : Row) (row : row_at arena n ≡ Some r) (sub : subject_of r.def ≡ Some k)
     (own_row : Holds old.rows (change n)) (attached : IsAttached old n) (right : right_in old.rows old.roots n r.def ≡ None)
-    (marked : IsMarked old.graph old.graph (change n)) (chosen : Option NodeId) (loose : IsLoosened old new n chosen)
+    (marked : IsMarked old.graph old.graph (change n)) (chosen : Option NodeId) (loose : IsDetached old new n chosen)
     (same : new.graph ≡ loose.mid.graph) (step_old : IsInStep old.graph) (step_new : IsInStep new.graph) (F : Functions) (z : Start) (s : State)
     (counts : Counts) (inv : Invariant F z s) (st : Stands arena old counts None s) (unsettled : s.settled (change n) ≡ false) where
   alone_back : IsLowered old new (main n) (change n) code.Static loose.mid.graph.links
@@ -151,45 +151,45 @@ static_full (Some k) e = cc
 module _ (arena : Arena) (old new : Work) (b : NodeId) (lost : LosesRight arena old new b) (kept : IsKept arena old)
     (need : Needed old.graph (change b)) (there : Holds old.rows (change b)) where
   abbrev pub mid : Work
-  mid = lost.loosened.mid
+  mid = lost.detached.mid
 
   abbrev chosen_right : Option NodeId
   chosen_right = right_in old.rows old.roots b lost.row.def
 
   pub marked : IsMarked old.graph mid.graph (change b)
-  marked = lost.loosened.marked
+  marked = lost.detached.marked
 
   pub mid_rest : mid ≡ record old { graph = mid.graph }
-  mid_rest = lost.loosened.rest
+  mid_rest = lost.detached.rest
 
   mine : Holds old.rows (main b)
   mine = kept.rows (main b) ∙ ap (λ (x : Option Row). has_part x Main) lost.is_row
 
-  low : IsLoosened mid new b chosen_right → (links : Links) × IsLowered old new (main b) (change b) code.Static links
+  low : IsDetached mid new b chosen_right → (links : Links) × IsLowered old new (main b) (change b) code.Static links
   low x = loose_lowered old mid new b kept.step marked mid_rest lost.step chosen_right x
 
   pub loose_kept : IsKept arena new
-  loose_kept = elim lost.loosened.loosened [
+  loose_kept = elim lost.detached.detached [
     | inl x ↦ subst (λ (w : Work). IsKept arena w) (sym x.0)
         (marked_kept (change b) old mid marked mid_rest arena there (subst (λ (w : Work). IsInStep w.graph) x.0 lost.step) kept)
     | inr x ↦ let l = low x.0 in lowered_kept arena old new (main b) (change b) code.Static l.0 l.1 kept mine (λ n. there)
   ]
 
   pub loose_places : KeepsPlaces old new
-  loose_places = elim lost.loosened.loosened [
+  loose_places = elim lost.detached.detached [
     | inl x ↦ subst (λ (w : Work). KeepsPlaces old w) (sym x.0) (marked_places (change b) old mid marked mid_rest)
     | inr x ↦ let l = low x.0 in lowered_places arena old new (main b) (change b) code.Static l.0 l.1
   ]
 
   pub loose_need : (p : Point) → Needed new.graph p → Needed old.graph p
-  loose_need p n = elim lost.loosened.loosened [
+  loose_need p n = elim lost.detached.detached [
     | inl x ↦ (marked_need (change b) old mid marked mid_rest p).0 (subst (λ (w : Work). Needed w.graph p) x.0 n)
     | inr x ↦ let l = low x.0 in need_before arena old new (main b) (change b) code.Static l.0 l.1 p n
   ]
 
   -- what is in the heap, and wasn't
   pub loose_heap : (p : Point) → Holds new.graph.heap p → Holds old.graph.heap p ⊎ (p ≡ change b) ⊎ ((p ≡ main b) × IsAttached old b)
-  loose_heap p h = elim lost.loosened.loosened [
+  loose_heap p h = elim lost.detached.detached [
     | inl x ↦ elim (same_or_other p (change b)) [
       | inl e ↦ inr (inl e)
       | inr ne ↦ inl (sym (ap is_some (marked.others p ne)) ∙ subst (λ (w : Work). Holds w.graph.heap p) x.0 h)
@@ -202,7 +202,7 @@ module _ (arena : Arena) (old new : Work) (b : NodeId) (lost : LosesRight arena 
 
   -- the change is, while it is needed
   pub loose_change : Needed new.graph (change b) → Holds new.graph.heap (change b)
-  loose_change n = elim lost.loosened.loosened [
+  loose_change n = elim lost.detached.detached [
     | inl x ↦ subst (λ (w : Work). Holds w.graph.heap (change b)) (sym x.0) (marked.told need)
     | inr x ↦ let l = low x.0 in ap is_some (l.1.sweep.heap_kept (change b) ((l.1.sweep.reached (change b)).0 n)) ∙ l.1.waits need
   ]
@@ -210,7 +210,7 @@ module _ (arena : Arena) (old new : Work) (b : NodeId) (lost : LosesRight arena 
   -- rows stay but for the main's stage
   pub loose_rows : (p : Point) → (at new.rows p ≡ at old.rows p)
       ⊎ ((p ≡ main b) × (at new.rows p ≡ option_map (with_stage code.Static) (at old.rows p)))
-  loose_rows p = elim lost.loosened.loosened [
+  loose_rows p = elim lost.detached.detached [
     | inl x ↦ inl (ap (λ (w : Work). at w.rows p) x.0 ∙ ap (λ (w : Work). at w.rows p) mid_rest)
     | inr x ↦ let l = low x.0 in elim (same_or_other p (main b)) [
       | inl e ↦ inr (e, subst (λ (y : Point). at new.rows y ≡ option_map (with_stage code.Static) (at old.rows y)) (sym e) l.1.rows.changed)
@@ -220,7 +220,7 @@ module _ (arena : Arena) (old new : Work) (b : NodeId) (lost : LosesRight arena 
 
   -- that of a main which had its right side is Static
   pub loose_main : IsAttached old b → at new.rows (main b) ≡ option_map (with_stage code.Static) (at old.rows (main b))
-  loose_main a = elim lost.loosened.loosened [
+  loose_main a = elim lost.detached.detached [
     | inl x ↦ absurd (x.1 a)
     | inr x ↦ let l = low x.0 in l.1.rows.changed
   ]
@@ -228,7 +228,7 @@ module _ (arena : Arena) (old new : Work) (b : NodeId) (lost : LosesRight arena 
   -- it isn't attached any more
   pub loose_right : (work : Work) → at work.rows (main b) ≡ at new.rows (main b) → (Needed work.graph (main b) → Needed new.graph (main b))
       → IsAttached work b → ⊥
-  loose_right work row less a = elim lost.loosened.loosened [
+  loose_right work row less a = elim lost.detached.detached [
     | inl x ↦ x.1 (record {
       needed = loose_need (main b) (less a.needed);
       stage = ap stage_in (sym (ap (λ (w : Work). at w.rows (main b)) mid_rest))
@@ -259,7 +259,7 @@ module _ (arena : Arena) (old new : Work) (b : NodeId) (lost : LosesRight arena 
     | inr ne ↦ ap is_some (marked.others p ne) ∙ h
   ]
 
-  module _ (x : IsLoosened mid new b chosen_right) where
+  module _ (x : IsDetached mid new b chosen_right) where
     heap_mid : (p : Point) (h : ℕ) → at mid.graph.heap p ≡ Some h → (at mid.graph.heights p ≡ Some h) × Needed mid.graph p
     heap_mid p h e = elim (same_or_other p (change b)) [
       | inl is ↦
@@ -296,27 +296,27 @@ module _ (arena : Arena) (old new : Work) (b : NodeId) (lost : LosesRight arena 
 
   module _ (F : Functions) (z : Start) (s : State) (counts : Counts) (inv : Invariant F z s) (st : Stands arena mid counts None s)
       (unsettled : s.settled (change b) ≡ false) where
-    abbrev Loosens : Type 0
-    Loosens = (t : State) × Reaches (TakingOff F z) s t × Stands arena new counts None t
+    abbrev Detaches : Type 0
+    Detaches = (t : State) × Reaches (TakingOff F z) s t × Stands arena new counts None t
 
     attached_mid : IsAttached old b → IsAttached mid b
     attached_mid a = attached_still old mid b (ap (λ (w : Work). w.rows) mid_rest) marked.graph a
 
-    with_right : (x : IsLoosened mid new b chosen_right) → IsAttached old b → (m : NodeId) → chosen_right ≡ Some m → Loosens
+    with_right : (x : IsDetached mid new b chosen_right) → IsAttached old b → (m : NodeId) → chosen_right ≡ Some m → Detaches
     with_right x a m e = one_taken arena mid mid new b lost.row subject.0 m lost.is_row subject.1 there_mid (attached_mid a)
         (sym (st.settled (change b)) ∙ unsettled) (right_mid ∙ e) marked_self refl
-        (subst (λ (o : Option NodeId). IsLoosened mid new b o) (sym right_mid) x) (step_mid x) lost.step F z s counts None inv tt st
+        (subst (λ (o : Option NodeId). IsDetached mid new b o) (sym right_mid) x) (step_mid x) lost.step F z s counts None inv tt st
 
-    without_right : (x : IsLoosened mid new b None) → (step : IsInStep mid.graph) → IsAttached old b → chosen_right ≡ None → Loosens
+    without_right : (x : IsDetached mid new b None) → (step : IsInStep mid.graph) → IsAttached old b → chosen_right ≡ None → Detaches
     without_right x step a e = alone_taken arena mid new b subject.0 lost.row lost.is_row subject.1 there_mid (attached_mid a) (right_mid ∙ e)
         marked_self None x x.off step lost.step F z s counts inv st unsettled
 
-    by_right : (x : IsLoosened mid new b chosen_right) → IsAttached old b → (o : Option NodeId) → chosen_right ≡ o → Loosens
-    by_right x a None e = without_right (subst (λ (y : Option NodeId). IsLoosened mid new b y) e x) (step_mid x) a e
+    by_right : (x : IsDetached mid new b chosen_right) → IsAttached old b → (o : Option NodeId) → chosen_right ≡ o → Detaches
+    by_right x a None e = without_right (subst (λ (y : Option NodeId). IsDetached mid new b y) e x) (step_mid x) a e
     by_right x a (Some m) e = with_right x a m e
 
-    pub loosens : Loosens
-    loosens = elim lost.loosened.loosened [
+    pub detaches : Detaches
+    detaches = elim lost.detached.detached [
       | inl x ↦ (s, here, subst (λ (w : Work). Stands arena w counts None s) (sym x.0) st)
       | inr x ↦ by_right x.0 x.1 chosen_right refl
     ]
