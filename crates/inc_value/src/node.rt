@@ -1,4 +1,6 @@
 //! Names of nodes, of their points and of observers.
+ghost use Rattle.std.specs.Prelude.{◌≡◌};
+ghost use Rattle.inc_value.specs.declared.node.Part.TheVariants.{Main, Change};
 
 /// A node of a graph. `gen_` is how many ids the graph's arena had given before this one, so no two
 /// nodes of one arena ever share an id, and `slot` is where the node stands while it lives.
@@ -24,4 +26,28 @@ pub enum Part {
 pub struct Point {
     pub node: NodeId,
     pub part: Part,
+}
+
+impl Point {
+    /// The main of a node.
+    #[inline]
+    pub fn main(node: NodeId) -> Point
+        ensures { result ≡ record { node = node; part = Main } }
+    {
+        Point {
+            node,
+            part: Part::Main,
+        }
+    }
+
+    /// The change of a node of two points.
+    #[inline]
+    pub fn change(node: NodeId) -> Point
+        ensures { result ≡ record { node = node; part = Change } }
+    {
+        Point {
+            node,
+            part: Part::Change,
+        }
+    }
 }

@@ -5,7 +5,7 @@ ghost use Rattle.inc_terms.specs.Depend.{main};
 ghost use Rattle.point_map.specs.Rows.{at, Changes, KeepsRows};
 ghost use Rattle.node_lists.specs.Deaths.{IsTold};
 
-use inc_value::{NodeId, Part, Point};
+use inc_value::{NodeId, Point};
 use point_map::PointMap;
 use std::alloc::{AllocError, Global};
 use std::marker::Model;
@@ -47,16 +47,6 @@ impl Model for Deaths {
     } };
 
     ghost invariant = { λ d. IsTold d.nodes.items d.scopes };
-}
-
-// The point at which a node's scope is kept.
-fn main_point(node: NodeId) -> Point
-    ensures { result ≡ main node }
-{
-    Point {
-        node,
-        part: Part::Main,
-    }
 }
 
 impl Deaths {
@@ -106,14 +96,14 @@ impl Deaths {
     pub fn scope_of(&self, node: NodeId) -> Option<NodeId>
         ensures { result ≡ at self.now.scopes (main node) }
     {
-        Some(*self.scopes.get(main_point(node))?)
+        Some(*self.scopes.get(Point::main(node))?)
     }
 
     /// Whether the node died in this round.
     pub fn holds(&self, node: NodeId) -> bool
         ensures { result ≡ is_some (at self.now.scopes (main node)) }
     {
-        self.scopes.holds(main_point(node))
+        self.scopes.holds(Point::main(node))
     }
 
     /// A node dies that stood in the scope of the bind. It takes one of the spare places.
@@ -126,7 +116,7 @@ impl Deaths {
         ensures told { IsTold self.new.nodes self.new.scopes }
     {
         self.nodes.push_reserved(node);
-        self.scopes.insert(main_point(node), scope);
+        self.scopes.insert(Point::main(node), scope);
     }
 
     /// Takes off the node that died last, with its scope. Its place is spare again. None exactly where none died.
@@ -140,7 +130,7 @@ impl Deaths {
         ensures told { IsTold self.new.nodes self.new.scopes }
     {
         let node = self.nodes.pop()?;
-        let scope = self.scopes.remove(main_point(node));
+        let scope = self.scopes.remove(Point::main(node));
         Some(Death { node, scope })
     }
 }

@@ -10,7 +10,6 @@ no_want (Ok v) wants = refl
 no_want (Err e) wants = inl refl
 
 module _ {F More : Type 0} (keeper : Ghosts F More) where
-
   -- what was kept of functions, and is kept on, is kept
   pub functions_on : (first mid last : F) → KeepsFunctions keeper first mid → KeepsFunctions keeper mid last → KeepsFunctions keeper first last
   functions_on first mid last h k = record {

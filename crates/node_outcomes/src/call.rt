@@ -9,9 +9,9 @@ ghost use Rattle.stabilize_round.specs.Counts.{RoseBy, RoseAtMost};
 ghost use Rattle.node_outcomes.specs.Computing.{Calls, FoldFits, noted, value_shown};
 ghost use Rattle.node_outcomes.specs.Meaning.{KeepsFunctions, WantsFollow};
 
-use crate::row::{Progress, keep_fold, keep_map, main_point};
+use crate::row::{Progress, keep_fold, keep_map};
 use crate::sight::fill_shown;
-use inc_value::{FnKind, FnRef, NodeId, Outcome, Value};
+use inc_value::{FnKind, FnRef, NodeId, Outcome, Point, Value};
 use node_arena::Functions;
 use point_map::PointMap;
 use smallvec::SmallVec;
@@ -64,7 +64,7 @@ pub(crate) fn call_map<F: Functions>(
             return Err(AllocError);
         }
     };
-    keep_map(rows, main_point(node), arguments, value);
+    keep_map(rows, Point::main(node), arguments, value);
     ran.push_reserved(node);
     Ok(Outcome::Val(copy))
 }
@@ -122,7 +122,7 @@ pub(crate) fn call_fold<F: Functions>(
     if !arguments.is_empty() {
         ran.push_reserved(node);
     }
-    keep_fold(rows, main_point(node), arguments, value);
+    keep_fold(rows, Point::main(node), arguments, value);
     Ok(Outcome::Val(copy))
 }
 

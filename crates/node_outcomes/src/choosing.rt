@@ -6,9 +6,9 @@ ghost use Rattle.point_map.specs.Rows.{at};
 ghost use Rattle.node_outcomes.specs.Choosing.{right_in};
 ghost use Rattle.node_outcomes.specs.Row.{outcome_in};
 
-use crate::row::{Progress, change_point};
+use crate::row::Progress;
 use inc_terms::Def;
-use inc_value::{NodeId, Outcome};
+use inc_value::{NodeId, Outcome, Point};
 use point_map::PointMap;
 
 /// The right side of a node that is so defined: the one that its change's outcome chooses, if it ran and chose one. A
@@ -21,7 +21,7 @@ pub fn right_side(
 ) -> Option<NodeId>
     ensures { result ≡ right_in rows.now roots.now node (def_of def.now) }
 {
-    let own = change_point(node);
+    let own = Point::change(node);
     let given = rows.get(own)?.outcome.as_ref()?;
     match def {
         Def::Bind { .. } => roots.get(own).copied(),
@@ -38,7 +38,7 @@ pub fn right_side(
 pub fn ran_with(rows: &PointMap<Progress>, node: NodeId, given: &Outcome) -> bool
     ensures { IsTrue result ↔ (outcome_in (at rows.now (change node)) ≡ Some given.now) }
 {
-    match rows.get(change_point(node)) {
+    match rows.get(Point::change(node)) {
         Some(row) => match &row.outcome {
             Some(before) => before.same(given),
             None => false,

@@ -1,7 +1,6 @@
 //! How far a point has come.
 ghost use Rattle.std.specs.Prelude.{◌≡◌, ◌↔◌, None, Some, IsTrue};
 ghost use Rattle.point_map.specs.Rows.{at, Holds};
-ghost use Rattle.inc_value.specs.declared.node.Part.TheVariants.{Change, Main};
 ghost use Rattle.node_outcomes.specs.declared.row.Progress.{Progress as Row};
 ghost use Rattle.node_outcomes.specs.Row.{with_stage, with_outcome, without_outcome, with_call, with_cutoff, stage_in, settled_in, IsRewritten, IsStopped};
 
@@ -34,26 +33,6 @@ pub struct Progress {
     pub outcome: Option<Outcome>,
     pub last: LastCall,
     pub cutoff: Cutoff,
-}
-
-/// The main of a node.
-pub fn main_point(node: NodeId) -> Point
-    ensures { result ≡ record { node = node; part = Main } }
-{
-    Point {
-        node,
-        part: Part::Main,
-    }
-}
-
-/// The change of a node of two points.
-pub fn change_point(node: NodeId) -> Point
-    ensures { result ≡ record { node = node; part = Change } }
-{
-    Point {
-        node,
-        part: Part::Change,
-    }
 }
 
 /// A point that was never settled.

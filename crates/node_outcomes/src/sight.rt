@@ -7,8 +7,8 @@ ghost use Rattle.node_outcomes.specs.Computing.{AllShow, HasNoText, ShowsValue, 
 ghost use Rattle.node_outcomes.specs.Row.{value_in, passes_in};
 
 use crate::last_call::Called;
-use crate::row::{Progress, main_point};
-use inc_value::{NodeId, Outcome, Value};
+use crate::row::Progress;
+use inc_value::{NodeId, Outcome, Point, Value};
 use map_nodes::Cutoff;
 use point_map::PointMap;
 use smallvec::SmallVec;
@@ -18,7 +18,7 @@ use std::alloc::{AllocError, Global};
 pub(crate) fn value_shown(rows: &PointMap<Progress>, node: NodeId) -> Option<&Value>
     ensures { option_copied result ≡ value_in (at rows.now (main node)) }
 {
-    match &rows.get(main_point(node))?.outcome {
+    match &rows.get(Point::main(node))?.outcome {
         Some(Outcome::Val(value)) => Some(value),
         _ => None,
     }
@@ -29,7 +29,7 @@ pub fn shown(alloc: Global, rows: &PointMap<Progress>, node: NodeId) -> Result<O
     ensures { IfOk result (λ o. (seen rows.now (main node) ≡ Some o)
         ⊎ ((seen rows.now (main node) ≡ None) × (o ≡ Outcome.Invalid))) }
 {
-    match rows.get(main_point(node)) {
+    match rows.get(Point::main(node)) {
         Some(row) => match &row.outcome {
             Some(outcome) => outcome.copy(alloc),
             None => Ok(Outcome::Invalid),
@@ -42,14 +42,14 @@ pub fn shown(alloc: Global, rows: &PointMap<Progress>, node: NodeId) -> Result<O
 pub(crate) fn last_call(rows: &PointMap<Progress>, node: NodeId) -> Option<Called<'_>>
     ensures { result ≡ option_and_then (λ k. k.last) (at rows.now (main node)) }
 {
-    rows.get(main_point(node))?.last.get()
+    rows.get(Point::main(node))?.last.get()
 }
 
 /// Whether a node of cutoff Never was settled in the round.
 fn passes(rows: &PointMap<Progress>, round: u64, node: NodeId) -> bool
     ensures { result ≡ passes_in round (at rows.now (main node)) }
 {
-    match rows.get(main_point(node)) {
+    match rows.get(Point::main(node)) {
         Some(row) => match row.cutoff {
             Cutoff::Equal => false,
             Cutoff::Never => row.settled == round,

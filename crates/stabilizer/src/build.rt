@@ -17,9 +17,8 @@ ghost use Rattle.stabilizer.specs.Giving.{GivesLive};
 
 use crate::parts::Parts;
 use inc_terms::Nodes;
-use inc_value::{FnRef, NodeId, Value};
+use inc_value::{FnRef, NodeId, Point, Value};
 use node_arena::{Arena, BuildFault, Functions};
-use node_outcomes::change_point;
 use std::alloc::{AllocError, Global};
 use wiring::Refused;
 
@@ -60,7 +59,7 @@ impl Parts {
     {
         self.work.roots.reserve(1)?;
         let root = self.build(functions, bind, recipe, left)?;
-        self.work.roots.insert(change_point(bind), root);
+        self.work.roots.insert(Point::change(bind), root);
         Ok(())
     }
 

@@ -16,7 +16,6 @@ ghost use Rattle.stabilizer.specs.Staying.{ChangeIsTaken};
 
 use crate::parts::Parts;
 use inc_value::{NodeId, Point};
-use node_outcomes::{change_point, main_point};
 
 impl Parts {
     /// The main of a bind loses its right side, and the nodes of the bind's scope, and of scopes within it, all links but
@@ -72,8 +71,8 @@ impl Parts {
     {
         if let Some(scope) = self.scope_of(node) {
             self.work.put_back_node(&self.arena, node, scope);
-            self.keep_gate(main_point(node), change_point(scope));
-            self.keep_gate(change_point(node), change_point(scope));
+            self.keep_gate(Point::main(node), Point::change(scope));
+            self.keep_gate(Point::change(node), Point::change(scope));
         }
     }
 

@@ -26,7 +26,7 @@ use inc_terms::Def;
 use inc_value::{NodeId, Outcome, Point, Ty, Value};
 use map_nodes::Cutoff;
 use node_arena::{AddFault, Arena, Row, SetFault};
-use node_outcomes::{change_point, main_point, set_cutoff};
+use node_outcomes::set_cutoff;
 use point_map::PointMap;
 use scopes::Scopes;
 use std::alloc::{AllocError, Global};
@@ -167,7 +167,7 @@ impl Parts {
     {
         match self.arena.set_var(id, value) {
             Ok(()) => {
-                self.work.schedule(main_point(id));
+                self.work.schedule(Point::main(id));
                 Ok(())
             }
             Err(fault) => Err(fault),
@@ -184,7 +184,7 @@ impl Parts {
         ensures kept { PartsKept self.new }
         ensures ready { (M : Meaning) → IsReady M self.old → IsReady M self.new }
     {
-        let p = main_point(id);
+        let p = Point::main(id);
         if self.work.rows.holds(p) {
             set_cutoff(&mut self.work.rows, p, cutoff);
         }
@@ -197,7 +197,7 @@ impl Parts {
         requires kept { PartsKept self.old }
         ensures { LosesRoot self.old self.new id }
     {
-        self.work.root_off(main_point(id));
+        self.work.root_off(Point::main(id));
     }
 
     /// Drops the nodes whose ids were given since the count; none of them is needed. Their ids stay used up. This takes
@@ -235,14 +235,14 @@ impl Parts {
     pub fn outcome(&self, id: NodeId) -> Option<&Outcome>
         ensures { option_copied result ≡ outcome_in (at self.now.work.rows (main id)) }
     {
-        self.work.rows.get(main_point(id))?.outcome.as_ref()
+        self.work.rows.get(Point::main(id))?.outcome.as_ref()
     }
 
     /// The root of what a bind is built for, if it is a live bind that is built for a value.
     pub fn root_of(&self, bind: NodeId) -> Option<NodeId>
         ensures { result ≡ at self.now.work.roots (change bind) }
     {
-        Some(*self.work.roots.get(change_point(bind))?)
+        Some(*self.work.roots.get(Point::change(bind))?)
     }
 
     /// The nodes whose functions were called in the last round that ended, each once.
@@ -257,8 +257,8 @@ impl Parts {
 fn forget_roots(roots: &mut PointMap<NodeId>, node: NodeId)
     ensures { ChangesNode roots.old roots.new node (λ part. None) }
 {
-    forget_root(roots, main_point(node));
-    forget_root(roots, change_point(node));
+    forget_root(roots, Point::main(node));
+    forget_root(roots, Point::change(node));
 }
 
 /// No root stands at the point any more.

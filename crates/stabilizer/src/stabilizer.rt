@@ -28,9 +28,9 @@ ghost use Rattle.stabilizer.specs.Weights.{SidesFit};
 use crate::build::Recipe;
 use crate::parts::Parts;
 use inc_terms::Def;
-use inc_value::{NodeId, Outcome, Part};
+use inc_value::{NodeId, Outcome, Part, Point};
 use node_arena::{Arena, Functions};
-use node_outcomes::{Progress, change_point, compute, main_point, ran_with, shown};
+use node_outcomes::{Progress, compute, ran_with, shown};
 use point_map::PointMap;
 use std::alloc::{AllocError, Global};
 use std::mem;
@@ -111,7 +111,7 @@ fn put_roots(work: &mut Work, arena: &Arena, roots: &[NodeId]) -> Result<(), Ref
     ensures kept { IsKept arena.now work.new }
 {
     for node in roots {
-        work.put_root(arena, main_point(*node))?;
+        work.put_root(arena, Point::main(*node))?;
     }
     Ok(())
 }
@@ -169,7 +169,7 @@ fn step_main<F: Functions>(
     );
     match computed {
         Ok(outcome) => {
-            parts.work.settle(main_point(node), outcome);
+            parts.work.settle(Point::main(node), outcome);
             Ok(())
         }
         Err(AllocError) => Err(Refused::Memory),
@@ -197,7 +197,7 @@ fn step_change<F: Functions>(
     match turn_change(parts, functions, node) {
         Ok(()) => {}
         Err(refused) => {
-            parts.work.schedule(change_point(node));
+            parts.work.schedule(Point::change(node));
             return Err(refused);
         }
     }

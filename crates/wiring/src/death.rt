@@ -14,7 +14,7 @@ use crate::work::Work;
 use inc_value::{NodeId, Point};
 use necessary_graph::Skip;
 use node_lists::Deaths;
-use node_outcomes::{Progress, change_point, main_point, was_settled};
+use node_outcomes::{Progress, was_settled};
 use point_map::PointMap;
 
 /// The points that aren't told of a death: those that were settled in the round, and those of nodes that die too.
@@ -52,10 +52,10 @@ impl Work {
         ensures pair_counted { Holds self.old.rows (change node) → self.new.pairs.dead ≡ raised self.old.pairs.dead }
         ensures step { IsInStep self.new.graph }
     {
-        self.tell_survivors(main_point(node));
-        self.forget_point(main_point(node));
+        self.tell_survivors(Point::main(node));
+        self.forget_point(Point::main(node));
         self.scoped.count_dead();
-        let own = change_point(node);
+        let own = Point::change(node);
         if self.rows.holds(own) {
             self.forget_point(own);
             self.forget_root(own);
@@ -104,9 +104,9 @@ impl Work {
         ensures rest { self.new ≡ record self.old { graph = self.new.graph; deaths = self.new.deaths } }
     {
         while let Some(death) = self.deaths.pop() {
-            let gate = change_point(death.scope);
-            self.release(main_point(death.node), gate);
-            self.release(change_point(death.node), gate);
+            let gate = Point::change(death.scope);
+            self.release(Point::main(death.node), gate);
+            self.release(Point::change(death.node), gate);
         }
     }
 

@@ -18,7 +18,7 @@ use inc_value::{NodeId, Point};
 use map_nodes::Cutoff;
 use necessary_graph::NecessaryGraph;
 use node_arena::Arena;
-use node_outcomes::{Stage, change_point, main_point, unsettled};
+use node_outcomes::{Stage, unsettled};
 use std::alloc::AllocError;
 
 impl Work {
@@ -76,7 +76,7 @@ impl Work {
             }
             None => {
                 let height = height_over(&self.graph, def.kids(), floor);
-                self.add(main_point(node), height)
+                self.add(Point::main(node), height)
             }
         }
     }
@@ -137,14 +137,14 @@ impl Work {
         ensures scoped { self.new.scoped ≡ self.old.scoped }
     {
         self.pairs.reserve(arena)?;
-        self.add(change_point(node), height)?;
-        match self.add(main_point(node), (height + 1).min(128)) {
+        self.add(Point::change(node), height)?;
+        match self.add(Point::main(node), (height + 1).min(128)) {
             Ok(()) => {
                 self.pairs.add(node);
                 Ok(())
             }
             Err(fault) => {
-                self.drop_point(change_point(node));
+                self.drop_point(Point::change(node));
                 Err(fault)
             }
         }
@@ -162,8 +162,8 @@ impl Work {
         ensures heap { self.new.graph.heap ≡ self.old.graph.heap }
         ensures rest { self.new ≡ record self.old { graph = self.new.graph; rows = self.new.rows } }
     {
-        self.drop_point(main_point(node));
-        let own = change_point(node);
+        self.drop_point(Point::main(node));
+        let own = Point::change(node);
         if self.rows.holds(own) {
             self.drop_point(own);
         }
@@ -222,7 +222,7 @@ fn floor_of(graph: &NecessaryGraph, scope: Option<NodeId>) -> u32
     ensures { result ≤ 129 }
 {
     match scope {
-        Some(bind) if graph.is_there(change_point(bind)) => graph.height(change_point(bind)) + 1,
+        Some(bind) if graph.is_there(Point::change(bind)) => graph.height(Point::change(bind)) + 1,
         _ => 0,
     }
 }
@@ -235,7 +235,7 @@ fn height_over(graph: &NecessaryGraph, kids: &[NodeId], floor: u32) -> u32
 {
     let mut height = floor;
     for kid in kids {
-        let p = main_point(*kid);
+        let p = Point::main(*kid);
         if graph.is_there(p) {
             height = height.max(graph.height(p) + 1);
         }

@@ -16,9 +16,9 @@ ghost use Rattle.wiring.specs.Scoped.{HasDetached};
 use crate::refused::Refused;
 use crate::work::Work;
 use inc_terms::Def;
-use inc_value::NodeId;
+use inc_value::{NodeId, Point};
 use node_arena::Arena;
-use node_outcomes::{Stage, change_point, is_full, is_static, main_point, right_side, set_stage};
+use node_outcomes::{Stage, is_full, is_static, right_side, set_stage};
 
 impl Work {
     /// Links a main that waits for its node's change, which ran, to its right side.
@@ -37,13 +37,13 @@ impl Work {
         if !self.is_waiting(node) {
             return Ok(());
         }
-        let p = main_point(node);
+        let p = Point::main(node);
         set_stage(&mut self.rows, p, Stage::Full);
         let Some(row) = arena.get(node) else {
             return Ok(());
         };
         if let Some(target) = right_side(&self.rows, &self.roots, node, &row.def) {
-            let _on = self.connect(arena, p, main_point(target))?;
+            let _on = self.connect(arena, p, Point::main(target))?;
         }
         Ok(())
     }
@@ -52,7 +52,7 @@ impl Work {
     pub fn is_attached(&self, node: NodeId) -> bool
         ensures { IsTrue result ↔ IsAttached self.now node }
     {
-        let p = main_point(node);
+        let p = Point::main(node);
         self.graph.is_needed(p) && is_full(&self.rows, p)
     }
 
@@ -60,7 +60,7 @@ impl Work {
     pub fn is_waiting(&self, node: NodeId) -> bool
         ensures { IsTrue result ↔ IsWaiting self.now node }
     {
-        let p = main_point(node);
+        let p = Point::main(node);
         self.graph.is_needed(p) && is_static(&self.rows, p)
     }
 
@@ -71,11 +71,11 @@ impl Work {
         ensures detached { IsDetached self.old self.new node (right_in self.old.rows self.old.roots node (def_of def.now)) }
         ensures step { IsInStep self.new.graph }
     {
-        let p = main_point(node);
+        let p = Point::main(node);
         self.enqueue(p);
         set_stage(&mut self.rows, p, Stage::Static);
         if let Some(target) = right_side(&self.rows, &self.roots, node, def) {
-            let q = main_point(target);
+            let q = Point::main(target);
             if self.graph.reads(p, q) {
                 self.unlink(p, q);
             }
@@ -91,7 +91,7 @@ impl Work {
         ensures step { IsInStep self.new.graph }
         ensures rest { self.new ≡ record self.old { graph = self.new.graph; rows = self.new.rows } }
     {
-        self.graph.insert(change_point(node));
+        self.graph.insert(Point::change(node));
         if self.is_attached(node) {
             self.drop_right(node, def);
         }

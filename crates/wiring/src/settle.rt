@@ -13,7 +13,7 @@ ghost use Rattle.wiring.specs.Wiring.{KeepsGraph, KeepsRound, IsTold};
 use crate::work::Work;
 use inc_terms::Def;
 use inc_value::{NodeId, Outcome, Point};
-use node_outcomes::{change_point, forget_outcome, ran_with, set_outcome};
+use node_outcomes::{forget_outcome, ran_with, set_outcome};
 
 impl Work {
     /// Settles a main on an outcome. Where it is another than before, or the cutoff is Never, the points that read it
@@ -45,7 +45,7 @@ impl Work {
         if !ran_with(&self.rows, node, &given) && self.is_attached(node) {
             self.drop_right(node, def);
         }
-        set_outcome(&mut self.rows, change_point(node), given, self.round);
+        set_outcome(&mut self.rows, Point::change(node), given, self.round);
     }
 
     /// Settles the change of a bind that was built anew for the outcome: what the bind is built for is the change's outcome.
@@ -59,7 +59,7 @@ impl Work {
         ensures step { IsInStep self.new.graph }
         ensures rest { self.new ≡ record self.old { graph = self.new.graph; rows = self.new.rows } }
     {
-        let own = change_point(bind);
+        let own = Point::change(bind);
         self.graph.remove(own);
         set_outcome(&mut self.rows, own, given, self.round);
     }
@@ -71,7 +71,7 @@ impl Work {
         ensures row { IsRewritten self.old.rows self.new.rows (change bind) without_outcome }
         ensures rest { self.new ≡ record self.old { rows = self.new.rows; roots = self.new.roots } }
     {
-        let own = change_point(bind);
+        let own = Point::change(bind);
         forget_outcome(&mut self.rows, own);
         self.forget_root(own);
     }

@@ -19,10 +19,7 @@ use crate::wire::lacks_links;
 use crate::work::Work;
 use inc_value::{NodeId, Point};
 use node_arena::Arena;
-use node_outcomes::{
-    Progress, Stage, change_point, is_full, is_static, main_point, right_side, set_stage,
-    was_settled,
-};
+use node_outcomes::{Progress, Stage, is_full, is_static, right_side, set_stage, was_settled};
 use point_map::PointMap;
 
 impl Work {
@@ -102,7 +99,7 @@ impl Work {
         let Some(row) = arena.get(node) else {
             return;
         };
-        let own = change_point(node);
+        let own = Point::change(node);
         if self.is_attached(node)
             && !was_settled(&self.rows, own, self.round)
             && right_side(&self.rows, &self.roots, node, &row.def).is_some()
@@ -129,7 +126,7 @@ impl Work {
         let Some(bind) = row.scope else {
             return;
         };
-        if !was_settled(&self.rows, change_point(bind), self.round) {
+        if !was_settled(&self.rows, Point::change(bind), self.round) {
             self.put_back_node(arena, node, bind);
         }
     }
@@ -146,8 +143,8 @@ impl Work {
         ensures rows { (p : APoint) → (at self.new.rows p ≡ at self.old.rows p)
             ⊎ ((p.node ≡ node) × GoesBack arena.now self.old self.new p bind) }
     {
-        self.put_back(arena, main_point(node), bind);
-        self.put_back(arena, change_point(node), bind);
+        self.put_back(arena, Point::main(node), bind);
+        self.put_back(arena, Point::change(node), bind);
     }
 
     /// A needed point that has more links than that to its gate has that alone, for which it waits again. It is to be
@@ -165,7 +162,7 @@ impl Work {
     {
         let _ = arena;
         if self.graph.is_needed(p) && has_more_than_gate(&self.rows, p) {
-            let gate = change_point(bind);
+            let gate = Point::change(bind);
             self.schedule(gate);
             self.enqueue(p);
             set_stage(&mut self.rows, p, Stage::Gated);

@@ -28,9 +28,7 @@ use inc_terms::Def;
 use inc_value::{NodeId, Part, Point};
 use necessary_graph::NecessaryGraph;
 use node_arena::Arena;
-use node_outcomes::{
-    Progress, Stage, change_point, is_bare, is_gated, main_point, set_stage, was_settled,
-};
+use node_outcomes::{Progress, Stage, is_bare, is_gated, set_stage, was_settled};
 use point_map::PointMap;
 use std::alloc::AllocError;
 
@@ -121,7 +119,7 @@ impl Work {
         let Some(bind) = self.deaths.scope_of(p.node) else {
             return Ok(());
         };
-        let gate = change_point(bind);
+        let gate = Point::change(bind);
         if self.graph.reads(p, gate) {
             return Ok(());
         }
@@ -160,7 +158,7 @@ impl Work {
         ensures { GateAnswers arena.now self.old self.new p result }
     {
         set_stage(&mut self.rows, p, Stage::Gated);
-        if !self.connect(arena, p, change_point(bind))? {
+        if !self.connect(arena, p, Point::change(bind))? {
             return Ok(false);
         }
         Ok(self.passes_gate(arena, p, bind))
@@ -175,7 +173,7 @@ impl Work {
         ensures { AsksGate arena.now self.old self.new p bind result }
     {
         let _ = arena;
-        let gate = change_point(bind);
+        let gate = Point::change(bind);
         if was_settled(&self.rows, gate, self.round) {
             return true;
         }
@@ -202,7 +200,7 @@ impl Work {
             (Part::Main, Some(_)) => self.wire_pair(arena, p.node),
             (Part::Change, Some(subject)) => {
                 set_stage(&mut self.rows, p, Stage::Full);
-                let _on = self.connect(arena, p, main_point(subject))?;
+                let _on = self.connect(arena, p, Point::main(subject))?;
                 Ok(())
             }
             (Part::Change, None) => Ok(()),
@@ -221,7 +219,7 @@ impl Work {
         ensures { WireAnswers arena.now self.old self.new (Some (hand p (map main kids.now))) result }
     {
         for kid in kids {
-            if !self.connect(arena, p, main_point(*kid))? {
+            if !self.connect(arena, p, Point::main(*kid))? {
                 return Ok(());
             }
         }
@@ -237,9 +235,9 @@ impl Work {
         requires kept { IsKept arena.now self.old }
         ensures { WireAnswers arena.now self.old self.new (Some (hand (main node) [])) result }
     {
-        let own = change_point(node);
-        set_stage(&mut self.rows, main_point(node), Stage::Static);
-        if self.connect(arena, main_point(node), own)? {
+        let own = Point::change(node);
+        set_stage(&mut self.rows, Point::main(node), Stage::Static);
+        if self.connect(arena, Point::main(node), own)? {
             self.schedule(own);
         }
         Ok(())
@@ -253,7 +251,7 @@ impl Work {
         ensures rest { self.new ≡ record self.old { todo = self.new.todo } }
         ensures err { OnErr result (self.new.todo.items ≡ []) }
     {
-        match gather_gated(&self.graph, &self.rows, change_point(bind), &mut self.todo) {
+        match gather_gated(&self.graph, &self.rows, Point::change(bind), &mut self.todo) {
             Ok(()) => Ok(()),
             Err(AllocError) => {
                 self.todo.clear();

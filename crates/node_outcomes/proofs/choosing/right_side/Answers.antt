@@ -13,7 +13,7 @@ returns-in-Bind c =
     let rows = c.args.rows.now in
     let roots = c.args.roots.now in
     let node = c.args.node in
-    let own = c.change_point-own.ensures in
+    let own = c.change-own.ensures in
     let ran : outcome_in (at rows (change node)) ≡ Some c.in_ok-given.given.now =
     ap (λ (p : Point). outcome_in (at rows p)) (sym own) ∙ ap outcome_in (sym c.in_ok-get.ensures) ∙ sym c.in_ok-given.ensures.value in
     c.copied.ensures ∙ c.get-in-Bind.ensures ∙ ap (λ (p : Point). at roots p) own

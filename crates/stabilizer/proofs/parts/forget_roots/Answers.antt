@@ -9,5 +9,5 @@ returns c =
     let old = c.args.roots.now in
     let mid = c.forget_root.new.roots in
     let new = c.forget_root-2.new.roots in
-    both_gone old mid new c.args.node (subst (λ (p : Point). Changes old mid p None) c.main_point.ensures c.forget_root.ensures)
-    (subst (λ (p : Point). Changes mid new p None) c.change_point.ensures c.forget_root-2.ensures)
+    both_gone old mid new c.args.node (subst (λ (p : Point). Changes old mid p None) c.main.ensures c.forget_root.ensures)
+    (subst (λ (p : Point). Changes mid new p None) c.change.ensures c.forget_root-2.ensures)

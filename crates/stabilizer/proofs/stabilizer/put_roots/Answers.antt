@@ -19,7 +19,7 @@ pub loop-node-preserved : goal.loop-node-preserved
 loop-node-preserved c =
     one_put c.args.arena.now c.args.work.now c.loop-node.work c.put_root.new.self c.args.roots.now c.loop-node.node-index other c.loop-node-test.true
     c.loop-node.invariant
-    (subst (λ (p : Point). OneRootMore c.loop-node.work.graph.roots c.put_root.new.self.graph.roots p) c.main_point.ensures
+    (subst (λ (p : Point). OneRootMore c.loop-node.work.graph.roots c.put_root.new.self.graph.roots p) c.main.ensures
     c.in_ok-put_root.ensures.rooted)
     c.in_ok-put_root.ensures.wired c.in_ok-put_root.ensures.empty c.put_root.ensures.round c.put_root.ensures.kept
 
@@ -36,7 +36,7 @@ returns-in_err-put_root-clause-roots c =
     c.loop-node.node-index other
     c.loop-node-test.true c.loop-node.invariant.more
     (subst (λ (p : Point). (a : Point) → a ≢ p → root_times c.put_root.new.self.graph.roots a ≡ root_times c.loop-node.work.graph.roots a)
-    c.main_point.ensures
+    c.main.ensures
     c.put_root.ensures.others)
 
 pub returns-clause-roots : goal.returns-clause-roots

@@ -17,7 +17,7 @@ returns-in-Err-clause-refused g c =
     let old = c.args.parts.now in
     let mid = c.turn_change.new.parts in
     let n = c.args.node in
-    let marked = subst (λ (x : Point). IsMarked mid.work.graph c.schedule.new.self.graph x) c.change_point.ensures c.schedule.ensures.scheduled in
+    let marked = subst (λ (x : Point). IsMarked mid.work.graph c.schedule.new.self.graph x) c.change.ensures c.schedule.ensures.scheduled in
     left_again (meaning_of g.F.Functions c.args.functions.now) old mid n (counts_by g.F.Functions c.args.functions.now)
     (counts_by g.F.Functions c.turn_change.new.functions) c.schedule.new.self c.turn_change.ensures.stays.kept c.requires.taken.needed marked c.schedule.ensures.rest
     (g.F.Functions.right c.turn_change.new.functions) c.in-Err.refused c.in-Err.ensures.refused
@@ -61,7 +61,7 @@ returns-in-Err-clause-stays g c =
     let old = c.args.parts.now in
     let mid = c.turn_change.new.parts in
     let stays = c.turn_change.ensures.stays in
-    let marked = subst (λ (x : Point). IsMarked mid.work.graph c.schedule.new.self.graph x) c.change_point.ensures c.schedule.ensures.scheduled in
+    let marked = subst (λ (x : Point). IsMarked mid.work.graph c.schedule.new.self.graph x) c.change.ensures c.schedule.ensures.scheduled in
     let kept = again_kept (meaning_of g.F.Functions c.args.functions.now) old mid c.args.node (counts_by g.F.Functions c.args.functions.now)
     (counts_by g.F.Functions c.turn_change.new.functions) c.schedule.new.self stays.kept c.requires.taken.needed marked c.schedule.ensures.rest
     c.turn_change.ensures.there c.schedule.ensures.step in

@@ -51,7 +51,7 @@ pub returns-in-Ok-clause-settled : goal.returns-in-Ok-clause-settled
 returns-in-Ok-clause-settled g c =
     let old = c.args.parts.now.work in
     let mid : Work = record old { rows = c.compute-computed.new.rows; ran = c.compute-computed.new.ran } in
-    main_settled (functions_of g.F.Functions c.args.functions.now) c.args.parts.now.arena old mid c.settle.new.self c.args.node c.main_point.result c.main_point.ensures c.in-Ok.outcome
+    main_settled (functions_of g.F.Functions c.args.functions.now) c.args.parts.now.arena old mid c.settle.new.self c.args.node c.main.result c.main.ensures c.in-Ok.outcome
     (counts_by g.F.Functions c.args.functions.now) (counts_by g.F.Functions c.compute-computed.new.functions) c.requires.may.kept.work c.requires.taken
     (only_noted old c.compute-computed.new.rows c.compute-computed.new.ran)
     c.in-Ok.ensures.computed (one_tally _ _ _ _ c.compute-computed.ensures.functions.tally)
@@ -62,7 +62,7 @@ returns-in-Ok-clause-kept g c =
     let old = c.args.parts.now.work in
     let mid : Work = record old { rows = c.compute-computed.new.rows; ran = c.compute-computed.new.ran } in
     record {
-      work = main_kept (functions_of g.F.Functions c.args.functions.now) c.args.parts.now.arena old mid c.settle.new.self c.args.node c.main_point.result c.main_point.ensures c.in-Ok.outcome
+      work = main_kept (functions_of g.F.Functions c.args.functions.now) c.args.parts.now.arena old mid c.settle.new.self c.args.node c.main.result c.main.ensures c.in-Ok.outcome
           (counts_by g.F.Functions c.args.functions.now) (counts_by g.F.Functions c.compute-computed.new.functions) c.requires.may.kept.work c.requires.taken
           (only_noted old c.compute-computed.new.rows c.compute-computed.new.ran)
           c.in-Ok.ensures.computed (one_tally _ _ _ _ c.compute-computed.ensures.functions.tally)

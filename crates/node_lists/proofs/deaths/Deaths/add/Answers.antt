@@ -8,7 +8,7 @@ use Rattle.node_lists.proofs.deaths.Deaths.add.Goals as goal
 pub invariant_of-self : goal.invariant_of-self
 invariant_of-self c =
     let changes : Changes c.self.inside.scopes c.insert.new.self (main c.args.node) (Some c.args.scope)
-    = subst (λ p. Changes c.self.inside.scopes c.insert.new.self p (Some c.args.scope)) c.main_point.ensures c.insert.ensures.changes in
+    = subst (λ p. Changes c.self.inside.scopes c.insert.new.self p (Some c.args.scope)) c.main.ensures c.insert.ensures.changes in
     let absent : at c.self.inside.scopes (main c.args.node) ≡ None
     = subst (λ (d : Deaths). at d.scopes (main c.args.node) ≡ None) (sym c.self.view_is) c.requires.absent in
     subst (λ ns. IsTold ns c.insert.new.self) (sym c.push_reserved.ensures.items)

@@ -10,7 +10,7 @@ remove-scope-requires c =
     let told : IsTold (c.pop.new.self.items ++ c.in_ok-node.node ∷ []) c.self.inside.scopes
     = subst (λ ns. IsTold ns c.self.inside.scopes) c.in_ok-node.ensures.items c.self.invariant in
     record {
-      there = subst (λ p. Holds c.self.inside.scopes p) (sym c.main_point.ensures)
+      there = subst (λ p. Holds c.self.inside.scopes p) (sym c.main.ensures)
           (last_told c.pop.new.self.items c.in_ok-node.node c.self.inside.scopes told);
     }
 
@@ -19,7 +19,7 @@ invariant_of-self-2 c =
     let told : IsTold (c.pop.new.self.items ++ c.in_ok-node.node ∷ []) c.self.inside.scopes
     = subst (λ ns. IsTold ns c.self.inside.scopes) c.in_ok-node.ensures.items c.self.invariant in
     let changes : Changes c.self.inside.scopes c.remove-scope.new.self (main c.in_ok-node.node) None
-    = subst (λ p. Changes c.self.inside.scopes c.remove-scope.new.self p None) c.main_point.ensures c.remove-scope.ensures.changes in
+    = subst (λ p. Changes c.self.inside.scopes c.remove-scope.new.self p None) c.main.ensures c.remove-scope.ensures.changes in
     told_popped c.pop.new.self.items c.in_ok-node.node c.self.inside.scopes c.remove-scope.new.self told changes
 
 pub returns-clause-told : goal.returns-clause-told

@@ -34,7 +34,7 @@ pub insert-requires-clause-absent : goal.insert-requires-clause-absent
 insert-requires-clause-absent g c =
     let n = change c.args.bind in
     let roots = c.build.new.self.work.roots in
-    subst (λ (p : Point). at roots p ≡ None) (sym c.change_point.ensures)
+    subst (λ (p : Point). at roots p ≡ None) (sym c.change.ensures)
     (ap (λ (m : Rows NodeId). at m n) c.build.ensures.built.grew.round.roots ∙ (c.reserve.ensures.rows n ∙ c.requires.rootless))
 
 pub returns-in_err-root-clause-refused : goal.returns-in_err-root-clause-refused
@@ -58,7 +58,7 @@ returns-clause-root g c =
       is_root = c.in_ok-root.ensures.root;
       gives = c.in_ok-root.ensures.gives;
       roots = c.insert.new.self;
-      put = subst (λ (p : _). Changes c.build.new.self.work.roots c.insert.new.self p (Some c.in_ok-root.root)) c.change_point.ensures
+      put = subst (λ (p : _). Changes c.build.new.self.work.roots c.insert.new.self p (Some c.in_ok-root.root)) c.change.ensures
           c.insert.ensures.changes;
       rest = refl;
     }

@@ -7,15 +7,15 @@ use Rattle.stabilizer.proofs.parts.Parts.put_to_gate.Goals as goal
 
 module _ (c : goal.After-keep_gate-in-Some) where
   first : KeepsGate c.put_back_node.new.self c.keep_gate.new.self.work (main c.args.node) (change c.in-Some.scope)
-  first = subst (λ (x : Point). KeepsGate c.put_back_node.new.self c.keep_gate.new.self.work x (change c.in-Some.scope)) c.main_point.ensures
-      (subst (λ (x : Point). KeepsGate c.put_back_node.new.self c.keep_gate.new.self.work c.main_point.result x) c.change_point.ensures
+  first = subst (λ (x : Point). KeepsGate c.put_back_node.new.self c.keep_gate.new.self.work x (change c.in-Some.scope)) c.main.ensures
+      (subst (λ (x : Point). KeepsGate c.put_back_node.new.self c.keep_gate.new.self.work c.main.result x) c.change.ensures
       c.keep_gate.ensures.gate)
 
   last : KeepsGate c.keep_gate.new.self.work c.keep_gate-in-Some.new.self.work (change c.args.node) (change c.in-Some.scope)
   last = subst (λ (x : Point). KeepsGate c.keep_gate.new.self.work c.keep_gate-in-Some.new.self.work x (change c.in-Some.scope))
-      c.change_point-in-Some.ensures
-      (subst (λ (x : Point). KeepsGate c.keep_gate.new.self.work c.keep_gate-in-Some.new.self.work c.change_point-in-Some.result x)
-      c.change_point-in-Some-2.ensures c.keep_gate-in-Some.ensures.gate)
+      c.change-in-Some.ensures
+      (subst (λ (x : Point). KeepsGate c.keep_gate.new.self.work c.keep_gate-in-Some.new.self.work c.change-in-Some.result x)
+      c.change-in-Some-2.ensures c.keep_gate-in-Some.ensures.gate)
 
 pub returns-in-Some-clause-put : goal.returns-in-Some-clause-put
 returns-in-Some-clause-put c =

@@ -14,7 +14,7 @@ module _ (c : goal.After-set_cutoff) where
   new = record old { work = record old.work { rows = c.set_cutoff.new.rows } }
 
   cut : IsRewritten old.work.rows c.set_cutoff.new.rows (main c.args.id) (with_cutoff c.args.cutoff)
-  cut = subst (λ (p : Point). IsRewritten old.work.rows c.set_cutoff.new.rows p (with_cutoff c.args.cutoff)) c.main_point-p.ensures
+  cut = subst (λ (p : Point). IsRewritten old.work.rows c.set_cutoff.new.rows p (with_cutoff c.args.cutoff)) c.main-p.ensures
       c.set_cutoff.ensures
 
 pub returns-then-holds-clause-kept : goal.returns-then-holds-clause-kept

@@ -24,7 +24,7 @@ module _ (c : goal.After-schedule) where
   rest = ap (λ (w : Work). record old { arena = c.set_var.new.self; work = w }) c.schedule.ensures.rest
 
   marked : IsMarked old.work.graph c.schedule.new.self.graph (main c.args.id)
-  marked = subst (λ (p : Point). IsMarked old.work.graph c.schedule.new.self.graph p) c.main_point.ensures c.schedule.ensures.scheduled
+  marked = subst (λ (p : Point). IsMarked old.work.graph c.schedule.new.self.graph p) c.main.ensures c.schedule.ensures.scheduled
 
   not_other : (IsVariable old.arena c.args.id → ⊥) → ⊥
   not_other isnt = absurd (

@@ -19,7 +19,7 @@ module _ (c : goal.After-root_off) where
   rest = ap (λ (w : Work). record old { work = w }) c.root_off.ensures.rest
 
   off : IsUnrooted (rowless old.work) old.work.graph c.root_off.new.self.graph (main c.args.id)
-  off = subst (λ (p : Point). IsUnrooted (rowless old.work) old.work.graph c.root_off.new.self.graph p) c.main_point.ensures
+  off = subst (λ (p : Point). IsUnrooted (rowless old.work) old.work.graph c.root_off.new.self.graph p) c.main.ensures
       c.root_off.ensures.unrooted
 
 pub returns : goal.returns

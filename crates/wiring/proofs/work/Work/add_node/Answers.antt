@@ -13,7 +13,7 @@ returns-in-None-clause-added c = on_ok_weaker c.add.result (λ added. (
   λ part. c.height_over-height-in-None.result,
   one_point c.args.self.now.graph.heights c.add.new.self.graph.heights c.args.node (def_of c.args.def.now) c.height_over-height-in-None.result
       (sym c.subject.ensures ∙ c.in-None.is)
-      (subst (λ (p : Point). Changes c.args.self.now.graph.heights c.add.new.self.graph.heights p (Some c.height_over-height-in-None.result)) c.main_point.ensures added)
+      (subst (λ (p : Point). Changes c.args.self.now.graph.heights c.add.new.self.graph.heights p (Some c.height_over-height-in-None.result)) c.main.ensures added)
       c.requires.no_change.0,
 )) c.add.ensures.added
 

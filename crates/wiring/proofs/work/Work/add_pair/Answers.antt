@@ -19,7 +19,7 @@ drop_point-requires-clause-unneeded c need =
     let was : Needed c.args.self.now.graph (change c.args.node) =
     need_same c.add-2.new.self.graph c.args.self.now.graph (sym (c.add-2.ensures.stays.links ∙ c.add.ensures.stays.links))
     (sym (c.add-2.ensures.stays.roots ∙ c.add.ensures.stays.roots)) (change c.args.node)
-    (subst (λ (p : Point). Needed c.add-2.new.self.graph p) c.change_point-in-Err.ensures need) in
+    (subst (λ (p : Point). Needed c.add-2.new.self.graph p) c.change-in-Err.ensures need) in
     absurd (let there = sym (c.requires.step.there (change c.args.node) was) ∙ ap is_some c.requires.no_change.0 in cc)
 
 pub returns-in-Ok-clause-added : goal.returns-in-Ok-clause-added
@@ -28,19 +28,19 @@ returns-in-Ok-clause-added c =
     let mid = c.add.new.self.graph.heights in (
       by_part c.min.result c.args.height,
       both_points old mid c.add-2.new.self.graph.heights c.args.node c.min.result c.args.height
-          (subst (λ (p : Point). Changes old mid p (Some c.args.height)) c.change_point.ensures c.in_ok-add.ensures.added)
-          (subst (λ (p : Point). Changes mid c.add-2.new.self.graph.heights p (Some c.min.result)) c.main_point.ensures c.in-Ok.ensures.added),
+          (subst (λ (p : Point). Changes old mid p (Some c.args.height)) c.change.ensures c.in_ok-add.ensures.added)
+          (subst (λ (p : Point). Changes mid c.add-2.new.self.graph.heights p (Some c.min.result)) c.main.ensures c.in-Ok.ensures.added),
     )
 
 pub returns-in-Err-clause-err : goal.returns-in-Err-clause-err
 returns-in-Err-clause-err c =
     on_and_off c.args.self.now.rows c.add.new.self.rows c.add-2.new.self.rows c.drop_point.new.self.rows (change c.args.node) _ _ _
-    c.change_point.ensures c.change_point-in-Err.ensures c.requires.no_change.1 c.in_ok-add.ensures.row c.in-Err.ensures.err c.drop_point.ensures.row
+    c.change.ensures c.change-in-Err.ensures c.requires.no_change.1 c.in_ok-add.ensures.row c.in-Err.ensures.err c.drop_point.ensures.row
 
 pub returns-in-Err-clause-err_heights : goal.returns-in-Err-clause-err_heights
 returns-in-Err-clause-err_heights c =
     on_and_off c.args.self.now.graph.heights c.add.new.self.graph.heights c.add-2.new.self.graph.heights c.drop_point.new.self.graph.heights
-    (change c.args.node) _ _ _ c.change_point.ensures c.change_point-in-Err.ensures c.requires.no_change.0 c.in_ok-add.ensures.added
+    (change c.args.node) _ _ _ c.change.ensures c.change-in-Err.ensures c.requires.no_change.0 c.in_ok-add.ensures.added
     c.in-Err.ensures.err_heights c.drop_point.ensures.dropped
 
 pub returns-in-Ok-clause-pairs : goal.returns-in-Ok-clause-pairs
@@ -60,8 +60,8 @@ returns-in-Ok-clause-rows c =
     let mid = c.add.new.self.rows in
     let new = c.add-2.new.self.rows in
     both_rows old mid new c.args.node unsettled
-    (subst (λ (p : Point). Changes old mid p (Some unsettled)) c.change_point.ensures c.in_ok-add.ensures.row)
-    (subst (λ (p : Point). Changes mid new p (Some unsettled)) c.main_point.ensures c.in-Ok.ensures.row)
+    (subst (λ (p : Point). Changes old mid p (Some unsettled)) c.change.ensures c.in_ok-add.ensures.row)
+    (subst (λ (p : Point). Changes mid new p (Some unsettled)) c.main.ensures c.in-Ok.ensures.row)
 
 -- without memory no node is listed
 

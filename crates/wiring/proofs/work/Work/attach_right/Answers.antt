@@ -51,7 +51,7 @@ module _ (c : After-right_side) where
   mid = record c.args.self.now { rows = c.set_stage.new.rows }
 
   was : WasRaised c.args.arena.now c.args.node r c.args.self.now c.set_stage.new.rows
-  was = was_raised c.args.arena.now c.args.node c.args.self.now c.set_stage.new.rows c.main_point-p.result r c.main_point-p.ensures c.requires.row
+  was = was_raised c.args.arena.now c.args.node c.args.self.now c.set_stage.new.rows c.main-p.result r c.main-p.ensures c.requires.row
       c.in-Some.ensures c.requires.kept c.requires.settled (c.is_waiting.ensures.0 c.if-not-is_waiting.false) c.set_stage.ensures
 
   kept : IsKept c.args.arena.now mid
@@ -68,13 +68,13 @@ pub connect-requires-clause-kept : goal.connect-requires-clause-kept
 connect-requires-clause-kept c = kept (goal.at.connect-requires-clause-kept c).After-right_side
 
 pub connect-requires-clause-reader : goal.connect-requires-clause-reader
-connect-requires-clause-reader c = subst (λ (x : Point). MayRead (mid (goal.at.connect-requires-clause-reader c).After-right_side) x c.main_point.result) (sym c.main_point-p.ensures)
+connect-requires-clause-reader c = subst (λ (x : Point). MayRead (mid (goal.at.connect-requires-clause-reader c).After-right_side) x c.main.result) (sym c.main-p.ensures)
     (inl (stage_rowed c.set_stage.new.rows (main c.args.node) code.Full (full (goal.at.connect-requires-clause-reader c).After-right_side)))
 
 pub connect-requires-clause-target : goal.connect-requires-clause-target
 connect-requires-clause-target c =
     let m = c.in-Some-right_side.target in
-    subst (λ (x : Point). IsTarget c.args.arena.now (mid (goal.at.connect-requires-clause-target c).After-right_side) x) (sym c.main_point.ensures)
+    subst (λ (x : Point). IsTarget c.args.arena.now (mid (goal.at.connect-requires-clause-target c).After-right_side) x) (sym c.main.ensures)
     (main_is_target c.args.arena.now (mid (goal.at.connect-requires-clause-target c).After-right_side) (main m) (kept (goal.at.connect-requires-clause-target c).After-right_side)
     (right_given c.args.arena.now c.args.node (r (goal.at.connect-requires-clause-target c).After-right_side) c.args.self.now c.set_stage.new.rows (was (goal.at.connect-requires-clause-target c).After-right_side) m (told (goal.at.connect-requires-clause-target c).After-right_side ∙ c.in-Some-right_side.is)) refl)
 
@@ -84,7 +84,7 @@ returns-in_err-_on-clause-refused c =
     let con = c.connect.new.self in
     if_refusal (AttachRefused c.args.arena.now c.args.self.now con c.args.node) e c.from_residual.result c.from_residual.ensures.1
     (right_refused c.args.arena.now c.args.node (r (goal.at.returns-in_err-_on-clause-refused c).After-right_side) c.args.self.now c.set_stage.new.rows (was (goal.at.returns-in_err-_on-clause-refused c).After-right_side) c.in-Some-right_side.target
-    (told (goal.at.returns-in_err-_on-clause-refused c).After-right_side ∙ c.in-Some-right_side.is) con e (rw (c.main_point-p.ensures, c.main_point.ensures) at c.in_err-_on.ensures.refused))
+    (told (goal.at.returns-in_err-_on-clause-refused c).After-right_side ∙ c.in-Some-right_side.is) con e (rw (c.main-p.ensures, c.main.ensures) at c.in_err-_on.ensures.refused))
 
 pub returns-clause-kept : goal.returns-clause-kept
 returns-clause-kept c = elim c.match-right_side.branch [
@@ -106,9 +106,9 @@ returns-clause-attached c =
           let so = b.in_ok-_on.ensures in
           subst (λ (x : Work). Attaches arena old x n) (sym b.self-is)
           (by_answer b.in_ok-_on._on
-          (λ t. right_on arena n (r (goal.at.returns-clause-attached c).After-right_side) old rows (was (goal.at.returns-clause-attached c).After-right_side) m right con (rw (c.main_point-p.ensures, b.main_point.ensures) at (so.linked t))
-          (rw c.main_point-p.ensures at (so.row t)))
-          (λ f. right_gone arena n (r (goal.at.returns-clause-attached c).After-right_side) old rows (was (goal.at.returns-clause-attached c).After-right_side) m right con (rw (c.main_point-p.ensures, b.main_point.ensures) at (so.gone f).0)))
+          (λ t. right_on arena n (r (goal.at.returns-clause-attached c).After-right_side) old rows (was (goal.at.returns-clause-attached c).After-right_side) m right con (rw (c.main-p.ensures, b.main.ensures) at (so.linked t))
+          (rw c.main-p.ensures at (so.row t)))
+          (λ f. right_gone arena n (r (goal.at.returns-clause-attached c).After-right_side) old rows (was (goal.at.returns-clause-attached c).After-right_side) m right con (rw (c.main-p.ensures, b.main.ensures) at (so.gone f).0)))
       | in_default-right_side b ↦
           subst (λ (x : Work). Attaches arena old x n) (sym b.self-is)
           (none_attached arena n (r (goal.at.returns-clause-attached c).After-right_side) old rows (was (goal.at.returns-clause-attached c).After-right_side) (told (goal.at.returns-clause-attached c).After-right_side ∙ is_none c.right_side.result b.in_default-right_side.not-Some))
@@ -125,7 +125,7 @@ returns-clause-full c =
           let on = b.in_ok-_on.ensures in
           subst (λ (x : Work). IsWaiting old n → (stage_in (at x.rows (main n)) ≡ Some code.Full) ⊎ (x.retries < old.retries)) (sym b.self-is)
           (λ waiting. by_answer b.in_ok-_on._on
-          (λ t. inl (ap stage_in (subst (λ (x : Point). at con.rows x ≡ at rows x) c.main_point-p.ensures (on.row t)) ∙ full (goal.at.returns-clause-full c).After-right_side))
+          (λ t. inl (ap stage_in (subst (λ (x : Point). at con.rows x ≡ at rows x) c.main-p.ensures (on.row t)) ∙ full (goal.at.returns-clause-full c).After-right_side))
           (λ f. inr (on.gone f).1))
       | in_default-right_side b ↦
           subst (λ (x : Work). IsWaiting old n → (stage_in (at x.rows (main n)) ≡ Some code.Full) ⊎ (x.retries < old.retries)) (sym b.self-is)

@@ -20,7 +20,7 @@ connect-requires-clause-reader c =
     inl (ap is_some c.loop-kid.invariant.row ∙ stage_rowed c.args.self.now.rows c.args.p code.Full c.requires.full)
 
 pub connect-requires-clause-target : goal.connect-requires-clause-target
-connect-requires-clause-target c = subst (λ (x : Point). IsTarget c.args.arena.now c.loop-kid.self x) (sym c.main_point.ensures)
+connect-requires-clause-target c = subst (λ (x : Point). IsTarget c.args.arena.now c.loop-kid.self x) (sym c.main.ensures)
     (main_is_target c.args.arena.now c.loop-kid.self _ c.loop-kid.invariant.kept
     (c.requires.given _ (id_among c.args.kids.now c.loop-kid.kid-index _ c.loop-kid-test.true)) refl)
 
@@ -43,25 +43,25 @@ module _ (c : After-connect) where
   abbrev r : Row
   r = c.requires.row.0
 
-  next : IsNext c.args.arena.now c.args.self.now c.loop-kid.self c.args.p r all c.main_point.result rest
-  next = next_kid c.args.arena.now c.args.self.now c.loop-kid.self c.args.p r c.args.kids.now c.loop-kid.kid-index _ c.main_point.result
-      c.requires.row.2 c.main_point.ensures c.loop-kid-test.true c.loop-kid.invariant
+  next : IsNext c.args.arena.now c.args.self.now c.loop-kid.self c.args.p r all c.main.result rest
+  next = next_kid c.args.arena.now c.args.self.now c.loop-kid.self c.args.p r c.args.kids.now c.loop-kid.kid-index _ c.main.result
+      c.requires.row.2 c.main.ensures c.loop-kid-test.true c.loop-kid.invariant
 
 pub returns-in_err-connect : goal.returns-in_err-connect
 returns-in_err-connect c =
     kid_refused c.args.arena.now c.args.p c.requires.main (r (goal.at.returns-in_err-connect c).After-connect) c.requires.row.1 c.requires.row.3 c.args.self.now c.loop-kid.self c.requires.ran (rest (goal.at.returns-in_err-connect c).After-connect)
-    (all (goal.at.returns-in_err-connect c).After-connect) c.main_point.result (next (goal.at.returns-in_err-connect c).After-connect).among (next (goal.at.returns-in_err-connect c).After-connect).handed c.connect.new.self c.from_residual.result c.in_err-connect.field-0.0
+    (all (goal.at.returns-in_err-connect c).After-connect) c.main.result (next (goal.at.returns-in_err-connect c).After-connect).among (next (goal.at.returns-in_err-connect c).After-connect).handed c.connect.new.self c.from_residual.result c.in_err-connect.field-0.0
     c.from_residual.ensures.1 c.in_err-connect.ensures
 
 pub returns-then-not-branch : goal.returns-then-not-branch
 returns-then-not-branch c =
     kid_gone c.args.arena.now c.args.p c.requires.main (r (goal.at.returns-then-not-branch c).After-connect) c.requires.row.1 c.requires.row.3 c.args.self.now c.loop-kid.self c.requires.ran (rest (goal.at.returns-then-not-branch c).After-connect)
-    (all (goal.at.returns-then-not-branch c).After-connect) c.main_point.result (next (goal.at.returns-then-not-branch c).After-connect).among (next (goal.at.returns-then-not-branch c).After-connect).handed c.connect.new.self c.in_ok-connect.ensures _ c.if-not-branch.true
+    (all (goal.at.returns-then-not-branch c).After-connect) c.main.result (next (goal.at.returns-then-not-branch c).After-connect).among (next (goal.at.returns-then-not-branch c).After-connect).handed c.connect.new.self c.in_ok-connect.ensures _ c.if-not-branch.true
 
 pub loop-kid-preserved : goal.loop-kid-preserved
 loop-kid-preserved c =
     kid_on c.args.arena.now c.args.p c.requires.main (r (goal.at.loop-kid-preserved c).After-connect) c.requires.row.1 c.requires.row.3 c.args.self.now c.loop-kid.self c.requires.ran (rest (goal.at.loop-kid-preserved c).After-connect)
-    (all (goal.at.loop-kid-preserved c).After-connect) c.main_point.result (next (goal.at.loop-kid-preserved c).After-connect).among (next (goal.at.loop-kid-preserved c).After-connect).handed c.connect.new.self c.in_ok-connect.ensures c.if-not-branch.false
+    (all (goal.at.loop-kid-preserved c).After-connect) c.main.result (next (goal.at.loop-kid-preserved c).After-connect).among (next (goal.at.loop-kid-preserved c).After-connect).handed c.connect.new.self c.in_ok-connect.ensures c.if-not-branch.false
 
 -- ---- all are on
 

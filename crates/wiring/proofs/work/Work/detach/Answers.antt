@@ -4,7 +4,7 @@ use Rattle.wiring.proofs.work.Work.detach.Goals as goal
 
 pub returns-then-is_attached-clause-detached : goal.returns-then-is_attached-clause-detached
 returns-then-is_attached-clause-detached c =
-    let marked = entered_change c.args.self.now.graph c.insert.new.self c.args.node c.change_point.result c.change_point.ensures c.requires.step
+    let marked = entered_change c.args.self.now.graph c.insert.new.self c.args.node c.change.result c.change.ensures c.requires.step
     c.requires.needed c.insert.ensures.inserted c.insert.ensures.rest in
     record {
       mid = record c.args.self.now { graph = c.insert.new.self };
@@ -23,7 +23,7 @@ returns-then-is_attached-clause-rest c =
 
 pub returns-else-is_attached-clause-detached : goal.returns-else-is_attached-clause-detached
 returns-else-is_attached-clause-detached c =
-    let marked = entered_change c.args.self.now.graph c.insert.new.self c.args.node c.change_point.result c.change_point.ensures c.requires.step
+    let marked = entered_change c.args.self.now.graph c.insert.new.self c.args.node c.change.result c.change.ensures c.requires.step
     c.requires.needed c.insert.ensures.inserted c.insert.ensures.rest in
     record {
       mid = record c.args.self.now { graph = c.insert.new.self };

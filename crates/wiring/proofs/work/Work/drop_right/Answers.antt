@@ -15,38 +15,38 @@ use Rattle.wiring.proofs.work.Work.drop_right.Goals as goal
 pub returns-then-reads-clause-detached : goal.returns-then-reads-clause-detached
 returns-then-reads-clause-detached c =
     let enq : IsEnqueued c.args.self.now c.enqueue.new.self (main c.args.node) =
-    subst (λ (x : Point). IsEnqueued c.args.self.now c.enqueue.new.self x) c.main_point-p.ensures c.enqueue.ensures.enqueued in
+    subst (λ (x : Point). IsEnqueued c.args.self.now c.enqueue.new.self x) c.main-p.ensures c.enqueue.ensures.enqueued in
     let rows : IsRewritten c.enqueue.new.self.rows c.set_stage.new.rows (main c.args.node) (with_stage Static) =
-    subst (λ (x : Point). IsRewritten c.enqueue.new.self.rows c.set_stage.new.rows x (with_stage Static)) c.main_point-p.ensures c.set_stage.ensures in
+    subst (λ (x : Point). IsRewritten c.enqueue.new.self.rows c.set_stage.new.rows x (with_stage Static)) c.main-p.ensures c.set_stage.ensures in
     let third : Work = record c.enqueue.new.self { rows = c.set_stage.new.rows } in
     detached_off c.args.self.now c.enqueue.new.self c.unlink.new.self c.set_stage.new.rows c.args.node c.in-Some.target (def_of c.args.def.now)
     enq c.enqueue.ensures.rest rows c.unlink.ensures.rest (sym c.in-Some.is ∙ c.right_side.ensures)
-    (subst (λ (x : Point). IsUnlinked (rowless third) c.enqueue.new.self.graph c.unlink.new.self.graph x (main c.in-Some.target)) c.main_point-p.ensures
-    (subst (λ (y : Point). IsUnlinked (rowless third) c.enqueue.new.self.graph c.unlink.new.self.graph c.main_point-p.result y) c.main_point-q.ensures
+    (subst (λ (x : Point). IsUnlinked (rowless third) c.enqueue.new.self.graph c.unlink.new.self.graph x (main c.in-Some.target)) c.main-p.ensures
+    (subst (λ (y : Point). IsUnlinked (rowless third) c.enqueue.new.self.graph c.unlink.new.self.graph c.main-p.result y) c.main-q.ensures
     c.unlink.ensures.unlinked))
 
 pub returns-else-reads-clause-detached : goal.returns-else-reads-clause-detached
 returns-else-reads-clause-detached c =
     let enq : IsEnqueued c.args.self.now c.enqueue.new.self (main c.args.node) =
-    subst (λ (x : Point). IsEnqueued c.args.self.now c.enqueue.new.self x) c.main_point-p.ensures c.enqueue.ensures.enqueued in
+    subst (λ (x : Point). IsEnqueued c.args.self.now c.enqueue.new.self x) c.main-p.ensures c.enqueue.ensures.enqueued in
     let rows : IsRewritten c.enqueue.new.self.rows c.set_stage.new.rows (main c.args.node) (with_stage Static) =
-    subst (λ (x : Point). IsRewritten c.enqueue.new.self.rows c.set_stage.new.rows x (with_stage Static)) c.main_point-p.ensures c.set_stage.ensures in
+    subst (λ (x : Point). IsRewritten c.enqueue.new.self.rows c.set_stage.new.rows x (with_stage Static)) c.main-p.ensures c.set_stage.ensures in
     detached c.args.self.now c.enqueue.new.self _ c.args.node (def_of c.args.def.now) (Some c.in-Some.target)
     enq c.enqueue.ensures.rest rows refl (sym c.in-Some.is ∙ c.right_side.ensures)
     (inr (
       refl,
       λ reads. absurd (
-          let r : Reads c.enqueue.new.self.graph.links c.main_point-p.result c.main_point-q.result =
-          subst (λ (x : Point). Reads c.enqueue.new.self.graph.links x c.main_point-q.result) (sym c.main_point-p.ensures)
-          (subst (λ (y : Point). Reads c.enqueue.new.self.graph.links (main c.args.node) y) (sym c.main_point-q.ensures) reads) in
+          let r : Reads c.enqueue.new.self.graph.links c.main-p.result c.main-q.result =
+          subst (λ (x : Point). Reads c.enqueue.new.self.graph.links x c.main-q.result) (sym c.main-p.ensures)
+          (subst (λ (y : Point). Reads c.enqueue.new.self.graph.links (main c.args.node) y) (sym c.main-q.ensures) reads) in
           let t = c.if-reads.ensures.1 r in cc),
     ))
 
 pub returns-in_default-clause-detached : goal.returns-in_default-clause-detached
 returns-in_default-clause-detached c =
     let enq : IsEnqueued c.args.self.now c.enqueue.new.self (main c.args.node) =
-    subst (λ (x : Point). IsEnqueued c.args.self.now c.enqueue.new.self x) c.main_point-p.ensures c.enqueue.ensures.enqueued in
+    subst (λ (x : Point). IsEnqueued c.args.self.now c.enqueue.new.self x) c.main-p.ensures c.enqueue.ensures.enqueued in
     let rows : IsRewritten c.enqueue.new.self.rows c.set_stage.new.rows (main c.args.node) (with_stage Static) =
-    subst (λ (x : Point). IsRewritten c.enqueue.new.self.rows c.set_stage.new.rows x (with_stage Static)) c.main_point-p.ensures c.set_stage.ensures in
+    subst (λ (x : Point). IsRewritten c.enqueue.new.self.rows c.set_stage.new.rows x (with_stage Static)) c.main-p.ensures c.set_stage.ensures in
     detached c.args.self.now c.enqueue.new.self _ c.args.node (def_of c.args.def.now) c.right_side.result
     enq c.enqueue.ensures.rest rows refl c.right_side.ensures (off_none _ c.enqueue.new.self.graph c.args.node c.right_side.result c.in_default.not-Some)

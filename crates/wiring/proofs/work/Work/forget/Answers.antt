@@ -15,12 +15,12 @@ forget_point-requires-then-holds-clause-there c =
     let told = c.tell_survivors.new.self in
     let gone = c.forget_point.new.self in
     let first = c.tell_survivors.ensures.rest in
-    let t : AreTold old told (main n) = subst (λ (x : Point). AreTold old told x) c.main_point.ensures c.tell_survivors.ensures.told in
-    let b : IsPointForgotten told gone (main n) = subst (λ (x : Point). IsPointForgotten told gone x) c.main_point-2.ensures c.forget_point.ensures.forgotten in
-    let there : Holds gone.rows (change n) = subst (λ (x : Point). Holds gone.rows x) c.change_point-own.ensures (sym c.holds.ensures ∙ c.if-holds.true) in
+    let t : AreTold old told (main n) = subst (λ (x : Point). AreTold old told x) c.main.ensures c.tell_survivors.ensures.told in
+    let b : IsPointForgotten told gone (main n) = subst (λ (x : Point). IsPointForgotten told gone x) c.main-2.ensures c.forget_point.ensures.forgotten in
+    let there : Holds gone.rows (change n) = subst (λ (x : Point). Holds gone.rows x) c.change-own.ensures (sym c.holds.ensures ∙ c.if-holds.true) in
     let row : Holds old.rows (change n) = sym (ap is_some (row_before old told gone n (told_rows old told first) b)) ∙ there in
     let height : Holds gone.graph.heights (change n) = ap is_some (height_before old told gone n t b) ∙ c.requires.change row in
-    subst (λ (x : Point). Holds gone.graph.heights x) (sym c.change_point-own.ensures) height
+    subst (λ (x : Point). Holds gone.graph.heights x) (sym c.change-own.ensures) height
 
 pub returns-then-holds-clause-forgotten : goal.returns-then-holds-clause-forgotten
 returns-then-holds-clause-forgotten c =
@@ -35,12 +35,12 @@ returns-then-holds-clause-forgotten c =
     let second = c.forget_point.ensures.rest in
     let third = c.forget_point-then-holds.ensures.rest in
     let fourth = c.forget_root.ensures.rest in
-    let t : AreTold old told (main n) = subst (λ (x : Point). AreTold old told x) c.main_point.ensures c.tell_survivors.ensures.told in
-    let b : IsPointForgotten told gone (main n) = subst (λ (x : Point). IsPointForgotten told gone x) c.main_point-2.ensures c.forget_point.ensures.forgotten in
+    let t : AreTold old told (main n) = subst (λ (x : Point). AreTold old told x) c.main.ensures c.tell_survivors.ensures.told in
+    let b : IsPointForgotten told gone (main n) = subst (λ (x : Point). IsPointForgotten told gone x) c.main-2.ensures c.forget_point.ensures.forgotten in
     let k : IsPointForgotten (record gone { scoped = scoped }) last (change n) =
-    subst (λ (x : Point). IsPointForgotten (record gone { scoped = scoped }) last x) c.change_point-own.ensures c.forget_point-then-holds.ensures.forgotten in
-    let there : Holds gone.rows (change n) = subst (λ (x : Point). Holds gone.rows x) c.change_point-own.ensures (sym c.holds.ensures ∙ c.if-holds.true) in
-    let roots = subst (λ (x : Point). Changes last.roots rootless.roots x None) c.change_point-own.ensures c.forget_root.ensures.root in
+    subst (λ (x : Point). IsPointForgotten (record gone { scoped = scoped }) last x) c.change-own.ensures c.forget_point-then-holds.ensures.forgotten in
+    let there : Holds gone.rows (change n) = subst (λ (x : Point). Holds gone.rows x) c.change-own.ensures (sym c.holds.ensures ∙ c.if-holds.true) in
+    let roots = subst (λ (x : Point). Changes last.roots rootless.roots x None) c.change-own.ensures c.forget_root.ensures.root in
     forgotten_both old told gone n c.requires.died t (told_rows old told first) b scoped last rootless
     (last_graph old told gone first second scoped c.count_dead.ensures.nodes last rootless third fourth)
     (last_rows old told gone first second scoped c.count_dead.ensures.nodes last rootless third fourth) k c.count_dead-then-holds.new.self
@@ -58,9 +58,9 @@ returns-else-holds-clause-forgotten c =
     let scoped = c.count_dead.new.self in
     let first = c.tell_survivors.ensures.rest in
     let second = c.forget_point.ensures.rest in
-    let t : AreTold old told (main n) = subst (λ (x : Point). AreTold old told x) c.main_point.ensures c.tell_survivors.ensures.told in
-    let b : IsPointForgotten told gone (main n) = subst (λ (x : Point). IsPointForgotten told gone x) c.main_point-2.ensures c.forget_point.ensures.forgotten in
-    let none = subst (λ (x : Point). at gone.rows x ≡ None) c.change_point-own.ensures (not_there _ (sym c.holds.ensures ∙ c.if-holds.false)) in
+    let t : AreTold old told (main n) = subst (λ (x : Point). AreTold old told x) c.main.ensures c.tell_survivors.ensures.told in
+    let b : IsPointForgotten told gone (main n) = subst (λ (x : Point). IsPointForgotten told gone x) c.main-2.ensures c.forget_point.ensures.forgotten in
+    let none = subst (λ (x : Point). at gone.rows x ≡ None) c.change-own.ensures (not_there _ (sym c.holds.ensures ∙ c.if-holds.false)) in
     forgotten_alone old told gone n c.requires.died t (told_rows old told first) b scoped
     (sym (row_before old told gone n (told_rows old told first) b) ∙ none) (roots_alone old told gone first second)
     (elsewhere_alone old told gone first second scoped c.count_dead.ensures.nodes)
@@ -73,10 +73,10 @@ returns-then-holds-clause-absent c p none =
     let gone = c.forget_point.new.self in
     let last = c.forget_point-then-holds.new.self in
     let scoped = c.count_dead.new.self in
-    let t : AreTold old told (main n) = subst (λ (x : Point). AreTold old told x) c.main_point.ensures c.tell_survivors.ensures.told in
-    let b : IsPointForgotten told gone (main n) = subst (λ (x : Point). IsPointForgotten told gone x) c.main_point-2.ensures c.forget_point.ensures.forgotten in
+    let t : AreTold old told (main n) = subst (λ (x : Point). AreTold old told x) c.main.ensures c.tell_survivors.ensures.told in
+    let b : IsPointForgotten told gone (main n) = subst (λ (x : Point). IsPointForgotten told gone x) c.main-2.ensures c.forget_point.ensures.forgotten in
     let k : IsPointForgotten (record gone { scoped = scoped }) last (change n) =
-    subst (λ (x : Point). IsPointForgotten (record gone { scoped = scoped }) last x) c.change_point-own.ensures c.forget_point-then-holds.ensures.forgotten in
+    subst (λ (x : Point). IsPointForgotten (record gone { scoped = scoped }) last x) c.change-own.ensures c.forget_point-then-holds.ensures.forgotten in
     let first = height_stays_gone told gone (main n) b p (ap (λ (m : Rows ℕ). at m p) t.graph.heights ∙ none) in
     ap (λ (w : Work). at w.graph.heights p) c.forget_root.ensures.rest ∙ height_stays_gone (record gone { scoped = scoped }) last (change n) k p first
 
@@ -86,6 +86,6 @@ returns-else-holds-clause-absent c p none =
     let old = c.args.self.now in
     let told = c.tell_survivors.new.self in
     let gone = c.forget_point.new.self in
-    let t : AreTold old told (main n) = subst (λ (x : Point). AreTold old told x) c.main_point.ensures c.tell_survivors.ensures.told in
-    let b : IsPointForgotten told gone (main n) = subst (λ (x : Point). IsPointForgotten told gone x) c.main_point-2.ensures c.forget_point.ensures.forgotten in
+    let t : AreTold old told (main n) = subst (λ (x : Point). AreTold old told x) c.main.ensures c.tell_survivors.ensures.told in
+    let b : IsPointForgotten told gone (main n) = subst (λ (x : Point). IsPointForgotten told gone x) c.main-2.ensures c.forget_point.ensures.forgotten in
     height_stays_gone told gone (main n) b p (ap (λ (m : Rows ℕ). at m p) t.graph.heights ∙ none)

@@ -53,7 +53,7 @@ connect-requires c = record {
   reader = inl (staged_there c.args.self.now (mid (goal.at.connect-requires c).After-set_stage) c.args.p code.Gated c.set_stage.ensures (only_rows c.args.self.now c.set_stage.new.rows) c.args.p
       ∙ rowed (goal.at.connect-requires c).After-set_stage);
   spared = λ part full. absurd (let e = full in let g = gated (goal.at.connect-requires c).After-set_stage in cc);
-  target = subst (λ (x : Point). IsTarget c.args.arena.now (mid (goal.at.connect-requires c).After-set_stage) x) (sym c.change_point.ensures)
+  target = subst (λ (x : Point). IsTarget c.args.arena.now (mid (goal.at.connect-requires c).After-set_stage) x) (sym c.change.ensures)
       (rowed_target c.args.arena.now (mid (goal.at.connect-requires c).After-set_stage) (change c.args.bind) (kept (goal.at.connect-requires c).After-set_stage)
       (gate_rowed c.args.arena.now (mid (goal.at.connect-requires c).After-set_stage) c.args.p.node c.args.bind (r (goal.at.connect-requires c).After-set_stage) (kept (goal.at.connect-requires c).After-set_stage) c.requires.row.1 c.requires.row.2));
   kept = kept (goal.at.connect-requires c).After-set_stage;
@@ -64,12 +64,12 @@ connect-requires c = record {
 pub returns-in_err-connect : goal.returns-in_err-connect
 returns-in_err-connect c =
     refusal_gates c.args.arena.now c.args.self.now (mid (goal.at.returns-in_err-connect c).After-set_stage) c.args.p (change c.args.bind) (owed (goal.at.returns-in_err-connect c).After-set_stage) (due (goal.at.returns-in_err-connect c).After-set_stage) c.connect.new.self c.from_residual.result
-    c.in_err-connect.field-0.0 c.from_residual.ensures.1 (rw c.change_point.ensures at c.in_err-connect.ensures)
+    c.in_err-connect.field-0.0 c.from_residual.ensures.1 (rw c.change.ensures at c.in_err-connect.ensures)
 
 pub returns-then-not-branch : goal.returns-then-not-branch
 returns-then-not-branch c =
     gone_gates c.args.arena.now c.args.self.now (mid (goal.at.returns-then-not-branch c).After-set_stage) c.args.p (change c.args.bind) (owed (goal.at.returns-then-not-branch c).After-set_stage) (due (goal.at.returns-then-not-branch c).After-set_stage) c.connect.new.self
-    (rw c.change_point.ensures at c.in_ok-connect.ensures) false c.if-not-branch.true refl
+    (rw c.change.ensures at c.in_ok-connect.ensures) false c.if-not-branch.true refl
 
 pub passes_gate-requires : goal.passes_gate-requires
 passes_gate-requires c = record {
@@ -81,7 +81,7 @@ passes_gate-requires c = record {
 
 pub returns : goal.returns
 returns c =
-    let on = rw c.change_point.ensures at c.in_ok-connect.ensures in
+    let on = rw c.change.ensures at c.in_ok-connect.ensures in
     let t = c.if-not-branch.false in
     let stays = link_stays c.args.arena.now c.args.self.now (mid (goal.at.returns c).After-set_stage) c.args.p (change c.args.bind) (owed (goal.at.returns c).After-set_stage) (due (goal.at.returns c).After-set_stage) c.connect.new.self on t in
     let places = link_places c.args.arena.now c.args.self.now (mid (goal.at.returns c).After-set_stage) c.args.p (change c.args.bind) (owed (goal.at.returns c).After-set_stage) (due (goal.at.returns c).After-set_stage) c.connect.new.self on in

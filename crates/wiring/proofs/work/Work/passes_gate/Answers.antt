@@ -12,7 +12,7 @@ use Rattle.wiring.proofs.work.Work.passes_gate.Goals as goal
 pub returns-then-was_settled : goal.returns-then-was_settled
 returns-then-was_settled c =
     let self = c.args.self.now in record {
-      ran = λ t. ap (λ (x : Point). settled_in self.round (at self.rows x)) (sym c.change_point-gate.ensures)
+      ran = λ t. ap (λ (x : Point). settled_in self.round (at self.rows x)) (sym c.change-gate.ensures)
           ∙ (sym c.was_settled.ensures ∙ c.if-was_settled.true);
       stays = λ t. refl;
       left = λ f. absurd (let e = f in cc);
@@ -25,7 +25,7 @@ pub returns : goal.returns
 returns c =
     let old = c.args.self.now in
     let new = c.schedule.new.self in
-    let gate = c.change_point-gate.ensures in
+    let gate = c.change-gate.ensures in
     let r = c.requires.row in
     let marked : IsMarked old.graph new.graph (change c.args.bind) = rw gate at c.schedule.ensures.scheduled in
     let unsettled : settled_in old.round (at old.rows (change c.args.bind)) ≡ false =

@@ -46,12 +46,12 @@ module _ (c : goal.After-reduce) where
   more = c.has_more_than_gate.ensures.0 c.if-has_more_than_gate.true
 
   marked : IsMarked c.args.self.now.graph c.schedule.new.self.graph (change c.args.bind)
-  marked = subst (λ (x : Point). IsMarked c.args.self.now.graph c.schedule.new.self.graph x) c.change_point-gate.ensures c.schedule.ensures.scheduled
+  marked = subst (λ (x : Point). IsMarked c.args.self.now.graph c.schedule.new.self.graph x) c.change-gate.ensures c.schedule.ensures.scheduled
 
   reduced : IsReduced (rowless (record c.enqueue.new.self { rows = c.set_stage.new.rows })) c.enqueue.new.self.graph c.reduce.new.self.graph c.args.p
       (change c.args.bind)
   reduced = subst (λ (x : Point). IsReduced (rowless (record c.enqueue.new.self { rows = c.set_stage.new.rows })) c.enqueue.new.self.graph
-      c.reduce.new.self.graph c.args.p x) c.change_point-gate.ensures c.reduce.ensures.reduced
+      c.reduce.new.self.graph c.args.p x) c.change-gate.ensures c.reduce.ensures.reduced
 
   back : IsLowered c.args.self.now c.reduce.new.self c.args.p (change c.args.bind) code.Gated reduced.links
   back = put_lowered c.args.self.now c.schedule.new.self c.enqueue.new.self c.reduce.new.self c.set_stage.new.rows c.args.p (change c.args.bind)

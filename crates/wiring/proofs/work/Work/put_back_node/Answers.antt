@@ -10,18 +10,18 @@ use Rattle.wiring.proofs.work.Work.put_back_node.Goals as goal
 
 pub put_back-requires-clause-row : goal.put_back-requires-clause-row
 put_back-requires-clause-row c = let r = c.requires.row in
-    subst (λ (x : Point). (s : Row) × (row_at c.args.arena.now x.node ≡ Some s) × (s.scope ≡ Some c.args.bind)) (sym c.main_point.ensures) r
+    subst (λ (x : Point). (s : Row) × (row_at c.args.arena.now x.node ≡ Some s) × (s.scope ≡ Some c.args.bind)) (sym c.main.ensures) r
 
 pub put_back-requires-2-clause-row : goal.put_back-requires-2-clause-row
 put_back-requires-2-clause-row c = let r = c.requires.row in
-    subst (λ (x : Point). (s : Row) × (row_at c.args.arena.now x.node ≡ Some s) × (s.scope ≡ Some c.args.bind)) (sym c.change_point.ensures) r
+    subst (λ (x : Point). (s : Row) × (row_at c.args.arena.now x.node ≡ Some s) × (s.scope ≡ Some c.args.bind)) (sym c.change.ensures) r
 
 module _ (c : goal.After-put_back-2) where
   first : BackAt c.args.arena.now c.args.self.now c.put_back.new.self (main c.args.node) c.args.bind
-  first = subst (λ (x : Point). BackAt c.args.arena.now c.args.self.now c.put_back.new.self x c.args.bind) c.main_point.ensures c.put_back.ensures.rows
+  first = subst (λ (x : Point). BackAt c.args.arena.now c.args.self.now c.put_back.new.self x c.args.bind) c.main.ensures c.put_back.ensures.rows
 
   second : BackAt c.args.arena.now c.put_back.new.self c.put_back-2.new.self (change c.args.node) c.args.bind
-  second = subst (λ (x : Point). BackAt c.args.arena.now c.put_back.new.self c.put_back-2.new.self x c.args.bind) c.change_point.ensures
+  second = subst (λ (x : Point). BackAt c.args.arena.now c.put_back.new.self c.put_back-2.new.self x c.args.bind) c.change.ensures
       c.put_back-2.ensures.rows
 
 pub returns-clause-stays : goal.returns-clause-stays
@@ -36,8 +36,8 @@ pub returns-clause-behind : goal.returns-clause-behind
 returns-clause-behind c =
     node_at_gate c.args.arena.now c.args.self.now c.put_back.new.self c.put_back-2.new.self c.args.node c.args.bind (first c) (second c)
     c.put_back-2.ensures.stays.loses
-    (subst (λ (x : Point). IsAtGate c.put_back.new.self x) c.main_point.ensures c.put_back.ensures.behind)
-    (subst (λ (x : Point). IsAtGate c.put_back-2.new.self x) c.change_point.ensures c.put_back-2.ensures.behind)
+    (subst (λ (x : Point). IsAtGate c.put_back.new.self x) c.main.ensures c.put_back.ensures.behind)
+    (subst (λ (x : Point). IsAtGate c.put_back-2.new.self x) c.change.ensures c.put_back-2.ensures.behind)
 
 pub returns-clause-taken : goal.returns-clause-taken
 returns-clause-taken c =
@@ -57,7 +57,7 @@ pub returns-clause-heap : goal.returns-clause-heap
 returns-clause-heap c q h = elim (c.put_back-2.ensures.heap q h) [
   | inl held ↦ elim (c.put_back.ensures.heap q held) [
     | inl was ↦ inl was
-    | inr new ↦ inr (at_point c q (subst (λ (x : Point). (q ≡ x) ⊎ (q ≡ change c.args.bind)) c.main_point.ensures new))
+    | inr new ↦ inr (at_point c q (subst (λ (x : Point). (q ≡ x) ⊎ (q ≡ change c.args.bind)) c.main.ensures new))
   ]
-  | inr new ↦ inr (at_change c q (subst (λ (x : Point). (q ≡ x) ⊎ (q ≡ change c.args.bind)) c.change_point.ensures new))
+  | inr new ↦ inr (at_change c q (subst (λ (x : Point). (q ≡ x) ⊎ (q ≡ change c.args.bind)) c.change.ensures new))
 ]

@@ -46,7 +46,7 @@ returns-else-not-was_settled-clause-taken c = nothing_taken c.args.arena.now c.a
 pub returns-else-not-was_settled-clause-behind : goal.returns-else-not-was_settled-clause-behind
 returns-else-not-was_settled-clause-behind c =
     ran_behind c.args.arena.now c.args.self.now c.args.node (row_of c.in-Some.row.now) c.in-Some-scope.bind (sym c.in-Some.ensures) c.in-Some-scope.is
-    (subst (λ (x : Point). settled_in c.args.self.now.round (at c.args.self.now.rows x) ≡ true) c.change_point.ensures
+    (subst (λ (x : Point). settled_in c.args.self.now.round (at c.args.self.now.rows x) ≡ true) c.change.ensures
     (sym c.was_settled.ensures ∙ c.if-not-was_settled.false))
 
 pub returns-else-not-was_settled-clause-stays : goal.returns-else-not-was_settled-clause-stays
@@ -62,7 +62,7 @@ put_back_node-requires-clause-row c = (row_of c.in-Some.row.now, sym c.in-Some.e
 
 module _ (c : goal.After-put_back_node) where
   unsettled : settled_in c.args.self.now.round (at c.args.self.now.rows (change c.in-Some-scope.bind)) ≡ false
-  unsettled = subst (λ (x : Point). settled_in c.args.self.now.round (at c.args.self.now.rows x) ≡ false) c.change_point.ensures
+  unsettled = subst (λ (x : Point). settled_in c.args.self.now.round (at c.args.self.now.rows x) ≡ false) c.change.ensures
       (sym c.was_settled.ensures ∙ c.if-not-was_settled.true)
 
 pub returns-then-not-was_settled-clause-taken : goal.returns-then-not-was_settled-clause-taken

@@ -34,13 +34,13 @@ loop-death-preserved c =
     let n = c.in-Some.death.node in
     let b = c.in-Some.death.scope in
     let inv = c.loop-death.invariant in
-    let gate = c.change_point-gate.ensures in
+    let gate = c.change-gate.ensures in
     let one : IsOffAt (rowless popped) now.graph mid.graph (main n) (change b) =
-    subst (λ (x : Point). IsOffAt (rowless popped) now.graph mid.graph x (change b)) c.main_point.ensures
-    (subst (λ (y : Point). IsOffAt (rowless popped) now.graph mid.graph c.main_point.result y) gate c.release.ensures.off) in
+    subst (λ (x : Point). IsOffAt (rowless popped) now.graph mid.graph x (change b)) c.main.ensures
+    (subst (λ (y : Point). IsOffAt (rowless popped) now.graph mid.graph c.main.result y) gate c.release.ensures.off) in
     let two : IsOffAt (rowless mid) mid.graph new.graph (change n) (change b) =
-    subst (λ (x : Point). IsOffAt (rowless mid) mid.graph new.graph x (change b)) c.change_point.ensures
-    (subst (λ (y : Point). IsOffAt (rowless mid) mid.graph new.graph c.change_point.result y) gate c.release-in-Some.ensures.off) in record {
+    subst (λ (x : Point). IsOffAt (rowless mid) mid.graph new.graph x (change b)) c.change.ensures
+    (subst (λ (y : Point). IsOffAt (rowless mid) mid.graph new.graph c.change.result y) gate c.release-in-Some.ensures.off) in record {
       releasing = release_more old now mid new d inv.releasing inv.rest c.release.ensures.rest c.release-in-Some.ensures.rest n b c.in-Some.ensures.scope
           c.in-Some.ensures.scopes one c.release.ensures.step two c.release-in-Some.ensures.step;
       rest = else_kept old now mid new d inv.releasing inv.rest c.release.ensures.rest c.release-in-Some.ensures.rest;

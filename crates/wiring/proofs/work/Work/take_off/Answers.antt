@@ -59,14 +59,14 @@ module _ (c : goal.After-drop_right) where
   mine = c.requires.kept.rows (main c.args.node) ∙ ap (λ (x : Option Row). has_part x Main) live
 
   unsettled : settled_in c.args.self.now.round (at c.args.self.now.rows (change c.args.node)) ≡ false
-  unsettled = subst (λ (x : Point). settled_in c.args.self.now.round (at c.args.self.now.rows x) ≡ false) c.change_point-own.ensures
+  unsettled = subst (λ (x : Point). settled_in c.args.self.now.round (at c.args.self.now.rows x) ≡ false) c.change-own.ensures
       (sym c.was_settled.ensures ∙ c.if-not-was_settled.true)
 
   attached : IsAttached c.args.self.now c.args.node
   attached = c.is_attached.ensures.0 c.if-is_attached.true
 
   marked : IsMarked c.args.self.now.graph c.schedule.new.self.graph (change c.args.node)
-  marked = subst (λ (x : Point). IsMarked c.args.self.now.graph c.schedule.new.self.graph x) c.change_point-own.ensures c.schedule.ensures.scheduled
+  marked = subst (λ (x : Point). IsMarked c.args.self.now.graph c.schedule.new.self.graph x) c.change-own.ensures c.schedule.ensures.scheduled
 
   back : (links : Links) × IsLowered c.args.self.now c.drop_right.new.self (main c.args.node) (change c.args.node) code.Static links
   back = loose_lowered c.args.self.now c.schedule.new.self c.drop_right.new.self c.args.node c.requires.kept.step marked c.schedule.ensures.rest

@@ -17,7 +17,7 @@ returns c =
     let mid = c.if-not-ran_with.self in
     let right = right_in old.rows old.roots n (def_of c.args.def.now) in
     let written : IsRewritten mid.rows c.set_outcome.new.rows (change n) (with_outcome c.args.given mid.round) =
-    subst (λ (x : Point). IsRewritten mid.rows c.set_outcome.new.rows x (with_outcome c.args.given mid.round)) c.change_point.ensures
+    subst (λ (x : Point). IsRewritten mid.rows c.set_outcome.new.rows x (with_outcome c.args.given mid.round)) c.change.ensures
     c.set_outcome.ensures.rewritten in
     let before : BeforeIt old mid n right c.args.given =
     elim c.if-not-ran_with.branch [

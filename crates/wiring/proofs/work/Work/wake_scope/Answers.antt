@@ -16,4 +16,4 @@ returns-in-Ok-clause-woken c p =
     let items = c.gather_gated.new.todo.items in
     waits_for old p (change c.args.bind) items c.requires.quiet
     (subst (λ (x : Point). Among p items ↔ (Among p old.todo.items ⊎ (Reads old.graph.links p x × (stage_in (at old.rows p) ≡ Some Gated))))
-    c.change_point.ensures (c.in-Ok.ensures.gathered p))
+    c.change.ensures (c.in-Ok.ensures.gathered p))

@@ -24,19 +24,19 @@ returns-in_default c = done_answers _ c.args.arena.now c.args.self.now c.args.p 
 pub returns-then-reads : goal.returns-then-reads
 returns-then-reads c = done_answers _ c.args.arena.now c.args.self.now c.args.p c.requires.kept
     (ghost_wires c.args.arena.now c.args.self.now c.args.p c.requires.dead c.requires.kept c.in-Some.bind (sym c.in-Some.ensures) c.requires.needed
-    (rw c.change_point-gate.ensures at (c.reads.ensures.0 c.if-reads.true)))
+    (rw c.change-gate.ensures at (c.reads.ensures.0 c.if-reads.true)))
 
 -- ---- one that is to have it
 
 pub connect-requires-clause-reader : goal.connect-requires-clause-reader
-connect-requires-clause-reader c = subst (λ (x : Point). MayRead c.args.self.now c.args.p x) (sym c.change_point-gate.ensures)
+connect-requires-clause-reader c = subst (λ (x : Point). MayRead c.args.self.now c.args.p x) (sym c.change-gate.ensures)
     (inr (ghost_link c.args.arena.now c.args.self.now c.args.p c.requires.dead c.requires.kept c.in-Some.bind (sym c.in-Some.ensures)))
 
 pub connect-requires-clause-spared : goal.connect-requires-clause-spared
 connect-requires-clause-spared c main full r row two = absurd (none-some r (sym c.requires.dead ∙ row))
 
 pub connect-requires-clause-target : goal.connect-requires-clause-target
-connect-requires-clause-target c = subst (λ (x : Point). IsTarget c.args.arena.now c.args.self.now x) (sym c.change_point-gate.ensures)
+connect-requires-clause-target c = subst (λ (x : Point). IsTarget c.args.arena.now c.args.self.now x) (sym c.change-gate.ensures)
     (ghost_target c.args.arena.now c.args.self.now c.args.p.node c.in-Some.bind c.requires.kept (sym c.in-Some.ensures))
 
 module _ (c : After-connect) where
@@ -45,7 +45,7 @@ module _ (c : After-connect) where
 
   unread : Reads c.args.self.now.graph.links c.args.p (change c.in-Some.bind) → ⊥
   unread reads = not_both c.reads.result c.if-reads.false
-      (c.reads.ensures.1 (subst (λ (x : Point). Reads c.args.self.now.graph.links c.args.p x) (sym c.change_point-gate.ensures) reads))
+      (c.reads.ensures.1 (subst (λ (x : Point). Reads c.args.self.now.graph.links c.args.p x) (sym c.change-gate.ensures) reads))
 
   owed : IsOwed c.args.arena.now c.args.self.now c.args.self.now c.args.p (change c.in-Some.bind ∷ [])
   owed = owed_here c.args.arena.now c.args.self.now c.args.p (change c.in-Some.bind ∷ [])
@@ -57,12 +57,12 @@ module _ (c : After-connect) where
 pub returns-in_err-_on : goal.returns-in_err-_on
 returns-in_err-_on c =
     refusal_answers c.args.arena.now c.args.self.now c.args.self.now c.args.p (change c.in-Some.bind) (owed (goal.at.returns-in_err-_on c).After-connect) (due (goal.at.returns-in_err-_on c).After-connect) c.connect.new.self
-    c.from_residual.result c.in_err-_on.field-0.0 c.from_residual.ensures.1 (rw c.change_point-gate.ensures at c.in_err-_on.ensures)
+    c.from_residual.result c.in_err-_on.field-0.0 c.from_residual.ensures.1 (rw c.change-gate.ensures at c.in_err-_on.ensures)
 
 pub returns : goal.returns
 returns c =
     let so = c.in_ok-_on.ensures in
-    let gate = c.change_point-gate.ensures in
+    let gate = c.change-gate.ensures in
     link_answers c.args.arena.now c.args.self.now c.args.self.now c.args.p (change c.in-Some.bind) (owed (goal.at.returns c).After-connect) (due (goal.at.returns c).After-connect) c.connect.new.self _ c.in_ok-_on._on
     (rw gate at so)
     (λ t. ghost_wires c.args.arena.now c.connect.new.self c.args.p c.requires.dead so.kept c.in-Some.bind

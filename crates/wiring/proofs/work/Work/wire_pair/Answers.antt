@@ -22,7 +22,7 @@ use Rattle.wiring.proofs.work.Work.wire_pair.Goals.{then-branch, else-branch, Af
 
 pub set_stage-requires : goal.set_stage-requires
 set_stage-requires c = record {
-  there = subst (λ (x : Point). Holds c.args.self.now.rows x) (sym c.main_point.ensures)
+  there = subst (λ (x : Point). Holds c.args.self.now.rows x) (sym c.main.ensures)
       (c.requires.kept.rows (main c.args.node) ∙ ap (λ (x : Option Row). has_part x Main) c.requires.row.1);
 }
 
@@ -36,7 +36,7 @@ module _ (c : After-set_stage) where
   mid = record c.args.self.now { rows = c.set_stage.new.rows }
 
   w : IsRewritten c.args.self.now.rows c.set_stage.new.rows (main c.args.node) (with_stage code.Static)
-  w = subst (λ (x : Point). IsRewritten c.args.self.now.rows c.set_stage.new.rows x (with_stage code.Static)) c.main_point.ensures c.set_stage.ensures
+  w = subst (λ (x : Point). IsRewritten c.args.self.now.rows c.set_stage.new.rows x (with_stage code.Static)) c.main.ensures c.set_stage.ensures
 
   rowed : Holds c.args.self.now.rows (main c.args.node)
   rowed = c.requires.kept.rows (main c.args.node) ∙ ap (λ (x : Option Row). has_part x Main) c.requires.row.1
@@ -60,21 +60,21 @@ module _ (c : After-set_stage) where
 
 pub connect-requires-clause-reader : goal.connect-requires-clause-reader
 connect-requires-clause-reader c =
-    subst (λ (x : Point). MayRead (mid (goal.at.connect-requires-clause-reader c).After-set_stage) x c.change_point-own.result) (sym c.main_point-2.ensures)
+    subst (λ (x : Point). MayRead (mid (goal.at.connect-requires-clause-reader c).After-set_stage) x c.change-own.result) (sym c.main-2.ensures)
     (inl (staged_there c.args.self.now (mid (goal.at.connect-requires-clause-reader c).After-set_stage) (main c.args.node) code.Static (w (goal.at.connect-requires-clause-reader c).After-set_stage) (only_rows c.args.self.now c.set_stage.new.rows) (main c.args.node)
     ∙ rowed (goal.at.connect-requires-clause-reader c).After-set_stage))
 
 pub connect-requires-clause-spared : goal.connect-requires-clause-spared
 connect-requires-clause-spared c =
     let now = static (goal.at.connect-requires-clause-spared c).After-set_stage in
-    subst (λ (x : Point). IsSpared c.args.arena.now (mid (goal.at.connect-requires-clause-spared c).After-set_stage) x) (sym c.main_point-2.ensures) (λ part full. absurd (let e = full in cc))
+    subst (λ (x : Point). IsSpared c.args.arena.now (mid (goal.at.connect-requires-clause-spared c).After-set_stage) x) (sym c.main-2.ensures) (λ part full. absurd (let e = full in cc))
 
 pub connect-requires-clause-kept : goal.connect-requires-clause-kept
 connect-requires-clause-kept c = kept (goal.at.connect-requires-clause-kept c).After-set_stage
 
 pub connect-requires-clause-target : goal.connect-requires-clause-target
 connect-requires-clause-target c =
-    subst (λ (x : Point). IsTarget c.args.arena.now (mid (goal.at.connect-requires-clause-target c).After-set_stage) x) (sym c.change_point-own.ensures)
+    subst (λ (x : Point). IsTarget c.args.arena.now (mid (goal.at.connect-requires-clause-target c).After-set_stage) x) (sym c.change-own.ensures)
     (rowed_target c.args.arena.now (mid (goal.at.connect-requires-clause-target c).After-set_stage) (change c.args.node) (kept (goal.at.connect-requires-clause-target c).After-set_stage)
     (change_rowed c.args.arena.now (mid (goal.at.connect-requires-clause-target c).After-set_stage) c.args.node (r (goal.at.connect-requires-clause-target c).After-set_stage) (kept (goal.at.connect-requires-clause-target c).After-set_stage) c.requires.row.1 c.requires.row.2))
 
@@ -84,7 +84,7 @@ pub returns-in_err-connect : goal.returns-in_err-connect
 returns-in_err-connect c =
     refusal_answers c.args.arena.now c.args.self.now (mid (goal.at.returns-in_err-connect c).After-set_stage) (main c.args.node) (change c.args.node) (owed (goal.at.returns-in_err-connect c).After-set_stage) (due (goal.at.returns-in_err-connect c).After-set_stage) c.connect.new.self
     c.from_residual.result c.in_err-connect.field-0.0 c.from_residual.ensures.1
-    (rw (c.main_point-2.ensures, c.change_point-own.ensures) at c.in_err-connect.ensures)
+    (rw (c.main-2.ensures, c.change-own.ensures) at c.in_err-connect.ensures)
 
 pub returns : goal.returns
 returns c =
@@ -94,19 +94,19 @@ returns c =
     let row = c.requires.row in
     let con = c.connect.new.self in
     let so = c.in_ok-connect.ensures in
-    let on = rw (c.main_point-2.ensures, c.change_point-own.ensures) at so in
+    let on = rw (c.main-2.ensures, c.change-own.ensures) at so in
     elim c.if-branch.branch [
       | then-branch b ↦
           let t = b.if-branch.true in
           let next = b.schedule.new.self in
           let rest = b.schedule.ensures.rest in
           let step = b.schedule.ensures.step in
-          let marked : IsMarked con.graph next.graph (change n) = rw c.change_point-own.ensures at b.schedule.ensures.scheduled in
+          let marked : IsMarked con.graph next.graph (change n) = rw c.change-own.ensures at b.schedule.ensures.scheduled in
           let need = so.needed t in
-          let now = ap stage_in (rw c.main_point-2.ensures at (so.row t)) ∙ static (goal.at.returns c).After-set_stage in
+          let now = ap stage_in (rw c.main-2.ensures at (so.row t)) ∙ static (goal.at.returns c).After-set_stage in
           answers_at arena old next _ (Some (hand (main n) [])) b.self-is
           (then_answers arena old (mid (goal.at.returns c).After-set_stage) (main n) (change n) (owed (goal.at.returns c).After-set_stage) (due (goal.at.returns c).After-set_stage) con on _ t next
-          (pair_waits arena n (r (goal.at.returns c).After-set_stage) row.1 row.2 con next (rw c.main_point-2.ensures at need.0) (rw c.change_point-own.ensures at need.1) now marked
+          (pair_waits arena n (r (goal.at.returns c).After-set_stage) row.1 row.2 con next (rw c.main-2.ensures at need.0) (rw c.change-own.ensures at need.1) now marked
           rest)
           (marked_places (change n) con next marked rest)
           (marked_kept (change n) con next marked rest arena (change_rowed arena con n (r (goal.at.returns c).After-set_stage) so.kept row.1 row.2) step so.kept)

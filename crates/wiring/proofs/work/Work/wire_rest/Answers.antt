@@ -134,7 +134,7 @@ connect-requires c =
       reader = inl (full_there arena p (r (goal.at.connect-requires c).After-set_stage-in-Change-Some) q.row.1 (link (goal.at.connect-requires c).After-set_stage-in-Change-Some ∷ []) (reads (goal.at.connect-requires c).After-set_stage-in-Change-Some) c.args.self.now q.needed q.lacking q.ran
           c.set_stage-in-Change-Some.new.rows c.set_stage-in-Change-Some.ensures p ∙ q.there);
       spared = λ part. absurd (let e = part in let is = c.in-Change-Some.is-0 in cc);
-      target = subst (λ (x : Point). IsTarget arena (mid (goal.at.connect-requires c).After-set_stage-in-Change-Some) x) (sym c.main_point.ensures)
+      target = subst (λ (x : Point). IsTarget arena (mid (goal.at.connect-requires c).After-set_stage-in-Change-Some) x) (sym c.main.ensures)
           (main_is_target arena (mid (goal.at.connect-requires c).After-set_stage-in-Change-Some) (link (goal.at.connect-requires c).After-set_stage-in-Change-Some) (kept (goal.at.connect-requires c).After-set_stage-in-Change-Some)
           (subject_is_given arena.given c.args.def.now (subst (NamesGiven arena.given) q.row.2 (q.kept.sound.names p.node (r (goal.at.connect-requires c).After-set_stage-in-Change-Some) q.row.1))
           c.in-Change-Some.subject (sym c.in-Change-Some.ensures)) refl);
@@ -144,13 +144,13 @@ connect-requires c =
 pub returns-in_err-_on-in-Change-Some : goal.returns-in_err-_on-in-Change-Some
 returns-in_err-_on-in-Change-Some c =
     refusal_answers c.args.arena.now c.args.self.now (mid (goal.at.returns-in_err-_on-in-Change-Some c).After-set_stage-in-Change-Some) c.args.p (link (goal.at.returns-in_err-_on-in-Change-Some c).After-set_stage-in-Change-Some) (owed (goal.at.returns-in_err-_on-in-Change-Some c).After-set_stage-in-Change-Some) (due (goal.at.returns-in_err-_on-in-Change-Some c).After-set_stage-in-Change-Some) c.connect.new.self c.from_residual.result
-    c.in_err-_on-in-Change-Some.field-0.0 c.from_residual.ensures.1 (rw c.main_point.ensures at c.in_err-_on-in-Change-Some.ensures)
+    c.in_err-_on-in-Change-Some.field-0.0 c.from_residual.ensures.1 (rw c.main.ensures at c.in_err-_on-in-Change-Some.ensures)
 
 pub returns-in_ok-_on-in-Change-Some : goal.returns-in_ok-_on-in-Change-Some
 returns-in_ok-_on-in-Change-Some c =
     let q = c.requires in
     let on = c.in_ok-_on-in-Change-Some.ensures in
     link_answers c.args.arena.now c.args.self.now (mid (goal.at.returns-in_ok-_on-in-Change-Some c).After-set_stage-in-Change-Some) c.args.p (link (goal.at.returns-in_ok-_on-in-Change-Some c).After-set_stage-in-Change-Some) (owed (goal.at.returns-in_ok-_on-in-Change-Some c).After-set_stage-in-Change-Some) (due (goal.at.returns-in_ok-_on-in-Change-Some c).After-set_stage-in-Change-Some) c.connect.new.self _ c.in_ok-_on-in-Change-Some._on
-    (rw c.main_point.ensures at on)
+    (rw c.main.ensures at on)
     (λ t. full_wires c.args.arena.now c.connect.new.self c.args.p (ap stage_in (on.row t) ∙ full_in c.args.arena.now c.args.p (r (goal.at.returns-in_ok-_on-in-Change-Some c).After-set_stage-in-Change-Some) q.row.1 (link (goal.at.returns-in_ok-_on-in-Change-Some c).After-set_stage-in-Change-Some ∷ [])
     (reads (goal.at.returns-in_ok-_on-in-Change-Some c).After-set_stage-in-Change-Some) c.args.self.now q.needed q.lacking q.ran c.set_stage-in-Change-Some.new.rows c.set_stage-in-Change-Some.ensures q.there))
