@@ -15,7 +15,7 @@ use Rattle.inc_terms.specs.Graph.{Row, Bind}
 use Rattle.inc_terms.specs.Within.{Given, ValueWithin}
 use Rattle.node_arena.specs.Arena.{Arena, row_at, Changes}
 use Rattle.node_arena.specs.RightSide.{RightSide, AreFit, AreTaken, IsEmpty, MayBuild}
-use Rattle.node_arena.specs.Sound.{IsSound}
+use Rattle.node_arena.specs.Sound.{IsSoundArena}
 use Rattle.node_arena.specs.Typing.{Fits, ReferenceFits, BindTakes, IsAddable}
 use Rattle.closure_examples.specs.Sides.{TakesFirst}
 
@@ -65,7 +65,7 @@ module _ (old new : Arena) (id : NodeId) (row : Row) (number : id.gen_ ≡ old.g
   all_fit (n ∷ ns) (t ∷ ts) g h = (fits_still n t g.0 h.0, all_fit ns ts g.1 h.1)
 
   -- no node stands in the scope of the bind, which stands in none itself
-  no_node : row.scope ≡ None → IsSound old → IsEmpty new id
+  no_node : row.scope ≡ None → IsSoundArena old → IsEmpty new id
   no_node none sound n r is in_scope = elim (id_or_other n id) [
     | inl same ↦ (let there = sym changes.changed ∙ (ap (λ (m : NodeId). row_at new m) (sym same) ∙ is) in
         let e : row ≡ r = cc in
@@ -81,7 +81,7 @@ module _ (old new : Arena) (id : NodeId) (row : Row) (number : id.gen_ ≡ old.g
       (record { type = sym first; reference = base_fits new v base }, all_fit captures ts g takes.1)
 
   -- its right side can be built, for a value of a base type, by a function that lists no nodes
-  pub may_build : row.scope ≡ None → IsSound old → (f : FnRef) (left : NodeId) (captures : List NodeId) (t : Ty)
+  pub may_build : row.scope ≡ None → IsSoundArena old → (f : FnRef) (left : NodeId) (captures : List NodeId) (t : Ty)
       → IsAddable old (Bind left f captures) t → (side : RightSide) → side.ids ≡ [] → (v : Value) → IsBase (type_of v)
       → TakesFirst f.sig.takes (type_of v) → MayBuild (record { arena = new; scope = id }) f.sig side v captures
   may_build none sound f left captures t addable side lists v base first = record {

@@ -5,7 +5,7 @@ ghost use Rattle.inc_value.specs.Value.{type_of};
 ghost use Rattle.node_arena.specs.Building.{building_in};
 ghost use Rattle.node_arena.specs.Meanings.{SameKnown};
 ghost use Rattle.node_arena.specs.RightSide.{IsRoot, SameSides};
-ghost use Rattle.node_arena.specs.Sound.{IsSound};
+ghost use Rattle.node_arena.specs.Sound.{IsSoundArena};
 ghost use Rattle.closure_examples.specs.Sides.{TakesFirst};
 
 use inc_terms::{Def, Nodes};
@@ -45,9 +45,9 @@ pub fn bind_and_build<F: Functions>(
     requires known { IsTrue (F.known functions.old f) }
     requires lists_none { (F.right functions.old f).ids ≡ [] }
     requires base { IsBase (type_of value.now) }
-    requires arena { IsSound arena.old }
+    requires arena { IsSoundArena arena.old }
     ensures sound { F.is_sound functions.new }
-    ensures arena { IsSound arena.new }
+    ensures arena { IsSoundArena arena.new }
     ensures same_known { SameKnown (F.known functions.old) (F.known functions.new) }
     ensures same_sides { SameSides (F.right functions.old) (F.right functions.new) }
     ensures root { IfSome result (λ b. IsRoot (building_in b.bind arena.new) captures.now b.root

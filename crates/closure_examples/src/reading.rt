@@ -2,7 +2,7 @@
 ghost use Rattle.std.specs.Prelude.{◌≡◌, [], IsTrue, OnOk};
 ghost use Rattle.node_arena.specs.Meanings.{SameKnown};
 ghost use Rattle.node_arena.specs.RightSide.{SameSides};
-ghost use Rattle.node_arena.specs.Sound.{IsSound};
+ghost use Rattle.node_arena.specs.Sound.{IsSoundArena};
 
 use crate::building::{Bound, bind_and_build};
 use inc_terms::Def;
@@ -30,7 +30,7 @@ struct Variables {
 
 /// Adds the variables: the captures are 7, true and a reference to the 7.
 fn add_variables(arena: &mut Arena) -> Result<Variables, AddFault>
-    ensures arena { OnOk result (IsSound arena.new) }
+    ensures arena { OnOk result (IsSoundArena arena.new) }
 {
     let left = arena.add(Def::Var(Value::Int(1)), Ty::Int, None)?;
     let x = arena.add(Def::Var(Value::Int(7)), Ty::Int, None)?;
@@ -101,9 +101,9 @@ fn builds<F: Functions>(
     requires sound { F.is_sound functions.old }
     requires known { IsTrue (F.known functions.old named.now.table) }
     requires lists_none { (F.right functions.old named.now.table).ids ≡ [] }
-    requires arena { IsSound arena.old }
+    requires arena { IsSoundArena arena.old }
     ensures sound { F.is_sound functions.new }
-    ensures arena { IsSound arena.new }
+    ensures arena { IsSoundArena arena.new }
     ensures same_known { SameKnown (F.known functions.old) (F.known functions.new) }
     ensures same_sides { SameSides (F.right functions.old) (F.right functions.new) }
 {
@@ -138,9 +138,9 @@ fn builds_each<F: Functions>(
     requires sound { F.is_sound functions.old }
     requires known { IsTrue (F.known functions.old named.now.table) }
     requires lists_none { (F.right functions.old named.now.table).ids ≡ [] }
-    requires arena { IsSound arena.old }
+    requires arena { IsSoundArena arena.old }
     ensures sound { F.is_sound functions.new }
-    ensures arena { IsSound arena.new }
+    ensures arena { IsSoundArena arena.new }
     ensures same_known { SameKnown (F.known functions.old) (F.known functions.new) }
 {
     for number in 1..=6 {
@@ -180,9 +180,9 @@ fn builds_negation<F: Functions>(
     requires sound { F.is_sound functions.old }
     requires known { IsTrue (F.known functions.old named.now.of_left) }
     requires lists_none { (F.right functions.old named.now.of_left).ids ≡ [] }
-    requires arena { IsSound arena.old }
+    requires arena { IsSoundArena arena.old }
     ensures sound { F.is_sound functions.new }
-    ensures arena { IsSound arena.new }
+    ensures arena { IsSoundArena arena.new }
     ensures same_known { SameKnown (F.known functions.old) (F.known functions.new) }
     ensures same_sides { SameSides (F.right functions.old) (F.right functions.new) }
 {

@@ -9,7 +9,7 @@ use Rattle.formula_elab.specs.declared.opened.Part.{Part}
 
 -- what is to be made in order, what was made so far, whether something was asked for and not made yet, and the node of
 -- what is declared
-pub record Standing : Type 0 where
+pub record PlanView : Type 0 where
   pub makes : List Planned
   pub made : List Made
   pub is_waiting : Bool
@@ -26,19 +26,19 @@ IsNext makes made None = slice_get makes (length made) ≡ None
 IsNext makes made (Some m) = (x : Planned) × (slice_get makes (length made) ≡ Some x) × Makes made x m
 
 -- what was made is of the kind of what was asked for
-abbrev pub IsAnswer : Standing → Made → Type 0
+abbrev pub IsAnswer : PlanView → Made → Type 0
 IsAnswer p m = (x : Planned) × (slice_get p.makes (length p.made) ≡ Some x) × IsMadeAs x m
 
 -- the node of what is declared
-abbrev pub root_node : Standing → NodeId
+abbrev pub root_node : PlanView → NodeId
 root_node p = node_of p.made p.root
 
 -- all of it was made
-abbrev pub IsMade : Standing → Type 0
+abbrev pub IsMade : PlanView → Type 0
 IsMade p = length p.made ≡ length p.makes
 
 -- each needs earlier ones alone, bodies have lines of their types, what was made is of its kind, and one that was asked for is to be made
-pub record IsSound (makes : List Planned) (made : List Made) (is_waiting : Bool) (root : Part) : Type 0 where
+pub record IsSoundPlan (makes : List Planned) (made : List Made) (is_waiting : Bool) (root : Part) : Type 0 where
   pub order : AreInOrder [] makes
   pub root_within : IsEarlier makes root
   pub typed : AreTyped makes

@@ -71,9 +71,9 @@ impl Drop for Plan {
 }
 
 impl Model for Plan {
-    ghost use Rattle.formula_elab.specs.Plan.{Standing, IsSound};
+    ghost use Rattle.formula_elab.specs.Plan.{PlanView, IsSoundPlan};
 
-    ghost Value = { Standing };
+    ghost Value = { PlanView };
 
     ghost view = { λ p. record {
       makes = p.makes.items;
@@ -82,7 +82,7 @@ impl Model for Plan {
       root = p.root;
     } };
 
-    ghost invariant = { λ p. IsSound p.makes.items p.made.items p.is_waiting p.root };
+    ghost invariant = { λ p. IsSoundPlan p.makes.items p.made.items p.is_waiting p.root };
 }
 
 impl Plan {

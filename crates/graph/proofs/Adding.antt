@@ -5,7 +5,7 @@ use Rattle.graph.proofs.Faulting.{same_err}
 use Rattle.graph.specs.Effects.{top, Adds, KeepsAll, KeepsBesideGiven, IsAddFault, NamesUnknown, IsMistyped, HasNoRoom}
 use Rattle.graph.specs.Effects.{AnswersAdd}
 use Rattle.graph.specs.Fault.{of_add}
-use Rattle.graph.specs.Standing.{Standing, IsUnbroken, IsBroken}
+use Rattle.graph.specs.Standing.{GraphView, IsUnbroken, IsBroken}
 use Rattle.graph.specs.declared.fault.GraphFault.{GraphFault}
 use Rattle.graph.specs.declared.fault.GraphFault.TheVariants as fault
 use Rattle.graph.specs.declared.fault.Kept.{Kept}
@@ -43,7 +43,7 @@ Passes (Err e) q = q ≡ Err (of_add e)
 
 -- ---- a node was added to an unbroken graph, or not
 
-module _ {F : Type 0} (s t : Standing F) (def : Def) (ty : Ty) (whole : IsUnbroken s) where
+module _ {F : Type 0} (s t : GraphView F) (def : Def) (ty : Ty) (whole : IsUnbroken s) where
   not_broken : (cause : Kept) → IsBroken s cause → ⊥
   not_broken cause (r, met, of) = let e : None ≡ Some r = sym whole ∙ met in cc
 

@@ -1,7 +1,7 @@
 -- Faults that don't come where a caller knows.
 use Rattle.std.proofs.Common.{◌≡◌, ◌↔◌, inl, inr, Option, None, Some, IsSome, Result, Err, IfErr, IsErrOf, sym, ap, subst, ◌∙◌}
 use Rattle.graph.specs.Effects.{IsEndFault, IsSetFault}
-use Rattle.graph.specs.Standing.{Standing, node_at, IsUnbroken, IsBroken}
+use Rattle.graph.specs.Standing.{GraphView, node_at, IsUnbroken, IsBroken}
 use Rattle.graph.specs.declared.fault.GraphFault.{GraphFault}
 use Rattle.graph.specs.declared.fault.GraphFault.TheVariants as fault
 use Rattle.graph.specs.declared.fault.Kept.{Kept}
@@ -13,7 +13,7 @@ use Rattle.node_arena.specs.Arena.{IsVariable}
 use Rattle.node_arena.specs.Typing.{FitsNode}
 
 -- a variable takes a value that fits
-module _ {F : Type 0} (s : Standing F) (n : NodeId) (w : Value) (whole : IsUnbroken s) (variable : IsVariable s.nodes n)
+module _ {F : Type 0} (s : GraphView F) (n : NodeId) (w : Value) (whole : IsUnbroken s) (variable : IsVariable s.nodes n)
     (given : Given s.nodes.given n) (within : ValueWithin (Given s.nodes.given) w) (fits : FitsNode s.nodes n w) where
   not_broken : (cause : Kept) → IsBroken s cause → ⊥
   not_broken cause (r, is, of) = let clash : None ≡ Some r = sym whole ∙ is in cc
@@ -30,7 +30,7 @@ module _ {F : Type 0} (s : Standing F) (n : NodeId) (w : Value) (whole : IsUnbro
   no_set_fault r e is (inr (inr (inr same))) broken unknown not_var wrong = (wrong (is ∙ ap (λ (x : GraphFault). Err x) same)).1.2 fits
 
 -- an observer in use is ended
-pub no_end_fault : {F T : Type 0} (s : Standing F) → IsUnbroken s → (r : Result T GraphFault) (e : GraphFault) (o : ObsId) → r ≡ Err e → IfErr r IsEndFault
+pub no_end_fault : {F T : Type 0} (s : GraphView F) → IsUnbroken s → (r : Result T GraphFault) (e : GraphFault) (o : ObsId) → r ≡ Err e → IfErr r IsEndFault
     → ((cause : Kept) → IsErrOf r (fault.Broken cause) ↔ IsBroken s cause)
     → (IsErrOf r fault.Unknown ↔ (IsUnbroken s × (node_at s.observers o ≡ None)))
     → IsSome (node_at s.observers o) → ⊥

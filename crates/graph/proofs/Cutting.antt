@@ -25,7 +25,7 @@ use Rattle.node_outcomes.specs.declared.row.Progress.{Progress}
 use Rattle.wiring.specs.declared.work.Work.{Work}
 use Rattle.graph.specs.Effects.{SetsCutoff}
 use Rattle.graph.specs.Inside.{FitsInside}
-use Rattle.graph.specs.Standing.{Standing}
+use Rattle.graph.specs.Standing.{GraphView}
 use Rattle.graph.proofs.Seeing.{seen_as, built_still}
 use Rattle.graph.specs.declared.observer.Observer.{Observer}
 use Rattle.graph.proofs.Sound.{ready_built}
@@ -95,10 +95,10 @@ module _ (old new : Parts) (id : NodeId) (c : Cutoff) (set : IsRewritten old.wor
   cut_at (Some k) there = refl
 
   module _ {F : Type 0} (functions : F) (observers : List Observer) (rooted : ℕ) (refused : Option Refused) where
-    abbrev before : Standing F
+    abbrev before : GraphView F
     before = seen_as functions old observers rooted refused
 
-    abbrev after : Standing F
+    abbrev after : GraphView F
     after = seen_as functions new observers rooted refused
 
     pub sets_cutoff : IsKept old.arena old.work → (at old.work.rows (main id) ≡ None → new ≡ old) → SetsCutoff before after id c

@@ -3,7 +3,7 @@
 use Rattle.std.proofs.Common.{◌≡◌}
 use Rattle.inc_terms.specs.Term.{Functions}
 use Rattle.stabilizer.specs.Kept.{HasNoBinds}
-use Rattle.graph.specs.Standing.{Standing}
+use Rattle.graph.specs.Standing.{GraphView}
 
 -- ---- none died
 
@@ -12,4 +12,4 @@ module _ {F : Type 0} (M : Functions) where
 
   -- ---- so it is of a stabilize of nodes none of which is a bind
 
-  module _ (old new : Standing F) (no_binds : HasNoBinds old.nodes) (nodes : new.nodes ≡ old.nodes) where
+  module _ (old new : GraphView F) (no_binds : HasNoBinds old.nodes) (nodes : new.nodes ≡ old.nodes) where

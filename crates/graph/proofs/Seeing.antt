@@ -25,7 +25,7 @@ use Rattle.stabilizer.specs.declared.parts.Parts.{Parts}
 use Rattle.stabilizer.proofs.Between.Alone.{same_some}
 use Rattle.wiring.specs.declared.refused.Refused.{Refused}
 use Rattle.graph.specs.Effects.{KeepsBeside}
-use Rattle.graph.specs.Standing.{Standing, IsNeeded}
+use Rattle.graph.specs.Standing.{GraphView, IsNeeded}
 use Rattle.graph.specs.declared.observer.Observer.{Observer}
 
 -- ---- cutoffs
@@ -37,7 +37,7 @@ equal_still now was (inr equal) e = equal
 
 -- ---- a graph over its parts
 
-abbrev pub seen_as : {F : Type 0} → F → Parts → List Observer → ℕ → Option Refused → Standing F
+abbrev pub seen_as : {F : Type 0} → F → Parts → List Observer → ℕ → Option Refused → GraphView F
 seen_as functions parts observers rooted refused = record {
   functions = functions;
   nodes = parts.arena;

@@ -27,7 +27,7 @@ use Rattle.wiring.specs.Graph.{graph_at}
 use Rattle.wiring.specs.Kept.{IsKept}
 use Rattle.wiring.specs.declared.refused.Refused.{Refused}
 use Rattle.wiring.specs.declared.work.Work.{Work}
-use Rattle.graph.specs.Sound.{IsSound, RootsFit}
+use Rattle.graph.specs.Sound.{IsSoundGraph, RootsFit}
 use Rattle.graph.specs.Standing.{in_use}
 use Rattle.graph.proofs.Seeing.{seen_as}
 use Rattle.graph.specs.Inside.{CanStabilize, FitsInside}
@@ -74,7 +74,7 @@ roots_fit arena work kept b r left f captures w root row bind built is =
 
 -- what callers are told of it
 pub sound_of : {F : Type 0} (functions : F) (M : Meaning) (parts : Parts) (observers : List Observer) (rooted : ℕ) (refused : Option Refused)
-    → FitsInside M parts observers rooted refused → IsSound M (seen_as functions parts observers rooted refused)
+    → FitsInside M parts observers rooted refused → IsSoundGraph M (seen_as functions parts observers rooted refused)
 sound_of functions M parts observers rooted refused fits = record {
   few = fits.few;
   earlier = fits.earlier;

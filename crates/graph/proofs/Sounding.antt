@@ -36,8 +36,8 @@ use Rattle.node_outcomes.specs.Row.{cutoff_in, outcome_in}
 use Rattle.graph.specs.Effects.{Adds, KeepsBesideGiven, CallsKnown}
 use Rattle.graph.proofs.Fitting.{known_fits, calls_fit, fit_added}
 use Rattle.graph.specs.Inside.{FitsInside}
-use Rattle.graph.specs.Standing.{Standing}
-use Rattle.node_arena.specs.Sound.{IsSound}
+use Rattle.graph.specs.Standing.{GraphView}
+use Rattle.node_arena.specs.Sound.{IsSoundArena}
 use Rattle.graph.specs.declared.observer.Observer.{Observer}
 use Rattle.graph.proofs.Sound.{can_still, ready_built}
 use Rattle.graph.proofs.Observing.{front_is_among}
@@ -66,7 +66,7 @@ none_built (Some r) root = by_kind r.def
     by_kind def = refl
 
 -- the new node's points have this row: no outcome, no last call, cutoff Equal
-pub adds_of : {F : Type 0} (s t : Standing F) (def : Def) (ty : Ty) (result : Result NodeId AddFault) (k : Progress) → k.outcome ≡ None → k.last ≡ None
+pub adds_of : {F : Type 0} (s t : GraphView F) (def : Def) (ty : Ty) (result : Result NodeId AddFault) (k : Progress) → k.outcome ≡ None → k.last ≡ None
     → k.cutoff ≡ Equal → AddAnswers s.nodes t.nodes def ty result
     → IfOk result (λ (id : NodeId). ChangesNode s.work.rows t.work.rows id (for_parts def (λ part. k))) → KeepsBesideGiven s t
     → IfOk result (λ (id : NodeId). Adds s t id (record { def = def; ty = ty; scope = None }))
@@ -91,7 +91,7 @@ answer_given old new def ty (Err e) a = let g = ap (λ (x : Arena). x.given) a.e
 -- a round may begin after it, where it might before
 pub answer_ready : (known : FnRef → Bool) (value : FnRef → List Value → Value) (right : FnRef → RightSide) → SidesHold known right → (old new : Parts)
     (def : Def) (ty : Ty) (result : Result NodeId AddFault) → AddAnswers old.arena new.arena def ty result → CallsKnown known right old.arena def
-    → IsSound new.arena
+    → IsSoundArena new.arena
     → OnOk result ((M : Meaning) → CallsFit old.arena.given M.known M.ids def → IsReady M old → IsReady M new)
     → OnErr result ((M : Meaning) → IsReady M old → IsReady M new)
     → IsReady (record { functions = meaning value right; known = known; ids = ids_of right }) old
@@ -103,7 +103,7 @@ answer_ready known value right sides old new def ty (Err e) a calls sound ready 
 
 -- and functions of all nodes fit
 pub answer_fit : (known : FnRef → Bool) (right : FnRef → RightSide) → SidesHold known right → (old new : Arena)
-    (def : Def) (ty : Ty) (result : Result NodeId AddFault) → AddAnswers old new def ty result → CallsKnown known right old def → IsSound new
+    (def : Def) (ty : Ty) (result : Result NodeId AddFault) → AddAnswers old new def ty result → CallsKnown known right old def → IsSoundArena new
     → ((n : NodeId) → Given old.given n → row_at new n ≡ row_at old n) → (work : Work) → IsKept old work → SidesFit known right old → SidesFit known right new
 answer_fit known right sides old new def ty (Ok id) a calls sound keeps work kept fit =
     let g = a.given in

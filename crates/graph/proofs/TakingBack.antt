@@ -22,7 +22,7 @@ use Rattle.wiring.specs.declared.work.Work.{Work}
 use Rattle.wiring.specs.Kept.{IsKept}
 use Rattle.graph.specs.Effects.{KeepsBeside, Adds, NoneScopedSince}
 use Rattle.graph.proofs.Fitting.{fit_left}
-use Rattle.graph.specs.Standing.{Standing, IsNeeded, in_use}
+use Rattle.graph.specs.Standing.{GraphView, IsNeeded, in_use}
 use Rattle.graph.specs.Inside.{FitsInside}
 use Rattle.graph.specs.declared.observer.Observer.{Observer}
 use Rattle.graph.proofs.Sound.{can_still, ready_built}
@@ -85,7 +85,7 @@ module _ (known : FnRef → Bool) (right : FnRef → RightSide) (old new : Arena
 
 -- ---- who is needed, over calls that keep all beside the nodes
 
-module _ {F : Type 0} {Of : NodeId → Type 0} (old new : Standing F) (keeps : KeepsBeside Of old new) where
+module _ {F : Type 0} {Of : NodeId → Type 0} (old new : GraphView F) (keeps : KeepsBeside Of old new) where
   -- none more is
   pub needed_still : (p : Point) → IsNeeded new p → IsNeeded old p
   needed_still = needed_has new (IsNeeded old) (λ p is. needed_root old p (let r = keeps.roots p in omega (arith, r, is)))
@@ -97,7 +97,7 @@ module _ {F : Type 0} {Of : NodeId → Type 0} (old new : Standing F) (keeps : K
 
 -- ---- who stands in scopes, where nodes are added outside them
 
-module _ {F : Type 0} (old new : Standing F) (count : ℕ) (none : NoneScopedSince old.nodes count) where
+module _ {F : Type 0} (old new : GraphView F) (count : ℕ) (none : NoneScopedSince old.nodes count) where
   -- still none that was given since the count
   pub unscoped_still : (id : NodeId) (row : Row) → Adds old new id row → row.scope ≡ None → NoneScopedSince new.nodes count
   unscoped_still id row adds outside n r is since = elim (node_or_other n id) [

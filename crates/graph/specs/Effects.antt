@@ -14,7 +14,7 @@ use Rattle.map_nodes.specs.declared.cutoff.Cutoff.TheVariants.{Equal}
 use Rattle.node_arena.specs.Arena.{Arena, row_at, Changes, IsLive, IsFull, IsSet, NamesGiven}
 use Rattle.node_arena.specs.RightSide.{RightSide, AreFit}
 use Rattle.node_arena.specs.Typing.{Makes}
-use Rattle.graph.specs.Standing.{Standing, IsUnbroken, IsBroken, graph, node_at, shown_of, chosen_by, called_last, cutoff_of, times_linked, times_rooted}
+use Rattle.graph.specs.Standing.{GraphView, IsUnbroken, IsBroken, graph, node_at, shown_of, chosen_by, called_last, cutoff_of, times_linked, times_rooted}
 use Rattle.graph.specs.declared.fault.Kept.{Kept}
 use Rattle.graph.specs.declared.fault.GraphFault.{GraphFault}
 use Rattle.graph.specs.declared.fault.GraphFault.TheVariants as fault
@@ -40,26 +40,26 @@ IsAddFault e = ((cause : Kept) × (e ≡ fault.Broken cause)) ⊎ (e ≡ fault.U
 
 module _ {F : Type 0} where
   -- the functions stay, what the last accepted stabilize told and what broke the graph
-  pub record KeepsTop (old new : Standing F) : Type 0 where
+  pub record KeepsTop (old new : GraphView F) : Type 0 where
     pub functions : new.functions ≡ old.functions
     pub rooted : new.rooted ≡ old.rooted
     pub refused : new.refused ≡ old.refused
     pub ran : new.ran ≡ old.ran
 
   -- links and roots stay, by which need is known
-  pub record KeepsNeed (old new : Standing F) : Type 0 where
+  pub record KeepsNeed (old new : GraphView F) : Type 0 where
     pub links : (p q : Point) → times_linked new p q ≡ times_linked old p q
     pub roots : (p : Point) → times_rooted new p ≡ times_rooted old p
 
   -- of these nodes it stays what is shown, what they chose by, what they are built for, and its root, and what their functions were last called on
-  pub record KeepsNodes (Of : NodeId → Type 0) (old new : Standing F) : Type 0 where
+  pub record KeepsNodes (Of : NodeId → Type 0) (old new : GraphView F) : Type 0 where
     pub shown : (n : NodeId) → Of n → shown_of new n ≡ shown_of old n
     pub chosen : (n : NodeId) → Of n → chosen_by new n ≡ chosen_by old n
     pub built : (n : NodeId) → Of n → (graph new).built n ≡ (graph old).built n
     pub last : (n : NodeId) → Of n → called_last new n ≡ called_last old n
 
   -- beside the nodes all stays; and of these nodes what is known of them, and their cutoffs. No further node has a cutoff other than Equal
-  pub record KeepsBeside (Of : NodeId → Type 0) (old new : Standing F) : Type 0 where
+  pub record KeepsBeside (Of : NodeId → Type 0) (old new : GraphView F) : Type 0 where
     pub top : KeepsTop old new
     pub observers : new.observers ≡ old.observers
     pub need : KeepsNeed old new
@@ -68,30 +68,30 @@ module _ {F : Type 0} where
     pub no_more_cutoffs : (n : NodeId) → cutoff_of old n ≡ Equal → cutoff_of new n ≡ Equal
 
   -- so it is of all ids that were given
-  abbrev pub KeepsBesideGiven : Standing F → Standing F → Type 0
+  abbrev pub KeepsBesideGiven : GraphView F → GraphView F → Type 0
   KeepsBesideGiven old new = KeepsBeside (Given old.nodes.given) old new
 
   -- ---- nodes that are added
 
   -- a definition names an id that was never given
-  abbrev pub NamesUnknown : Standing F → Def → Type 0
+  abbrev pub NamesUnknown : GraphView F → Def → Type 0
   NamesUnknown s def = ¬ NamesGiven s.nodes.given def
 
   -- it names given ids, and doesn't make the type
-  abbrev pub IsMistyped : Standing F → Def → Ty → Type 0
+  abbrev pub IsMistyped : GraphView F → Def → Ty → Type 0
   IsMistyped s def ty = NamesGiven s.nodes.given def × ¬ Makes s.nodes def ty
 
   -- it makes the type, and no further node can be added
-  abbrev pub HasNoRoom : Standing F → Def → Ty → Type 0
+  abbrev pub HasNoRoom : GraphView F → Def → Ty → Type 0
   HasNoRoom s def ty = NamesGiven s.nodes.given def × Makes s.nodes def ty × IsFull s.nodes
 
   -- no node changed and no id was given, and all stays beside
-  pub record KeepsAll (old new : Standing F) : Type 0 where
+  pub record KeepsAll (old new : GraphView F) : Type 0 where
     pub beside : KeepsBesideGiven old new
     pub nodes : new.nodes ≡ old.nodes
 
   -- a node was added under an id that was never given. It shows nothing yet, is built for nothing, its function was never called, and its cutoff is Equal
-  pub record Adds (old new : Standing F) (id : NodeId) (row : Row) : Type 0 where
+  pub record Adds (old new : GraphView F) (id : NodeId) (row : Row) : Type 0 where
     pub beside : KeepsBesideGiven old new
     pub fresh : id.gen_ ≡ old.nodes.given
     pub given : new.nodes.given ≡ old.nodes.given + 1
@@ -103,7 +103,7 @@ module _ {F : Type 0} where
 
   -- what the call answers that adds a node of a definition, with a type: under which id it was added, or the first of what stands in the way, or that
   -- there is no memory. Where it is refused nothing changed
-  pub record AnswersAdd (old new : Standing F) (def : Def) (ty : Ty) (answer : Result NodeId GraphFault) : Type 0 where
+  pub record AnswersAdd (old new : GraphView F) (def : Def) (ty : Ty) (answer : Result NodeId GraphFault) : Type 0 where
     pub added : IfOk answer (λ id. Adds old new id (top def ty))
     pub broken : (cause : Kept) → IsErrOf answer (fault.Broken cause) ↔ IsBroken old cause
     pub unknown : IsErrOf answer fault.Unknown ↔ (IsUnbroken old × NamesUnknown old def)
@@ -113,11 +113,11 @@ module _ {F : Type 0} where
     pub err : OnErr answer (KeepsAll old new)
 
   -- why a list of nodes isn't copied: the graph is broken, or there is no memory
-  abbrev pub RefusesList : Standing F → GraphFault → Type 0
+  abbrev pub RefusesList : GraphView F → GraphFault → Type 0
   RefusesList s e = ((cause : Kept) × IsBroken s cause × (e ≡ fault.Broken cause)) ⊎ (IsUnbroken s × (e ≡ fault.Memory))
 
   -- the same of a call that copies a list of nodes first, for which there may be no memory
-  pub record AnswersListed (old new : Standing F) (def : Def) (ty : Ty) (answer : Result NodeId GraphFault) : Type 0 where
+  pub record AnswersListed (old new : GraphView F) (def : Def) (ty : Ty) (answer : Result NodeId GraphFault) : Type 0 where
     pub added : IfOk answer (λ id. Adds old new id (top def ty))
     pub err : OnErr answer (KeepsAll old new)
     pub exact : AnswersAdd old new def ty answer ⊎ (IsUnbroken old × IsErrOf answer fault.Memory)
@@ -125,13 +125,13 @@ module _ {F : Type 0} where
   -- ---- nodes that are set and taken back
 
   -- a variable was set
-  pub record Sets (old new : Standing F) (id : NodeId) (v : Value) : Type 0 where
+  pub record Sets (old new : GraphView F) (id : NodeId) (v : Value) : Type 0 where
     pub beside : KeepsBesideGiven old new
     pub given : new.nodes.given ≡ old.nodes.given
     pub set : IsSet old.nodes new.nodes id v
 
   -- a live node's cutoff was set, and all else stays; of a dead node nothing changed
-  pub record SetsCutoff (old new : Standing F) (id : NodeId) (c : Cutoff) : Type 0 where
+  pub record SetsCutoff (old new : GraphView F) (id : NodeId) (c : Cutoff) : Type 0 where
     pub set : IsLive old.nodes id → cutoff_of new id ≡ c
     pub others : (n : NodeId) → n ≢ id → cutoff_of new n ≡ cutoff_of old n
     pub dead : (IsLive old.nodes id → ⊥) → new ≡ old
@@ -142,7 +142,7 @@ module _ {F : Type 0} where
     pub of_nodes : KeepsNodes (λ n. Unit {0}) old new
 
   -- the nodes of ids from a count on were dropped, and their ids stay used up
-  pub record TakesBack (old new : Standing F) (count : ℕ) : Type 0 where
+  pub record TakesBack (old new : GraphView F) (count : ℕ) : Type 0 where
     pub beside : KeepsBeside (λ n. n.gen_ < count) old new
     pub older : (n : NodeId) → n.gen_ < count → row_at new.nodes n ≡ row_at old.nodes n
     pub dropped : (n : NodeId) → count ≤ n.gen_ → row_at new.nodes n ≡ None
@@ -151,12 +151,12 @@ module _ {F : Type 0} where
   -- ---- observers
 
   -- an observer of a node was made, and nothing else changed
-  pub record Observes (old new : Standing F) (o : ObsId) (node : NodeId) : Type 0 where
+  pub record Observes (old new : GraphView F) (o : ObsId) (node : NodeId) : Type 0 where
     pub id : o.0 ≡ length old.observers
     pub rest : new ≡ record old { observers = old.observers ++ record { node = node; in_use = true } ∷ [] }
 
   -- an observer that was in use was ended; beside it only need changed, where it was there when a stabilize was accepted last
-  pub record Ends (old new : Standing F) (o : ObsId) : Type 0 where
+  pub record Ends (old new : GraphView F) (o : ObsId) : Type 0 where
     pub node : NodeId
     pub was : node_at old.observers o ≡ Some node
     pub observers : new.observers ≡ slice_set old.observers o.0 (record { node = node; in_use = false })

@@ -12,7 +12,7 @@ use Rattle.node_arena.specs.Sound as arena
 use Rattle.node_arena.specs.Typing.{Fits}
 use Rattle.node_outcomes.specs.Meaning.{Meaning}
 use Rattle.stabilize_round.specs.Invariant.{Rooted, ScopesRooted}
-use Rattle.graph.specs.Standing.{Standing, graph, shown_of, in_use, rooted_nodes, AreRooted, IsUnbroken}
+use Rattle.graph.specs.Standing.{GraphView, graph, shown_of, in_use, rooted_nodes, AreRooted, IsUnbroken}
 
 -- the root of a bind was given, and is of the type that the bind's function gives, or dead
 abbrev pub RootsFit : Arena → Graph → Type 0
@@ -23,7 +23,7 @@ RootsFit a G =
 module _ {F : Type 0} where
   -- an unbroken graph: need begins at the observers that were there at the last stabilize, and their nodes show an outcome; all functions of its nodes are
   -- known, and list given nodes; observers look at given nodes
-  pub record IsWhole (M : Meaning) (s : Standing F) : Type 0 where
+  pub record IsWhole (M : Meaning) (s : GraphView F) : Type 0 where
     pub roots : AreRooted s (rooted_nodes s)
     pub fit : AllCallFit M.known M.ids s.nodes
     pub given : (n : NodeId) → Among n (in_use s.observers) → Given s.nodes.given n
@@ -32,10 +32,10 @@ module _ {F : Type 0} where
   -- what every graph keeps, also one that is broken: a node in a scope stands in that of a live bind that is built, and has a root; and each bind that is
   -- built for a value has a root that reads back as its function's term at it and is of the type that this gives, or dead; one that is built for Invalid
   -- has none
-  pub record IsSound (M : Meaning) (s : Standing F) : Type 0 where
+  pub record IsSoundGraph (M : Meaning) (s : GraphView F) : Type 0 where
     pub few : length s.observers ≤ 2 ^ 32 - 1
     pub earlier : s.rooted ≤ length s.observers
-    pub nodes : arena.IsSound s.nodes
+    pub nodes : arena.IsSoundArena s.nodes
     pub scopes : Scoped (graph s)
     pub built : Rooted M.functions (graph s)
     pub inside : ScopesRooted (graph s)

@@ -16,16 +16,16 @@ use Rattle.stabilizer.specs.Round.{IsFullBy}
 use Rattle.wiring.specs.Stands.{Counts}
 use Rattle.wiring.specs.declared.refused.Refused.{Refused}
 use Rattle.graph.specs.Fault.{kept_of}
-use Rattle.graph.specs.Standing.{Standing, look, graph, in_use, node_at, shown_of, cutoff_of, IsUnbroken}
+use Rattle.graph.specs.Standing.{GraphView, look, graph, in_use, node_at, shown_of, cutoff_of, IsUnbroken}
 use Rattle.graph.specs.declared.fault.Kept.{Kept}
 
 module _ {F : Type 0} where
   -- the graph that a stabilize left, as it read it: a freeze that got its value still follows its child
-  abbrev pub left_by : Standing F → Standing F → Graph
+  abbrev pub left_by : GraphView F → GraphView F → Graph
   left_by old new = left_by_call (graph old) (graph new)
 
   -- the scope in which a node stood that died in it
-  abbrev pub died_by : Standing F → Standing F → NodeId → Option NodeId
+  abbrev pub died_by : GraphView F → GraphView F → NodeId → Option NodeId
   died_by old new = died_in (graph old) (graph new)
 
   -- ---- over the graph that a stabilize left, and those who died in it
@@ -33,7 +33,7 @@ module _ {F : Type 0} where
   module _ (M : Functions) (G : Graph) (died : NodeId → Option NodeId) where
     -- an accepted stabilize: each observer in use shows what its node gives, evaluated from scratch; observers stay, and of nodes what a round leaves;
     -- each bind could be built that was due; and what is needed, linked, shown and called is right
-    pub record StabilizesIn (after : Graph) (old new : Standing F) : Type 0 where
+    pub record StabilizesIn (after : Graph) (old new : GraphView F) : Type 0 where
       pub was : IsUnbroken old
       pub unbroken : IsUnbroken new
       pub stays : GraphStays old.nodes.given new.nodes.given (graph old) (left_by old new)
@@ -47,7 +47,7 @@ module _ {F : Type 0} where
     -- nodes are full, a build in it found no room for a further node. Observers stay, and cutoffs of nodes that live, and of nodes what a round leaves;
     -- what is shown of a node that was given before is what was before, or what it gives. One bind couldn't be built, for want of room or of memory, or
     -- none
-    pub record IsRefusedIn (old new : Standing F) (cause : Kept) : Type 0 where
+    pub record IsRefusedIn (old new : GraphView F) (cause : Kept) : Type 0 where
       pub was : IsUnbroken old
       pub stays : GraphStays old.nodes.given new.nodes.given (graph old) (left_by old new)
       pub observers : new.observers ≡ old.observers
@@ -67,7 +67,7 @@ module _ {F : Type 0} where
 
   -- ---- of a stabilize from one standing to another
 
-  module _ (M : Functions) (old new : Standing F) where
+  module _ (M : Functions) (old new : GraphView F) where
     abbrev pub Stabilizes : Type 0
     Stabilizes = StabilizesIn M (left_by old new) (died_by old new) (graph new) old new
 

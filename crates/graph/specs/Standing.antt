@@ -20,7 +20,7 @@ use Rattle.graph.specs.declared.fault.Kept.{Kept}
 use Rattle.graph.specs.declared.observer.Observer.{Observer}
 
 -- a graph
-pub record Standing (F : Type 0) : Type 0 where
+pub record GraphView (F : Type 0) : Type 0 where
   -- its functions
   pub functions : F
   -- its live nodes, by id, and how many ids were given
@@ -51,7 +51,7 @@ root_in built = and_then built (λ (w : Built). w.root)
 -- ---- without functions
 
 -- the graph but for its functions
-abbrev pub without_functions : {F : Type 0} → Standing F → Standing (Unit {0})
+abbrev pub without_functions : {F : Type 0} → GraphView F → GraphView (Unit {0})
 without_functions s = record {
   functions = tt;
   nodes = s.nodes;
@@ -87,55 +87,55 @@ last_round (Some refused) round = round
 
 module _ {F : Type 0} where
   -- what can be looked at between two calls, by which contracts say what these do
-  abbrev pub look : Standing F → Look
+  abbrev pub look : GraphView F → Look
   look s = look_of (last_round s.refused s.work.round) s.nodes s.work
 
   -- what is shown of a node: the outcome that it had when it was brought up to date last, Invalid of a dead one
-  abbrev pub shown_of : Standing F → NodeId → Option Outcome
+  abbrev pub shown_of : GraphView F → NodeId → Option Outcome
   shown_of s n = (look s).shown n
 
   -- by which outcome of its test or child an if or a join last chose its right side
-  abbrev pub chosen_by : Standing F → NodeId → Option Outcome
+  abbrev pub chosen_by : GraphView F → NodeId → Option Outcome
   chosen_by s n = (look s).chosen n
 
   -- what a node's function was last called on, and what it gave
-  abbrev pub called_last : Standing F → NodeId → Option Call
+  abbrev pub called_last : GraphView F → NodeId → Option Call
   called_last s n = (look s).last n
 
   -- which outcomes of a node are told to its readers
-  abbrev pub cutoff_of : Standing F → NodeId → Cutoff
+  abbrev pub cutoff_of : GraphView F → NodeId → Cutoff
   cutoff_of s n = (look s).cutoff n
 
   -- how often a point is linked to another
-  abbrev pub times_linked : Standing F → Point → Point → ℕ
+  abbrev pub times_linked : GraphView F → Point → Point → ℕ
   times_linked s p q = (look s).linked p q
 
   -- how often need begins at a point
-  abbrev pub times_rooted : Standing F → Point → ℕ
+  abbrev pub times_rooted : GraphView F → Point → ℕ
   times_rooted s p = (look s).rooted p
 
   -- ---- words for it
 
   -- no stabilize was refused
-  abbrev pub IsUnbroken : Standing F → Type 0
+  abbrev pub IsUnbroken : GraphView F → Type 0
   IsUnbroken s = s.refused ≡ None
 
   -- a stabilize was refused for this cause
-  abbrev pub IsBroken : Standing F → Kept → Type 0
+  abbrev pub IsBroken : GraphView F → Kept → Type 0
   IsBroken s cause = (r : Refused) × (s.refused ≡ Some r) × (kept_of r ≡ cause)
 
   -- the nodes as a graph, with what binds are built for. Its evaluation from scratch says what is shown
-  abbrev pub graph : Standing F → Graph
+  abbrev pub graph : GraphView F → Graph
   graph s = (look s).graph
 
   -- the nodes of the observers in use that were there when a stabilize was accepted last
-  abbrev pub rooted_nodes : Standing F → List NodeId
+  abbrev pub rooted_nodes : GraphView F → List NodeId
   rooted_nodes s = in_use (take s.rooted s.observers)
 
   -- the point is brought up to date by a stabilize: links lead to it from where need begins
-  abbrev pub IsNeeded : Standing F → Point → Type 0
+  abbrev pub IsNeeded : GraphView F → Point → Type 0
   IsNeeded s p = seen.IsNeeded (look s) p
 
   -- need begins at the mains of these nodes, as often at each as it is listed
-  abbrev pub AreRooted : Standing F → List NodeId → Type 0
+  abbrev pub AreRooted : GraphView F → List NodeId → Type 0
   AreRooted s nodes = seen.AreRooted (look s) nodes

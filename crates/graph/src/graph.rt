@@ -6,7 +6,7 @@ ghost use Rattle.inc_value.specs.declared.node.Point.{Point};
 ghost use Rattle.map_nodes.specs.declared.cutoff.Cutoff.TheVariants.{Equal};
 ghost use Rattle.node_outcomes.specs.Meaning.{meaning_of};
 ghost use Rattle.graph.specs.Few.{AreFew, ScopesAreFew};
-ghost use Rattle.graph.specs.Sound.{IsSound};
+ghost use Rattle.graph.specs.Sound.{IsSoundGraph};
 ghost use Rattle.graph.specs.Standing.{IsUnbroken, IsBroken, IsOwner, graph};
 ghost use Rattle.graph.specs.Standing.{called_last, cutoff_of, times_linked, times_rooted};
 ghost use Rattle.graph.specs.declared.fault.Kept.{Kept as ACause};
@@ -66,9 +66,9 @@ impl<F: Functions> Drop for Graph<F> {
 }
 
 impl<F: Functions> Model for Graph<F> {
-    ghost use Rattle.graph.specs.Standing.{Standing};
+    ghost use Rattle.graph.specs.Standing.{GraphView};
 
-    ghost Value = { Standing F };
+    ghost Value = { GraphView F };
 
     ghost view = { λ g. record {
       functions = g.functions;
@@ -173,7 +173,7 @@ impl<F: Functions> Graph<F> {
     /// scopes within it, no more than its function takes. A node that is not live has cutoff Equal. These are facts for a
     /// caller's proof: nothing runs.
     pub fn keeps_sound(&self)
-        ensures sound { IsSound (meaning_of F.Functions self.entry.now.functions) self.entry.now }
+        ensures sound { IsSoundGraph (meaning_of F.Functions self.entry.now.functions) self.entry.now }
         ensures functions { F.is_sound self.entry.now.functions }
         ensures few { AreFew (F.right self.entry.now.functions) self.entry.now.nodes }
         ensures scopes { ScopesAreFew (F.right self.entry.now.functions) (graph self.entry.now) }

@@ -8,7 +8,7 @@ use Rattle.link_table.specs.Links.{Links, Reads, KeepsLinks, OneLinkMore}
 use Rattle.height_order.specs.declared.lifts.Lift.{Lift}
 use Rattle.height_order.specs.declared.heights.LinkFault.TheVariants.{Path, Over, Memory}
 use Rattle.height_order.specs.Chains.{ReadsWith, IsChain, IsPath, Leads}
-use Rattle.height_order.specs.Levels.{Web, level, AllLow, Ends, IsSound, levelled, KeepsPoints, IsBelow, IsExactBelow, Tells, bound, AreLevels, AddsBelow}
+use Rattle.height_order.specs.Levels.{Web, level, AllLow, Ends, AreSoundHeights, levelled, KeepsPoints, IsBelow, IsExactBelow, Tells, bound, AreLevels, AddsBelow}
 use Rattle.height_order.specs.Climbs.{IsClimbed, IsRanked}
 use Rattle.height_order.specs.Answers.{IsNear, IsLinkAnswer, IsFitted, AreEndsLevelled}
 use Rattle.height_order.proofs.Points.{not_both, some_there, there_cases}
@@ -33,7 +33,7 @@ module _ (old : Web) (p q : Point) where
 module _ {A : Type 0} (old : Web) (p q : Point) (before : List Point) where
   -- there is no memory
   pub memory_told : (new : Web) (after : List Point) → KeepsLinks old.links new.links → new.heights ≡ old.heights → after ≡ before
-      → IsSound new.heights new.links → IsLinkAnswer {A = A} old new p q before after (Err Memory)
+      → AreSoundHeights new.heights new.links → IsLinkAnswer {A = A} old new p q before after (Err Memory)
   memory_told new after links heights untold sound = record {
     linked = tt;
     err = links;
@@ -57,7 +57,7 @@ module _ {A : Type 0} (old : Web) (p q : Point) (before : List Point) where
   }
 
   -- the kid leads to the reader
-  pub path_told : (list : Vec Point) → IsSound old.heights old.links → IsPath (Reads old.links) list.items q p
+  pub path_told : (list : Vec Point) → AreSoundHeights old.heights old.links → IsPath (Reads old.links) list.items q p
       → IsLinkAnswer {A = A} old old p q before before (Err (Path list))
   path_told list sound path = record {
     linked = tt;
@@ -82,7 +82,7 @@ module _ {A : Type 0} (old : Web) (p q : Point) (before : List Point) where
 
   -- with the link a chain would be too long, and what stands below its ends is levelled
   pub over_told : (new : Web) (after : List Point) (list : Vec Point) → level old.heights p ≤ level old.heights q → KeepsLinks old.links new.links
-      → IsSound new.heights new.links → KeepsPoints old.heights new.heights → IsExactBelow new.heights new.links p q
+      → AreSoundHeights new.heights new.links → KeepsPoints old.heights new.heights → IsExactBelow new.heights new.links p q
       → ((x : Point) → level new.heights x ≢ level old.heights x → IsBelow new.links p q x)
       → Tells (level old.heights) (level new.heights) before after
       → IsChain (ReadsWith old.links p q) list.items → length list.items ≡ 130 → (Leads (Reads old.links) q p → ⊥)
@@ -109,7 +109,7 @@ module _ {A : Type 0} (old : Web) (p q : Point) (before : List Point) where
   }
 
   -- the link is made
-  pub made_told : (new : Web) (after : List Point) (x : A) → OneLinkMore old.links new.links p q → IsSound new.heights new.links
+  pub made_told : (new : Web) (after : List Point) (x : A) → OneLinkMore old.links new.links p q → AreSoundHeights new.heights new.links
       → (level old.heights q < level old.heights p → KeepsRows old.heights new.heights)
       → ((y : Point) → level new.heights y ≢ level old.heights y → IsNear old.links p q y) → KeepsPoints old.heights new.heights
       → Tells (level old.heights) (level new.heights) before after
@@ -136,7 +136,7 @@ module _ {A : Type 0} (old : Web) (p q : Point) (before : List Point) where
   }
 
 -- what is led to over the links with the new one, by a point that is to be lifted, is near
-pub fitted_near : (heights : Rows ℕ) (links more : Links) (p q : Point) (lifts : Rows Lift) → IsSound heights links → IsClimbed heights links p q lifts
+pub fitted_near : (heights : Rows ℕ) (links more : Links) (p q : Point) (lifts : Rows Lift) → AreSoundHeights heights links → IsClimbed heights links p q lifts
     → OneLinkMore links more p q → (top x : Point) → Holds lifts top → Leads (Reads more) top x → IsNear links p q x
 fitted_near heights links more p q lifts sound climbed one top x there leads =
     by (leads_split links p q top x (leads_more (Reads more) (ReadsWith links p q) top x (reads_from links more p q one) leads))
@@ -145,7 +145,7 @@ fitted_near heights links more p q lifts sound climbed one top x there leads =
     by (inl l) = record { top = top; above = inr (leads_reader heights links p q lifts sound climbed.asked top there); leads = l }
     by (inr l) = record { top = q; above = inl refl; leads = l }
 
-module _ {A E : Type 0} (old : Rows ℕ) (links : Links) (p q : Point) (before : List Point) (sound : IsSound old links) where
+module _ {A E : Type 0} (old : Rows ℕ) (links : Links) (p q : Point) (before : List Point) (sound : AreSoundHeights old links) where
   -- the ends are levelled
   pub ends_adopted : (r : Result A E) (levels new : Rows ℕ) (after : List Point) → AreLevels links (bound old old) levels
       → ((x : Point) → IsBelow links p q x → Holds levels x)
@@ -161,7 +161,7 @@ module _ {A E : Type 0} (old : Rows ℕ) (links : Links) (p q : Point) (before :
     moved = moved;
   }
   ends_adopted (Err e) levels new after so all below written err untold kept moved = record {
-    sound = subst (λ m. IsSound m links) (sym err) sound;
+    sound = subst (λ m. AreSoundHeights m links) (sym err) sound;
     exact = tt;
     err = (err, untold);
     points = kept;

@@ -7,7 +7,7 @@ use Rattle.point_map.proofs.Places.{point_cases}
 use Rattle.recompute_heap.specs.Agree.{IsLeast, IsEmpty}
 use Rattle.link_table.specs.Links.{Links, Reads, AreReaders}
 use Rattle.height_order.specs.declared.lifts.Lift.{Lift}
-use Rattle.height_order.specs.Levels.{level, IsSound}
+use Rattle.height_order.specs.Levels.{level, AreSoundHeights}
 use Rattle.height_order.specs.Climbs.{lifted, IsRaised, IsAsked, AllAsked, IsDone, IsAboveSoon, IsClimbing, IsLifted, GoesAbove, ComesAbove, KeepsDone}
 use Rattle.height_order.proofs.Points.{row_there, some_there, not_both, there_cases}
 use Rattle.height_order.proofs.Covering.{Occurs, occurs_none, occurs_cases}
@@ -26,7 +26,7 @@ capped n = record { same = λ h. omega (arith, h); cap = λ h. omega (arith, h);
 two_cases : (n : ℕ) → (n ≤ 128) ⊎ (128 < n)
 two_cases n = grind arith
 
-module _ (heights : Rows ℕ) (links : Links) (p q : Point) (sound : IsSound heights links) where
+module _ (heights : Rows ℕ) (links : Links) (p q : Point) (sound : AreSoundHeights heights links) where
   -- nothing needs to be lifted
   pub climbing_none : (lifts : Rows Lift) (queue : Rows ℕ) → lifts.places ≡ [] → IsEmpty queue → level heights q < level heights p
       → IsClimbing heights links p q lifts queue 0 p []
@@ -335,7 +335,7 @@ module _ (heights : Rows ℕ) (links : Links) (p q : Point) (sound : IsSound hei
       waiting = λ y h e. waiting_by y h e (point_cases y r);
     }
 
-module _ (heights : Rows ℕ) (links : Links) (p q : Point) (sound : IsSound heights links) where
+module _ (heights : Rows ℕ) (links : Links) (p q : Point) (sound : AreSoundHeights heights links) where
   -- the next reader comes above x, lifted or not
   pub climbing_next : (lifts : Rows Lift) (queue : Rows ℕ) (x r : Point) (left : List Point) → IsClimbing heights links p q lifts queue (level heights x) x (r ∷ left)
       → (lifts_new : Rows Lift) (queue_new : Rows ℕ) → IsDone lifts queue x → Reads links r x → r ≢ q → ComesAbove heights lifts lifts_new queue queue_new r x

@@ -7,7 +7,7 @@ use Rattle.recompute_heap.specs.Agree.{IsEmpty}
 use Rattle.link_table.specs.Links.{Links, Reads}
 use Rattle.height_order.specs.declared.lifts.Lift.{Lift}
 use Rattle.height_order.specs.Chains.{ReadsWith, IsChain, EndsAt, IsPath}
-use Rattle.height_order.specs.Levels.{level, IsSound}
+use Rattle.height_order.specs.Levels.{level, AreSoundHeights}
 use Rattle.height_order.specs.Climbs.{lifted, IsClimbed, IsAboveSoon, IsClimbing}
 use Rattle.height_order.proofs.Points.{there_cases}
 use Rattle.height_order.proofs.Covering.{occurs_none}
@@ -16,7 +16,7 @@ use Rattle.height_order.proofs.Lifting.{lifted_none, not_under}
 two_cases : (n : ℕ) → (n ≤ 128) ⊎ (128 < n)
 two_cases n = grind arith
 
-module _ (heights : Rows ℕ) (links : Links) (p q : Point) (sound : IsSound heights links) where
+module _ (heights : Rows ℕ) (links : Links) (p q : Point) (sound : AreSoundHeights heights links) where
   -- the queue is empty
   module _ (lifts : Rows Lift) (queue : Rows ℕ) (b : ℕ) (x : Point) (so : IsClimbing heights links p q lifts queue b x []) (empty : IsEmpty queue) where
     above_by : (y r : Point) → IsAboveSoon heights lifts x [] r y → lifted heights lifts r ≤ 128 → lifted heights lifts y < lifted heights lifts r

@@ -6,7 +6,7 @@ use Rattle.point_map.specs.Rows.{Rows, at, Holds}
 use Rattle.link_table.specs.Links.{Links, Reads, OneLinkMore}
 use Rattle.height_order.specs.declared.lifts.Lift.{Lift}
 use Rattle.height_order.specs.Chains.{ReadsWith, Leads, NoneLonger, IsLongest}
-use Rattle.height_order.specs.Levels.{level, levelled, Rises, AllLow, Ends, IsSound, KeepsPoints, IsExact, bound, AreBounds, AreLevels}
+use Rattle.height_order.specs.Levels.{level, levelled, Rises, AllLow, Ends, AreSoundHeights, KeepsPoints, IsExact, bound, AreBounds, AreLevels}
 use Rattle.height_order.specs.Climbs.{lifted, IsClimbed, IsRanked}
 use Rattle.height_order.proofs.Points.{row_there, there_cases, not_both, some_there, still_there}
 use Rattle.height_order.proofs.Chaining.{none_longer_by, longest_under, longest_falls, along}
@@ -67,7 +67,7 @@ module _ (old levels new : Rows ℕ) (links : Links) (bounds : Point → ℕ) (s
     low_by low fits x (inr there) = let e = now_there x there in let l = fits x there in omega (arith, e, l)
 
     -- heights by levels that aren't above the greatest height stand between calls
-    pub sound_levels : Ends old links → KeepsPoints old new → AllLow (level old) → ((x : Point) → Holds levels x → level levels x ≤ 128) → IsSound new links
+    pub sound_levels : Ends old links → KeepsPoints old new → AllLow (level old) → ((x : Point) → Holds levels x → level levels x ≤ 128) → AreSoundHeights new links
     sound_levels ends kept low fits = record {
       ends = λ a b r. let e = ends a b r in (still_there old new a kept e.0, still_there old new b kept e.1);
       rises = λ a b r. rises_by a b r (there_cases levels a) (there_cases levels b);
@@ -75,16 +75,16 @@ module _ (old levels new : Rows ℕ) (links : Links) (bounds : Point → ℕ) (s
     }
 
   -- over links along which heights rise already
-  pub sound_again : ((x : Point) → level old x ≤ bounds x) → IsSound old links → KeepsPoints old new → IsSound new links
+  pub sound_again : ((x : Point) → level old x ≤ bounds x) → AreSoundHeights old links → KeepsPoints old new → AreSoundHeights new links
   sound_again over s kept = sound_levels over (level old) s.rises (λ x none. refl) s.ends kept s.low
       (λ x there. let u = under over (level old) s.rises (λ y none. refl) x there in let l = s.low x in omega (arith, u, l))
 
 module _ {A E : Type 0} (old levels new : Rows ℕ) (links : Links) (bounds : Point → ℕ) (so : AreLevels links bounds levels) where
   -- heights that were taken over, or kept, stand between calls
   pub sound_adopted : (r : Result A E) → ((x : Point) → level old x ≤ bounds x) → OnOk r ((x : Point) → level new x ≡ levelled old levels x) → OnErr r (new ≡ old)
-      → IsSound old links → KeepsPoints old new → IsSound new links
+      → AreSoundHeights old links → KeepsPoints old new → AreSoundHeights new links
   sound_adopted (Ok u) over written err s kept = sound_again old levels new links bounds so written over s kept
-  sound_adopted (Err e) over written err s kept = subst (λ m. IsSound m links) (sym err) s
+  sound_adopted (Err e) over written err s kept = subst (λ m. AreSoundHeights m links) (sym err) s
 
   -- where all points have levels, heights that were taken over are exact
   pub exact_adopted : (r : Result A E) → OnOk r ((x : Point) → level new x ≡ levelled old levels x) → KeepsPoints old new → ((x : Point) → Holds old x → Holds levels x)
@@ -94,7 +94,7 @@ module _ {A E : Type 0} (old levels new : Rows ℕ) (links : Links) (bounds : Po
   exact_adopted (Err e) written kept all = tt
 
 -- where heights rise no chain goes over more than 128 links
-pub short_by_heights : (heights : Rows ℕ) (links : Links) → IsSound heights links → (p : Point) → NoneLonger (Reads links) p 128
+pub short_by_heights : (heights : Rows ℕ) (links : Links) → AreSoundHeights heights links → (p : Point) → NoneLonger (Reads links) p 128
 short_by_heights heights links s p list chain starts =
     let h = none_longer_by (Reads links) (level heights) s.rises p list chain starts in let l = s.low p in omega (arith, h, l)
 
@@ -104,7 +104,7 @@ short_by_rank heights lifts links s p list chain starts =
     let h = none_longer_by (Reads links) s.rank s.rises p list chain starts in let l = s.low p in omega (arith, h, l)
 
 -- what bounds levels where heights rise, and where some points are lifted
-pub bounded_by_heights : {R : Type 0} (heights : Rows ℕ) (free : Rows R) (links : Links) → IsSound heights links → AreBounds links (bound heights free)
+pub bounded_by_heights : {R : Type 0} (heights : Rows ℕ) (free : Rows R) (links : Links) → AreSoundHeights heights links → AreBounds links (bound heights free)
 bounded_by_heights heights free links s =
     are_bounds heights free links (level heights) s.rises (λ p. let l = s.low p in omega (arith, l)) (λ p none. refl)
 
@@ -112,7 +112,7 @@ pub bounded_by_rank : (heights : Rows ℕ) (lifts : Rows Lift) (links : Links) �
 bounded_by_rank heights lifts links s = are_bounds heights lifts links s.rank s.rises s.low s.same
 
 -- where all points are free, what a point that has a level reads has its own
-pub all_closed : (heights levels : Rows ℕ) (links : Links) → IsSound heights links → AreLevels links (bound heights heights) levels
+pub all_closed : (heights levels : Rows ℕ) (links : Links) → AreSoundHeights heights links → AreLevels links (bound heights heights) levels
     → (a b : Point) → Holds levels a → Reads links a b → Holds levels b
 all_closed heights levels links s so a b there reads = let r = row_there levels a there in by r.0 r.1 (so.closed a b r.0 r.1 reads)
   where
@@ -152,7 +152,7 @@ rank_high_by : (h l : ℕ) (either : (l ≤ 128) ⊎ (128 < l)) → 128 < l → 
 rank_high_by h l (inl low) is = absurd (omega (arith, low, is))
 rank_high_by h l (inr high) is = refl
 
-module _ (heights : Rows ℕ) (links : Links) (p q : Point) (lifts : Rows Lift) (sound : IsSound heights links) (climbed : IsClimbed heights links p q lifts) where
+module _ (heights : Rows ℕ) (links : Links) (p q : Point) (lifts : Rows Lift) (sound : AreSoundHeights heights links) (climbed : IsClimbed heights links p q lifts) where
   abbrev rank : Point → ℕ
   rank x = rank_by (level heights x) (lifted heights lifts x) (two_cases (lifted heights lifts x))
 

@@ -8,14 +8,14 @@ use Rattle.link_table.specs.Links.{Links, times, link, Reads, KeepsLinks, OneLin
 use Rattle.height_order.specs.declared.lifts.Lift.{Lift}
 use Rattle.height_order.specs.Answers.{IsNear}
 use Rattle.height_order.specs.Chains.{ReadsWith, Leads, HasChain}
-use Rattle.height_order.specs.Levels.{level, or_zero, Rises, AllLow, Ends, IsSound, KeepsPoints, IsMoved, Tells}
+use Rattle.height_order.specs.Levels.{level, or_zero, Rises, AllLow, Ends, AreSoundHeights, KeepsPoints, IsMoved, Tells}
 use Rattle.height_order.specs.Climbs.{lifted, IsAsked, AllAsked, IsClimbed, AreAll}
 use Rattle.height_order.proofs.Points.{level_there, level_other, level_kept, still_there, row_there, there_cases, some_there}
 use Rattle.height_order.proofs.Chaining.{path_falls, no_long_chain, leads_more, leads_self, leads_before}
 use Rattle.height_order.proofs.Lifting.{lifted_some, lifted_none}
 
 sound_kept : (old new : Rows ℕ) (links : Links) → ((p : Point) → level new p ≡ level old p) → ((p : Point) → Holds old p → Holds new p)
-    → IsSound old links → IsSound new links
+    → AreSoundHeights old links → AreSoundHeights new links
 sound_kept old new links same there s = record {
   ends = λ p q r. let e = s.ends p q r in (there p e.0, there q e.1);
   rises = λ p q r. let h = s.rises p q r in let a = same p in let b = same q in omega (arith, h, a, b);
@@ -33,7 +33,7 @@ added_there old new p q c (inr differs) there = subst IsSome (sym (c.others q di
 
 -- an add keeps it
 pub sound_added : {A E : Type 0} → (r : Result A E) (old new : Rows ℕ) (p : Point) (links : Links) → OnOk r (Changes old new p (Some 0)) → OnErr r (KeepsRows old new)
-    → at old p ≡ None → IsSound old links → IsSound new links
+    → at old p ≡ None → AreSoundHeights old links → AreSoundHeights new links
 sound_added (Ok x) old new p links ok err none s =
     sound_kept old new links (λ q. added_level old new p q ok none (point_cases q p)) (λ q. added_there old new p q ok (point_cases q p)) s
 sound_added (Err x) old new p links ok err none s =
@@ -52,7 +52,7 @@ there_at old new p a h c none there = subst IsSome (sym (c.others a (end_differs
 
 -- an add at a height keeps it
 pub sound_added_at : {A E : Type 0} → (r : Result A E) (old new : Rows ℕ) (p : Point) (h : ℕ) (links : Links) → OnOk r (Changes old new p (Some h)) → OnErr r (KeepsRows old new)
-    → h ≤ 128 → at old p ≡ None → IsSound old links → IsSound new links
+    → h ≤ 128 → at old p ≡ None → AreSoundHeights old links → AreSoundHeights new links
 sound_added_at (Ok x) old new p h links c err most none s = record {
   ends = λ a b r. let e = s.ends a b r in (there_at old new p a h c none e.0, there_at old new p b h c none e.1);
   rises = λ a b r.
@@ -78,7 +78,7 @@ dropped_low old new p q c low (inr differs) = let s = level_other old new p q No
 
 -- a drop of a point without links keeps it
 pub sound_dropped : (old new : Rows ℕ) (p : Point) (links : Links) → Changes old new p None
-    → ((q : Point) → times links p q ≡ 0) → ((q : Point) → times links q p ≡ 0) → IsSound old links → IsSound new links
+    → ((q : Point) → times links p q ≡ 0) → ((q : Point) → times links q p ≡ 0) → AreSoundHeights old links → AreSoundHeights new links
 sound_dropped old new p links c reads_none unread s = record {
   ends = λ a b r.
       let e = s.ends a b r in
@@ -114,7 +114,7 @@ module _ (fewer more : Links) (p q : Point) (one : OneLinkMore fewer more p q) w
   reads_into a b r = into_by a b r (point_cases a p) (point_cases b q)
 
   -- one link less
-  pub sound_less : (h : Rows ℕ) → IsSound h more → IsSound h fewer
+  pub sound_less : (h : Rows ℕ) → AreSoundHeights h more → AreSoundHeights h fewer
   sound_less h s = record {
     ends = λ a b r. s.ends a b (reads_into a b (inl r));
     rises = λ a b r. s.rises a b (reads_into a b (inl r));
@@ -131,42 +131,42 @@ module _ (fewer more : Links) (p q : Point) (one : OneLinkMore fewer more p q) w
 
   -- one link more, along which new heights of the same points rise
   pub sound_more : (old new : Rows ℕ) → KeepsPoints old new → Ends old fewer → Holds old p → Holds old q → Rises (ReadsWith fewer p q) (level new)
-      → AllLow (level new) → IsSound new more
+      → AllLow (level new) → AreSoundHeights new more
   sound_more old new kept ends hp hq rises low = record {
     ends = λ a b r. let e = ends_by old a b ends hp hq (reads_from a b r) in (still_there old new a kept e.0, still_there old new b kept e.1);
     rises = λ a b r. rises a b (reads_from a b r);
     low = low;
   }
 
-  rises_with : (h : Rows ℕ) → IsSound h more → Rises (ReadsWith fewer p q) (level h)
+  rises_with : (h : Rows ℕ) → AreSoundHeights h more → Rises (ReadsWith fewer p q) (level h)
   rises_with h s a b r = s.rises a b (reads_into a b r)
 
   -- where the link was made, the kid didn't lead to the reader
-  pub linked_no_path : (h : Rows ℕ) → IsSound h more → Leads (Reads fewer) q p → ⊥
+  pub linked_no_path : (h : Rows ℕ) → AreSoundHeights h more → Leads (Reads fewer) q p → ⊥
   linked_no_path h s leads =
       let r = rises_with h s in
       let f = path_falls (ReadsWith fewer p q) (level h) r q p (leads_more (Reads fewer) (ReadsWith fewer p q) q p (λ a b c. inl c) leads) in
       let u = r p q (inr (refl, refl)) in omega (arith, f, u)
 
   -- where the link was made, no chain is too long
-  pub linked_no_over : (h : Rows ℕ) → IsSound h more → HasChain (ReadsWith fewer p q) 130 → ⊥
+  pub linked_no_over : (h : Rows ℕ) → AreSoundHeights h more → HasChain (ReadsWith fewer p q) 130 → ⊥
   linked_no_over h s has = no_long_chain (ReadsWith fewer p q) (level h) (rises_with h s) s.low has
 
 -- the same links
-pub sound_same : (old new : Links) (h : Rows ℕ) → KeepsLinks old new → IsSound h old → IsSound h new
+pub sound_same : (old new : Links) (h : Rows ℕ) → KeepsLinks old new → AreSoundHeights h old → AreSoundHeights h new
 sound_same old new h kept s = record {
   ends = λ a b r. s.ends a b (let k = kept a b in omega (arith, k, r));
   rises = λ a b r. s.rises a b (let k = kept a b in omega (arith, k, r));
   low = s.low;
 }
 
-rises_higher_by : (h : Rows ℕ) (links : Links) (p q a b : Point) → IsSound h links → level h q < level h p → ReadsWith links p q a b → level h b < level h a
+rises_higher_by : (h : Rows ℕ) (links : Links) (p q a b : Point) → AreSoundHeights h links → level h q < level h p → ReadsWith links p q a b → level h b < level h a
 rises_higher_by h links p q a b s up (inl r) = s.rises a b r
 rises_higher_by h links p q a b s up (inr new) = let e = ap (level h) new.0 in let f = ap (level h) new.1 in omega (arith, e, f, up)
 
 -- one link more, from a point to a lower one
-pub sound_higher : (h : Rows ℕ) (links more : Links) (p q : Point) → OneLinkMore links more p q → IsSound h links → Holds h p → Holds h q → level h q < level h p
-    → IsSound h more
+pub sound_higher : (h : Rows ℕ) (links more : Links) (p q : Point) → OneLinkMore links more p q → AreSoundHeights h links → Holds h p → Holds h q → level h q < level h p
+    → AreSoundHeights h more
 sound_higher h links more p q one s hp hq up =
     sound_more links more p q one h h (λ x. refl) s.ends hp hq (λ a b r. rises_higher_by h links p q a b s up r) s.low
 
@@ -185,7 +185,7 @@ on_and_off old mid new p q on off a b = by (point_cases a p) (point_cases b q)
     by (inr differs) either = others (λ e. differs (ap (λ l. l.reader) e))
     by (inl e) (inr differs) = others (λ e. differs (ap (λ l. l.kid) e))
 
-module _ (heights : Rows ℕ) (links : Links) (p q : Point) (lifts : Rows Lift) (sound : IsSound heights links) (asked : AllAsked links p q lifts) where
+module _ (heights : Rows ℕ) (links : Links) (p q : Point) (lifts : Rows Lift) (sound : AreSoundHeights heights links) (asked : AllAsked links p q lifts) where
   up_from : (k : ℕ) (x kid : Point) → ((y : Point) → level heights y < k → Holds lifts y → Leads (Reads links) y p) → level heights x < suc k
       → IsAsked links p q lifts x kid → Leads (Reads links) x p
   up_from k x kid next low (inl new) = subst (λ z. Leads (Reads links) z p) (sym new.0) (leads_self (Reads links) p)
@@ -200,7 +200,7 @@ module _ (heights : Rows ℕ) (links : Links) (p q : Point) (lifts : Rows Lift) 
   pub leads_reader : (x : Point) → Holds lifts x → Leads (Reads links) x p
   leads_reader x there = up_by (level heights x + 1) x (omega arith) there
 
-module _ (old new : Rows ℕ) (links : Links) (p q : Point) (lifts : Rows Lift) (sound : IsSound old links) (climbed : IsClimbed old links p q lifts)
+module _ (old new : Rows ℕ) (links : Links) (p q : Point) (lifts : Rows Lift) (sound : AreSoundHeights old links) (climbed : IsClimbed old links p q lifts)
     (fits : (x : Point) → Holds lifts x → lifted old lifts x ≤ 128) (written : (x : Point) → level new x ≡ lifted old lifts x) where
   low_by : (x : Point) → (at lifts x ≡ None) ⊎ Holds lifts x → lifted old lifts x ≤ 128
   low_by x (inl none) = let e = lifted_none old lifts x none in let s = sound.low x in omega (arith, e, s)
@@ -217,7 +217,7 @@ module _ (old new : Rows ℕ) (links : Links) (p q : Point) (lifts : Rows Lift) 
       let u = climbed.rises a b r (all_low a) in let v = written a in let w = written b in omega (arith, u, v, w)
 
   -- the link over lifted heights that fit
-  pub sound_lifted : (more : Links) → OneLinkMore links more p q → KeepsPoints old new → Holds old p → Holds old q → IsSound new more
+  pub sound_lifted : (more : Links) → OneLinkMore links more p q → KeepsPoints old new → Holds old p → Holds old q → AreSoundHeights new more
   sound_lifted more one kept hp hq = sound_more links more p q one old new kept sound.ends hp hq lifted_rises lifted_low
 
   differs_by : (x : Point) → (at lifts x ≡ None) ⊎ Holds lifts x → level new x ≢ level old x → Holds lifts x

@@ -7,7 +7,7 @@ use Rattle.link_table.specs.Links.{Links, Reads, KeepsLinks, OneLinkMore}
 use Rattle.height_order.specs.declared.heights.LinkFault.{LinkFault}
 use Rattle.height_order.specs.declared.lifts.Lift.{Lift}
 use Rattle.height_order.specs.Chains.{ReadsWith, IsChain, IsPath, Leads, HasChain, NoRepeats}
-use Rattle.height_order.specs.Levels.{Web, level, Rises, AllLow, IsSound, KeepsPoints, IsBelow, IsExactBelow, Tells}
+use Rattle.height_order.specs.Levels.{Web, level, Rises, AllLow, AreSoundHeights, KeepsPoints, IsBelow, IsExactBelow, Tells}
 use Rattle.height_order.specs.Faults.{IfPath, IfOver, UnlessOver}
 
 -- x stands below q, or below a point that leads to p
@@ -48,7 +48,7 @@ pub record IsLinkAnswer {A : Type 0} (old new : Web) (p q : Point) (before after
 -- before and after.
 pub record IsFitted {E : Type 0} (old new : Rows ℕ) (links : Links) (lifts : Rows Lift) (before after : List Point) (result : Result (Option (Vec Point)) E) : Type 0 where
   -- heights that fit rise along all links to at most 128
-  pub sound : IfOk result (λ o. IfNone o (IsSound new links))
+  pub sound : IfOk result (λ o. IfNone o (AreSoundHeights new links))
   -- the chain that is told has 130 points
   pub chain : IfOk result (λ o. IfSome o (λ list. IsChain (Reads links) list.items))
   pub chain_length : IfOk result (λ o. IfSome o (λ list. length list.items ≡ 130))
@@ -62,7 +62,7 @@ pub record IsFitted {E : Type 0} (old new : Rows ℕ) (links : Links) (lifts : R
 
 -- Where p and q are levelled, and all that they lead to. The points of `moved` were told before and after.
 pub record AreEndsLevelled {A E : Type 0} (old new : Rows ℕ) (links : Links) (p q : Point) (before after : List Point) (result : Result A E) : Type 0 where
-  pub sound : IsSound new links
+  pub sound : AreSoundHeights new links
   pub exact : OnOk result (IsExactBelow new links p q)
   -- nothing changes where there is no memory
   pub err : OnErr result ((new ≡ old) × (after ≡ before))

@@ -32,7 +32,7 @@ abbrev pub Ends : Rows ℕ → Links → Type 0
 Ends heights links = (p q : Point) → Reads links p q → Holds heights p × Holds heights q
 
 -- what stands between any two calls
-pub record IsSound (heights : Rows ℕ) (links : Links) : Type 0 where
+pub record AreSoundHeights (heights : Rows ℕ) (links : Links) : Type 0 where
   pub ends : Ends heights links
   pub rises : Rises (Reads links) (level heights)
   pub low : AllLow (level heights)

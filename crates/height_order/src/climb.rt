@@ -5,7 +5,7 @@ ghost use Rattle.point_map.specs.Rows.{at, Holds};
 ghost use Rattle.link_table.specs.Links.{Reads, AreReaders};
 ghost use Rattle.recompute_heap.specs.Agree.{IsEmpty};
 ghost use Rattle.height_order.specs.Chains.{IsPath};
-ghost use Rattle.height_order.specs.Levels.{level, IsSound};
+ghost use Rattle.height_order.specs.Levels.{level, AreSoundHeights};
 ghost use Rattle.height_order.specs.Climbs.{AllAsked, IsDone, IsClimbing, IsClimbed, IsLifted, ComesAbove, KeepsDone};
 
 use crate::levels::level_of;
@@ -60,7 +60,7 @@ pub fn climb(
     lifts: &mut PointMap<Lift>,
     queue: &mut ClimbQueue,
 ) -> Result<Option<Vec<Point>>, AllocError>
-    requires sound { IsSound heights.now links.now }
+    requires sound { AreSoundHeights heights.now links.now }
     requires reader { Holds heights.now new.reader }
     requires none { lifts.old.places ≡ [] }
     ensures path { IfOk result (λ o. IfSome o (λ list. IsPath (Reads links.now) list.items new.kid new.reader)) }
@@ -83,7 +83,7 @@ fn find_path(
     queue: &mut ClimbQueue,
     path: &mut Vec<Point>,
 ) -> Result<bool, AllocError>
-    requires sound { IsSound heights.now links.now }
+    requires sound { AreSoundHeights heights.now links.now }
     requires reader { Holds heights.now new.reader }
     requires none { lifts.old.places ≡ [] }
     requires empty { path.old.items ≡ [] }
@@ -115,7 +115,7 @@ fn lift_all(
     lifts: &mut PointMap<Lift>,
     queue: &mut ClimbQueue,
 ) -> Result<Option<Point>, AllocError>
-    requires sound { IsSound heights.now links.now }
+    requires sound { AreSoundHeights heights.now links.now }
     requires reader { Holds heights.now new.reader }
     requires other { new.reader ≢ new.kid }
     requires none { lifts.old.places ≡ [] }
@@ -136,7 +136,7 @@ fn lift_queued(
     lifts: &mut PointMap<Lift>,
     queue: &mut RecomputeHeap,
 ) -> Result<Option<Point>, AllocError>
-    requires sound { IsSound heights.now links.now }
+    requires sound { AreSoundHeights heights.now links.now }
     requires reader { Holds heights.now new.reader }
     requires other { new.reader ≢ new.kid }
     requires none { lifts.old.places ≡ [] }
@@ -174,7 +174,7 @@ fn lift_readers(
     queue: &mut RecomputeHeap,
     x: Point,
 ) -> Result<bool, AllocError>
-    requires sound { IsSound heights.now links.now }
+    requires sound { AreSoundHeights heights.now links.now }
     requires done { IsDone lifts.old queue.old x }
     requires climbing { (left : List Point) → AreReaders links.now x left → IsClimbing heights.now links.now new.reader new.kid lifts.old queue.old (level heights.now x) x left }
     ensures met { IfOk result (λ met. IsTrue met → Reads links.now new.kid x) }

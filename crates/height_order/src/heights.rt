@@ -61,13 +61,13 @@ impl Drop for Heights {
 }
 
 impl Model for Heights {
-    ghost use Rattle.height_order.specs.Levels.{Web, IsSound};
+    ghost use Rattle.height_order.specs.Levels.{Web, AreSoundHeights};
 
     ghost Value = { Web };
 
     ghost view = { λ s. record { heights = s.heights; links = s.links } };
 
-    ghost invariant = { λ s. IsSound s.heights s.links };
+    ghost invariant = { λ s. AreSoundHeights s.heights s.links };
 }
 
 impl Heights {

@@ -3,7 +3,7 @@ ghost use Rattle.std.specs.Prelude.{[], ◌≡◌, ◌<◌, ◌≤◌, ◌++◌,
 ghost use Rattle.inc_value.specs.declared.node.Point.{Point};
 ghost use Rattle.point_map.specs.Rows.{Holds};
 ghost use Rattle.link_table.specs.Links.{Reads, KeepsLinks, OneLinkMore};
-ghost use Rattle.height_order.specs.Levels.{level, levelled, AllLow, Ends, IsSound, KeepsPoints, IsExact, Tells};
+ghost use Rattle.height_order.specs.Levels.{level, levelled, AllLow, Ends, AreSoundHeights, KeepsPoints, IsExact, Tells};
 ghost use Rattle.height_order.specs.Climbs.{lifted, IsClimbed, IsRanked};
 ghost use Rattle.height_order.specs.Answers.{IsLinkAnswer, IsFitted, AreEndsLevelled};
 
@@ -27,10 +27,10 @@ pub fn make_link(
     new: Link,
     moved: &mut Vec<Point>,
 ) -> Result<(), LinkFault>
-    requires sound { IsSound heights.old links.old }
+    requires sound { AreSoundHeights heights.old links.old }
     requires reader { Holds heights.old new.reader }
     requires kid { Holds heights.old new.kid }
-    ensures sound { IsSound heights.new links.new }
+    ensures sound { AreSoundHeights heights.new links.new }
     ensures answer { IsLinkAnswer (record { heights = heights.old; links = links.old })
         (record { heights = heights.new; links = links.new })
         new.reader new.kid moved.old.items moved.new.items result }
@@ -57,12 +57,12 @@ fn link_climbing(
     lifts: &mut PointMap<Lift>,
     moved: &mut Vec<Point>,
 ) -> Result<(), LinkFault>
-    requires sound { IsSound heights.old links.old }
+    requires sound { AreSoundHeights heights.old links.old }
     requires reader { Holds heights.old new.reader }
     requires kid { Holds heights.old new.kid }
     requires not_higher { level heights.old new.reader ≤ level heights.old new.kid }
     requires none { lifts.old.places ≡ [] }
-    ensures sound { IsSound heights.new links.new }
+    ensures sound { AreSoundHeights heights.new links.new }
     ensures answer { IsLinkAnswer (record { heights = heights.old; links = links.old })
         (record { heights = heights.new; links = links.new })
         new.reader new.kid moved.old.items moved.new.items result }
@@ -83,12 +83,12 @@ fn link_climbed(
     lifts: &PointMap<Lift>,
     moved: &mut Vec<Point>,
 ) -> Result<(), LinkFault>
-    requires sound { IsSound heights.old links.old }
+    requires sound { AreSoundHeights heights.old links.old }
     requires reader { Holds heights.old new.reader }
     requires kid { Holds heights.old new.kid }
     requires not_higher { level heights.old new.reader ≤ level heights.old new.kid }
     requires climbed { IsClimbed heights.old links.old new.reader new.kid lifts.now }
-    ensures sound { IsSound heights.new links.new }
+    ensures sound { AreSoundHeights heights.new links.new }
     ensures answer { IsLinkAnswer (record { heights = heights.old; links = links.old })
         (record { heights = heights.new; links = links.new })
         new.reader new.kid moved.old.items moved.new.items result }
@@ -108,13 +108,13 @@ fn link_lifted(
     lifts: &PointMap<Lift>,
     moved: &mut Vec<Point>,
 ) -> Result<(), LinkFault>
-    requires sound { IsSound heights.old links.old }
+    requires sound { AreSoundHeights heights.old links.old }
     requires reader { Holds heights.old new.reader }
     requires kid { Holds heights.old new.kid }
     requires not_higher { level heights.old new.reader ≤ level heights.old new.kid }
     requires climbed { IsClimbed heights.old links.old new.reader new.kid lifts.now }
     requires low { (x : Point) → Holds lifts.now x → lifted heights.old lifts.now x ≤ 128 }
-    ensures sound { IsSound heights.new links.new }
+    ensures sound { AreSoundHeights heights.new links.new }
     ensures answer { IsLinkAnswer (record { heights = heights.old; links = links.old })
         (record { heights = heights.new; links = links.new })
         new.reader new.kid moved.old.items moved.new.items result }
@@ -142,12 +142,12 @@ fn link_levelled(
     lifts: &PointMap<Lift>,
     moved: &mut Vec<Point>,
 ) -> Result<(), LinkFault>
-    requires sound { IsSound heights.old links.old }
+    requires sound { AreSoundHeights heights.old links.old }
     requires reader { Holds heights.old new.reader }
     requires kid { Holds heights.old new.kid }
     requires not_higher { level heights.old new.reader ≤ level heights.old new.kid }
     requires climbed { IsClimbed heights.old links.old new.reader new.kid lifts.now }
-    ensures sound { IsSound heights.new links.new }
+    ensures sound { AreSoundHeights heights.new links.new }
     ensures answer { IsLinkAnswer (record { heights = heights.old; links = links.old })
         (record { heights = heights.new; links = links.new })
         new.reader new.kid moved.old.items moved.new.items result }
@@ -232,7 +232,7 @@ fn level_ends(
     new: Link,
     moved: &mut Vec<Point>,
 ) -> Result<(), AllocError>
-    requires sound { IsSound heights.old links.now }
+    requires sound { AreSoundHeights heights.old links.now }
     requires reader { Holds heights.old new.reader }
     requires kid { Holds heights.old new.kid }
     ensures { AreEndsLevelled heights.old heights.new links.now new.reader new.kid
@@ -253,7 +253,7 @@ fn adopt_ends(
     levels: &mut PointMap<u32>,
     moved: &mut Vec<Point>,
 ) -> Result<(), AllocError>
-    requires sound { IsSound heights.old links.now }
+    requires sound { AreSoundHeights heights.old links.now }
     requires reader { Holds heights.old new.reader }
     requires kid { Holds heights.old new.kid }
     requires none { levels.old.places ≡ [] }
@@ -274,9 +274,9 @@ pub fn adopt_all(
     levels: &mut PointMap<u32>,
     moved: &mut Vec<Point>,
 ) -> Result<(), AllocError>
-    requires sound { IsSound heights.old links.now }
+    requires sound { AreSoundHeights heights.old links.now }
     requires none { levels.old.places ≡ [] }
-    ensures sound { IsSound heights.new links.now }
+    ensures sound { AreSoundHeights heights.new links.now }
     ensures exact { OnOk result (IsExact heights.new links.now) }
     ensures points { KeepsPoints heights.old heights.new }
     ensures moved { Tells (level heights.old) (level heights.new) moved.old.items moved.new.items }

@@ -7,7 +7,7 @@ use Rattle.inc_value.specs.declared.node.ObsId.{ObsId}
 use Rattle.inc_value.specs.declared.outcome.Outcome.{Outcome}
 use Rattle.graph.specs.Effects.{IsObserverFault}
 use Rattle.graph.specs.Fault.{kept_of}
-use Rattle.graph.specs.Standing.{Standing, IsBroken, IsUnbroken, node_at, shown_of}
+use Rattle.graph.specs.Standing.{GraphView, IsBroken, IsUnbroken, node_at, shown_of}
 use Rattle.graph.specs.declared.fault.GraphFault.{GraphFault}
 use Rattle.graph.specs.declared.fault.GraphFault.TheVariants.{Broken, NotStabilized, Unknown}
 use Rattle.graph.specs.declared.fault.Kept.{Kept}
@@ -32,7 +32,7 @@ none_unbroken : {R : Type 0} (r : Option R) → where_unbroken r None ≡ None
 none_unbroken None = refl
 none_unbroken (Some y) = refl
 
-module _ {F : Type 0} (s : Standing F) (o : ObsId) where
+module _ {F : Type 0} (s : GraphView F) (o : ObsId) where
   pub shows : (n : NodeId) (outcome : Outcome) → ((cause : Kept) → IsBroken s cause → ⊥) → (IsUnbroken s → s.rooted ≤ o.0 → ⊥)
       → node_at s.observers o ≡ Some n → shown_of s n ≡ Some outcome → shown_by s o ≡ number_in outcome
   shows n outcome whole rooted looks shown =

@@ -6,7 +6,7 @@ use Rattle.inc_value.specs.declared.node.ObsId.{ObsId}
 use Rattle.inc_value.specs.declared.outcome.Outcome.{Outcome}
 use Rattle.inc_value.specs.declared.outcome.Outcome.TheVariants.{Val}
 use Rattle.inc_value.specs.declared.value.Value.TheVariants.{Int}
-use Rattle.graph.specs.Standing.{Standing, node_at, shown_of}
+use Rattle.graph.specs.Standing.{GraphView, node_at, shown_of}
 
 -- the node at a place, or one that no graph has
 abbrev pub node_in : List NodeId → ℕ → NodeId
@@ -27,6 +27,6 @@ where_unbroken None number = number
 where_unbroken (Some refused) number = None
 
 -- the number that an observer shows, if it shows one
-abbrev pub shown_by : {F : Type 0} → Standing F → ObsId → Option ℤ
+abbrev pub shown_by : {F : Type 0} → GraphView F → ObsId → Option ℤ
 shown_by s observer = where_unbroken s.refused (where_rooted (nat_lt observer.0 s.rooted)
     (and_then (node_at s.observers observer) (λ node. and_then (shown_of s node) number_in)))

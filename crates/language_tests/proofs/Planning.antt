@@ -13,7 +13,7 @@ use Rattle.script_model.specs.Check.{Declared, Names}
 use Rattle.script_model.specs.Formula.{Formula, Computed, nothing_kept}
 use Rattle.formula_lang.specs.Fits.{NameFits, FunctionFits, FormulaFits, BodyFits}
 use Rattle.formula_elab.specs.Make as make
-use Rattle.formula_elab.specs.Plan.{Standing, IsNext, IsAnswer}
+use Rattle.formula_elab.specs.Plan.{PlanView, IsNext, IsAnswer}
 use Rattle.formula_elab.specs.Types.{AreTypedAsTargets}
 use Rattle.formula_elab.specs.declared.make.Made.TheVariants as made
 use Rattle.formula_elab.specs.declared.plan.Planned.TheVariants as planned
@@ -78,28 +78,28 @@ pub body_fits : (names : Names) (f : Formula) → names ≡ one_name → IsPlann
 body_fits names f e h = (known, ty.Int, (subst (λ (n : Names). FormulaFits known n [] f ty.Int) (sym e) h.fits, refl))
 
 -- a node that was asked for is waited for
-pub awaits_node : (p : Standing) (def : Def) (type : Ty) → IsTrue p.is_waiting → IsNext p.makes p.made (Some (make.Node def type)) → AwaitsNode p
+pub awaits_node : (p : PlanView) (def : Def) (type : Ty) → IsTrue p.is_waiting → IsNext p.makes p.made (Some (make.Node def type)) → AwaitsNode p
 awaits_node p def type waits (planned.Node x, at, is) = record { node = x; waits = waits; next = at }
 awaits_node p def type waits (planned.Body o, at, (b, is, filled)) = absurd (cc is)
 
 -- so is a function
-pub awaits_function : (p : Standing) (b : functions.Body) → IsTrue p.is_waiting → IsNext p.makes p.made (Some (make.Right b)) → AwaitsFunction p b.draft.sig
+pub awaits_function : (p : PlanView) (b : functions.Body) → IsTrue p.is_waiting → IsNext p.makes p.made (Some (make.Right b)) → AwaitsFunction p b.draft.sig
 awaits_function p b waits (planned.Node x, at, is) = absurd (cc is)
 awaits_function p b waits (planned.Body o, at, (c, is, filled)) =
     let same : b ≡ c = cc is in
     record { body = o; waits = waits; next = at; typed = ap (λ (x : functions.Body). x.draft.sig) same ∙ filled.sig }
 
 -- what is waited for was asked for
-pub node_waits : {p : Standing} → AwaitsNode p → IsTrue p.is_waiting
+pub node_waits : {p : PlanView} → AwaitsNode p → IsTrue p.is_waiting
 node_waits w = w.waits
 
-pub function_waits : {p : Standing} {types : Signature} → AwaitsFunction p types → IsTrue p.is_waiting
+pub function_waits : {p : PlanView} {types : Signature} → AwaitsFunction p types → IsTrue p.is_waiting
 function_waits w = w.waits
 
 -- a node is an answer where one is waited for
-pub node_answers : {p : Standing} → AwaitsNode p → (n : NodeId) → IsAnswer p (made.Node n)
+pub node_answers : {p : PlanView} → AwaitsNode p → (n : NodeId) → IsAnswer p (made.Node n)
 node_answers w n = (planned.Node w.node, w.next, tt)
 
 -- so is a function of right sides where one of its types is
-pub function_answers : {p : Standing} (f : FnRef) → f.id.kind ≡ Rhs → AwaitsFunction p f.sig → IsAnswer p (made.Fn f)
+pub function_answers : {p : PlanView} (f : FnRef) → f.id.kind ≡ Rhs → AwaitsFunction p f.sig → IsAnswer p (made.Fn f)
 function_answers f kind w = (planned.Body w.body, w.next, (tt, kind, w.typed))

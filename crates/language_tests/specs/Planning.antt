@@ -9,7 +9,7 @@ use Rattle.script_model.specs.Values.{Int}
 use Rattle.formula_lang.specs.Fits.{FormulaFits}
 use Rattle.formula_elab.specs.Bodies.{OpenBody}
 use Rattle.formula_elab.specs.Names.{EveryName}
-use Rattle.formula_elab.specs.Plan.{Standing}
+use Rattle.formula_elab.specs.Plan.{PlanView}
 use Rattle.formula_elab.specs.declared.opened.Open.{Open}
 use Rattle.formula_elab.specs.declared.plan.Planned.TheVariants as planned
 use Rattle.std_library.specs.Functions.{known, reference_of}
@@ -60,13 +60,13 @@ pub record IsPlannable (f : Formula) : Type 0 where
 -- ---- what a plan waits for
 
 -- a node was asked for, and isn't made yet
-pub record AwaitsNode (p : Standing) : Type 0 where
+pub record AwaitsNode (p : PlanView) : Type 0 where
   pub node : Open
   pub waits : IsTrue p.is_waiting
   pub next : slice_get p.makes (length p.made) ≡ Some (planned.Node node)
 
 -- a function of these types was asked for, and isn't made yet
-pub record AwaitsFunction (p : Standing) (types : Signature) : Type 0 where
+pub record AwaitsFunction (p : PlanView) (types : Signature) : Type 0 where
   pub body : OpenBody
   pub waits : IsTrue p.is_waiting
   pub next : slice_get p.makes (length p.made) ≡ Some (planned.Body body)

@@ -6,7 +6,7 @@ ghost use Rattle.inc_terms.specs.Within.{Given};
 ghost use Rattle.node_arena.specs.Listing.{Listed};
 ghost use Rattle.node_arena.specs.Meanings.{SameKnown};
 ghost use Rattle.node_arena.specs.RightSide.{IsEmpty, SameSides};
-ghost use Rattle.node_arena.specs.Sound.{IsSound};
+ghost use Rattle.node_arena.specs.Sound.{IsSoundArena};
 ghost use Rattle.node_arena.specs.Typing.{Fits};
 ghost use Rattle.script_functions.specs.Bodies.{side_of};
 
@@ -77,8 +77,8 @@ fn add_bind(
     function: FnRef,
     captured: NodeId,
 ) -> Option<NodeId>
-    requires arena { IsSound arena.old }
-    ensures arena { IsSound arena.new }
+    requires arena { IsSoundArena arena.old }
+    ensures arena { IsSoundArena arena.new }
     ensures given { IfSome result (Given arena.new.given) }
     ensures empty { IfSome result (IsEmpty arena.new) }
 {
@@ -142,9 +142,9 @@ fn build(
     requires sig { function.now.sig ≡ record { takes = Ty.Int ∷ Ty.Int ∷ []; gives = Ty.Int } }
     requires ids { (x : Listed) → Among x (⟦<ScriptFns<StdLib> as Functions>⟧.right functions.old function.now).ids
         → x ≡ record { node = listed; ty = Ty.Int } }
-    requires arena { IsSound arena.old }
+    requires arena { IsSoundArena arena.old }
     ensures sound { ⟦<ScriptFns<StdLib> as Functions>⟧.is_sound functions.new }
-    ensures arena { IsSound arena.new }
+    ensures arena { IsSoundArena arena.new }
     ensures same_known { SameKnown (⟦<ScriptFns<StdLib> as Functions>⟧.known functions.old)
         (⟦<ScriptFns<StdLib> as Functions>⟧.known functions.new) }
     ensures same_sides { SameSides (⟦<ScriptFns<StdLib> as Functions>⟧.right functions.old)

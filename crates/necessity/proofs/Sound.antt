@@ -10,7 +10,7 @@ use Rattle.point_map.specs.Rows.{Rows, at, Holds, KeepsRows, Changes}
 use Rattle.link_table.specs.Links.{Links, KeepsLinks, OneLinkMore}
 use Rattle.necessity.specs.declared.need.Need.{Need}
 use Rattle.necessity.specs.Need.{KeepsRoots, OneRootMore}
-use Rattle.necessity.specs.Counting.{need_at, differ, is_counted, is_above_zero, roots_of, needed_in, behind, EndsHeld, IsUnderWay, IsAtRest, IsSound, KeepsRootCounts, due_where}
+use Rattle.necessity.specs.Counting.{need_at, differ, is_counted, is_above_zero, roots_of, needed_in, behind, EndsHeld, IsUnderWay, IsAtRest, AreSoundNeeds, KeepsRootCounts, due_where}
 use Rattle.necessity.proofs.Turning.{same_need, row_need}
 use Rattle.necessity.proofs.Starts.{rest_moves, rest_turns, root_stays, root_turns, rest_kept, length_kept, reads_split, attach_stays, attach_turns, attach_room, detach_stays, detach_turns, detach_room}
 use Rattle.necessity.proofs.Reaching.{roots_seen, acyclic_kept}
@@ -31,8 +31,8 @@ pub rest_of_rows : (l : Links) (m new : Rows Need) → KeepsRows m new → IsAtR
 rest_of_rows l m new kept r = rest_moves l m new r (needs_of_rows m new kept) (ends_of_rows l m new kept r.ends)
 
 -- a state stays sound where links and rows keep what they say, and there is more room
-pub sound_kept : (l l' : Links) (m m' : Rows Need) (n : ℕ) (waiting : List Point) (room room' : ℕ) → IsSound l m n waiting room
-    → KeepsLinks l l' → KeepsRows m m' → room ≤ room' → IsSound l' m' n waiting room'
+pub sound_kept : (l l' : Links) (m m' : Rows Need) (n : ℕ) (waiting : List Point) (room room' : ℕ) → AreSoundNeeds l m n waiting room
+    → KeepsLinks l l' → KeepsRows m m' → room ≤ room' → AreSoundNeeds l' m' n waiting room'
 sound_kept l l' m m' n waiting room room' s links rows more = record {
   at_rest = rest_kept l l' links m' (rest_of_rows l m m' rows s.at_rest);
   acyclic = acyclic_kept l l' links s.acyclic;

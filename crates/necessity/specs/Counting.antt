@@ -95,7 +95,7 @@ abbrev pub NoNewRows : Rows Need → Rows Need → Type 0
 NoNewRows old new = (k : Point) → Holds new k → Holds old k
 
 -- the counts are right, no link leads back, points that turn have room to wait, and rows stand for roots and links alone
-pub record IsSound (l : Links) (m : Rows Need) (attached : ℕ) (waiting : List Point) (room : ℕ) : Type 0 where
+pub record AreSoundNeeds (l : Links) (m : Rows Need) (attached : ℕ) (waiting : List Point) (room : ℕ) : Type 0 where
   pub at_rest : IsAtRest l m
   pub acyclic : (a : Point) → IsOnCycle (Reads l) a → ⊥
   pub none_wait : waiting ≡ []

@@ -40,13 +40,13 @@ impl Drop for Needs {
 impl Model for Needs {
     ghost use Rattle.std.specs.Prelude.{vec_capacity};
     ghost use Rattle.necessity.specs.Need.{Web};
-    ghost use Rattle.necessity.specs.Counting.{roots_of, IsSound};
+    ghost use Rattle.necessity.specs.Counting.{roots_of, AreSoundNeeds};
 
     ghost Value = { Web };
 
     ghost view = { λ n. record { roots = roots_of n.rows; links = n.links } };
 
-    ghost invariant = { λ n. IsSound n.links n.rows n.attached n.waiting.items (vec_capacity n.waiting) };
+    ghost invariant = { λ n. AreSoundNeeds n.links n.rows n.attached n.waiting.items (vec_capacity n.waiting) };
 }
 
 impl Needs {

@@ -15,7 +15,7 @@ use Rattle.inc_terms.proofs.Meanings.{keeping_names}
 use Rattle.node_arena.specs.Arena.{Arena, row_at}
 use Rattle.node_arena.specs.Graph.{Holdings, graph_of, AllCallFit, CallsFit, NamesAreGiven, StillFit}
 use Rattle.node_arena.specs.Meanings.{KeepsKnown, MapsNameNoNode}
-use Rattle.node_arena.specs.Sound.{IsSound}
+use Rattle.node_arena.specs.Sound.{IsSoundArena}
 use Rattle.node_arena.proofs.Rows.{same_or_not, same_id}
 
 -- ---- names and functions together
@@ -36,7 +36,7 @@ module _ (P : NodeId → Type 0) (Q : FnKind → FnRef → Type 0) where
   both (graph.Freeze n f) h c = (c.0, h.1)
   both (graph.Expert f v ns) h c = (c.0, h.1, h.2)
 
-pub keeping : (a : Arena) (held : Holdings) → IsSound a → (known : FnRef → Bool) (ids : FnRef → List NodeId) → AllCallFit known ids a
+pub keeping : (a : Arena) (held : Holdings) → IsSoundArena a → (known : FnRef → Bool) (ids : FnRef → List NodeId) → AllCallFit known ids a
     → Keeping (Given a.given) (Fit a.given known ids) (graph_of a held)
 keeping a held sound known ids fit = record {
   live = λ n r is. sound.given n (rw is refl);

@@ -21,7 +21,7 @@ use Rattle.node_arena.specs.Graph.{graph_of, nothing_held}
 use Rattle.node_arena.specs.Listing.{Listed, nodes_of, IsNamed}
 use Rattle.node_arena.specs.RightSide.{RightSide, AreFit, SidesHold}
 use Rattle.node_arena.specs.RightSideLaws.{SidesAreLawful, ids_of, IsFitIn, FitListsGiven, FitLasts, SidesLast, RowsLast, BuildingFits, SameRowsUnfold, NewInScope, KilledAndBuilt}
-use Rattle.node_arena.specs.Sound.{IsSound}
+use Rattle.node_arena.specs.Sound.{IsSoundArena}
 use Rattle.node_arena.specs.Typing.{Fits}
 use Rattle.node_arena.proofs.Graph.{calls_more, maps_name_no_node}
 
@@ -158,7 +158,7 @@ killed_and_built F G G' before killed built b f captures v root uses most type r
 -- ---- what was built before stays while more is built
 
 -- the graph of a sound arena names given nodes
-names_of : (a : Arena) → IsSound a → Names (Given a.given) (λ k f. Unit {0}) (graph_of a nothing_held)
+names_of : (a : Arena) → IsSoundArena a → Names (Given a.given) (λ k f. Unit {0}) (graph_of a nothing_held)
 names_of a sound = names_kept (Given a.given) (λ k f. Unit {0}) (graph_of a nothing_held) (record {
   live = λ n r is. sound.given n (rw is refl);
   defs = sound.names;
@@ -167,7 +167,7 @@ names_of a sound = names_kept (Given a.given) (λ k f. Unit {0}) (graph_of a not
   lists = λ n. tt;
 })
 
-pub unfolds_grown : (uses : List Use) (mid new : Building) (most : ℕ) → IsSound mid.arena → Grows uses mid new most
+pub unfolds_grown : (uses : List Use) (mid new : Building) (most : ℕ) → IsSoundArena mid.arena → Grows uses mid new most
     → (captures : List NodeId) (n : NodeId) (t : Term) → Given mid.arena.given n
     → Unfolds (graph_of mid.arena nothing_held) (Some mid.scope) captures n t → Unfolds (graph_of new.arena nothing_held) (Some new.scope) captures n t
 unfolds_grown uses mid new most sound grows captures n t given h =

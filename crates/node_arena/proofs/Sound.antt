@@ -16,7 +16,7 @@ use Rattle.inc_terms.specs.Graph.{Row, Def}
 use Rattle.inc_terms.specs.Within.{Given}
 use Rattle.inc_terms.specs.Within.{ValueWithin}
 use Rattle.node_arena.specs.Arena.{Arena, row_at, IsLive, live, NamesGiven, with_value}
-use Rattle.node_arena.specs.Sound.{IsSound, IsOrder, IsKept}
+use Rattle.node_arena.specs.Sound.{IsSoundArena, IsOrder, IsKept}
 use Rattle.node_arena.specs.Typing.{Fits, FitsNode, BindTakes, FoldTakes, ReferenceFits, HasType, Makes}
 use Rattle.node_arena.proofs.Once.{all_below, rises_push}
 
@@ -130,7 +130,7 @@ module _ (a a' : Arena) (ids : List NodeId) (kept : IsKept a ids) (less : (n : N
   same_given : (n : NodeId) → Given a.given n → Given a'.given n
   same_given n h = omega (arith, given, h)
 
-  sound_dropped : IsSound a'
+  sound_dropped : IsSoundArena a'
   sound_dropped = record {
     given = λ n is. same_given n (kept.sound.given n (was_live n is));
     slots = λ n is. kept.sound.slots n (was_live n is);
@@ -205,7 +205,7 @@ module _ (a a' : Arena) (ids : List NodeId) (kept : IsKept a ids) (id : NodeId) 
   scope_given : (s : Option NodeId) → IfSome s (Given a.given) → (b : NodeId) → s ≡ Some b → Given a.given b
   scope_given s h b e = subst (λ (x : Option NodeId). IfSome x (Given a.given)) e h
 
-  sound_added : IsSound a'
+  sound_added : IsSoundArena a'
   sound_added = record {
     given = λ n is. elim (new_or_old n is) [ inl e ↦ subst (Given a'.given) (sym e) id_given | inr old ↦ still n (kept.sound.given n old) ];
     slots = λ n is. elim (new_or_old n is) [ inl e ↦ subst (λ (m : NodeId). m.slot < 1048576) (sym e) slot | inr old ↦ kept.sound.slots n old ];
@@ -279,7 +279,7 @@ module _ (a a' : Arena) (ids : List NodeId) (kept : IsKept a ids) (id : NodeId) 
     | inr s ↦ makes_still a a' fits_set r.def r.ty (kept.sound.names n r (sym s ∙ is)) (kept.sound.types n r (sym s ∙ is))
   ]
 
-  sound_set : IsSound a'
+  sound_set : IsSoundArena a'
   sound_set = record {
     given = λ n is. same_given_set n (kept.sound.given n (was_live_set n is));
     slots = λ n is. kept.sound.slots n (was_live_set n is);

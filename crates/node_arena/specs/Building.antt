@@ -11,7 +11,7 @@ use Rattle.inc_terms.specs.Within.{Given, DefWithin}
 use Rattle.node_arena.specs.declared.arena.AddFault.{AddFault}
 use Rattle.node_arena.specs.declared.arena.AddFault.TheVariants as fault
 use Rattle.node_arena.specs.Arena.{Arena, row_at, live, IsFull, NamesGiven, Changes}
-use Rattle.node_arena.specs.Sound.{IsSound}
+use Rattle.node_arena.specs.Sound.{IsSoundArena}
 use Rattle.node_arena.specs.Typing.{Makes, IsAddable}
 
 -- the nodes, and the bind in whose scope new ones stand
@@ -48,7 +48,7 @@ pub record Adds (old new : Building) (id : NodeId) (def : Def) (t : Ty) : Type 0
   pub live : live new.arena ≡ live old.arena + 1
   pub given : new.arena.given ≡ old.arena.given + 1
   pub scope : new.scope ≡ old.scope
-  pub sound : IsSound new.arena
+  pub sound : IsSoundArena new.arena
 
 -- ---- what is built for one right side
 

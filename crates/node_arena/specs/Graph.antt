@@ -7,7 +7,7 @@ use Rattle.inc_terms.specs.Rebuild.{Keeping, Names}
 use Rattle.inc_terms.specs.Within.{DefWithin, Given, Fit}
 use Rattle.node_arena.specs.Arena.{Arena, row_at, Changes}
 use Rattle.node_arena.specs.Meanings.{KeepsKnown}
-use Rattle.node_arena.specs.Sound.{IsSound}
+use Rattle.node_arena.specs.Sound.{IsSoundArena}
 use Rattle.node_arena.specs.Today.{no_clock, no_freezes, no_experts}
 
 -- what a graph holds beside its nodes: what each bind is built for
@@ -41,5 +41,5 @@ StillFit =
 -- whatever binds are built for
 abbrev pub NamesAreGiven : Type 0
 NamesAreGiven =
-    (a : Arena) (held : Holdings) (known : FnRef → Bool) (ids : FnRef → List NodeId) → IsSound a → AllCallFit known ids a
+    (a : Arena) (held : Holdings) (known : FnRef → Bool) (ids : FnRef → List NodeId) → IsSoundArena a → AllCallFit known ids a
     → Keeping (Given a.given) (Fit a.given known ids) (graph_of a held) × Names (Given a.given) (Fit a.given known ids) (graph_of a held)

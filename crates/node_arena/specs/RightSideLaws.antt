@@ -19,7 +19,7 @@ use Rattle.node_arena.specs.Graph.{graph_of, nothing_held, AllCallFit}
 use Rattle.node_arena.specs.Listing.{nodes_of}
 use Rattle.node_arena.specs.Meanings.{KeepsKnown, GiveNoReference}
 use Rattle.node_arena.specs.RightSide.{RightSide, AreFit, IsRoot, SidesHold}
-use Rattle.node_arena.specs.Sound.{IsSound}
+use Rattle.node_arena.specs.Sound.{IsSoundArena}
 
 -- what maps give and terms are, as the definitions of graphs take it
 abbrev pub meaning : (FnRef → List Value → Value) → (FnRef → RightSide) → Functions
@@ -83,7 +83,7 @@ SameRowsUnfold =
 abbrev pub NewInScope : Type 0
 NewInScope =
     (uses : List Use) (old new : Building) (most : ℕ)
-    → IsSound old.arena → IsSound new.arena → Grows uses old new most
+    → IsSoundArena old.arena → IsSoundArena new.arena → Grows uses old new most
     → (n : NodeId) (r : Row) → row_at new.arena n ≡ Some r → (Given old.arena.given n → ⊥)
     → (r.scope ≡ Some old.scope) × Given new.arena.given n
 
@@ -109,7 +109,7 @@ KilledAndBuilt =
     (F : Functions) (G G' : Graph) (before killed built : Arena) (b : NodeId) (f : FnRef) (captures : List NodeId)
     (v : Value) (root : NodeId) (uses : List Use) (most : ℕ) (type : Ty)
     → ((n : NodeId) → G.row n ≡ row_at before n) → ((n : NodeId) → G'.row n ≡ row_at built n)
-    → IsSound killed → IsSound built
+    → IsSoundArena killed → IsSoundArena built
     → IsKilled G before killed b → Grows uses (building_in b killed) (building_in b built) most
     → IsRoot (building_in b built) captures root (F.term f v) type
     → IsMade F G G' before.given built.given b f captures v root

@@ -11,7 +11,7 @@ use Rattle.node_arena.specs.Typing.{Makes}
 
 -- what is live was given, in one of the slots; no two live nodes have one generation; what rows, their values and their scopes name was given;
 -- each row is of the type that it makes; no more nodes are live, and no more ids given, than may be
-pub record IsSound (a : Arena) : Type 0 where
+pub record IsSoundArena (a : Arena) : Type 0 where
   pub given : (n : NodeId) → IsLive a n → Given a.given n
   pub slots : (n : NodeId) → IsLive a n → n.slot < 1048576
   pub generations : (n m : NodeId) → IsLive a n → IsLive a m → n.gen_ ≡ m.gen_ → n ≡ m
@@ -54,5 +54,5 @@ AreFew a ids = length ids ≤ 2 * (live a + 32) + 1
 
 -- what the fields of an arena keep
 pub record IsKept (a : Arena) (ids : List NodeId) : Type 0 where
-  pub sound : IsSound a
+  pub sound : IsSoundArena a
   pub order : IsOrder a ids

@@ -4,7 +4,7 @@ ghost use Rattle.inc_value.specs.declared.node.NodeId.{NodeId};
 ghost use Rattle.inc_terms.specs.Code.{def_of};
 ghost use Rattle.inc_terms.specs.Within.{Given};
 ghost use Rattle.node_arena.specs.Arena.{row_of, row_at, live, IsLive, IsFull, Changes, NamesGiven};
-ghost use Rattle.node_arena.specs.Sound.{IsSound, IsFirstSince};
+ghost use Rattle.node_arena.specs.Sound.{IsSoundArena, IsFirstSince};
 ghost use Rattle.node_arena.specs.Typing.{Makes, IsAddable};
 
 mod order;
@@ -95,7 +95,7 @@ impl Arena {
         ensures empty { (n : NodeId) → row_at result n ≡ None }
         ensures live { live result ≡ 0 }
         ensures given { result.given ≡ 0 }
-        ensures sound { IsSound result }
+        ensures sound { IsSoundArena result }
     {
         Arena {
             nodes: Slab::new(alloc),
@@ -170,7 +170,7 @@ impl Arena {
         ensures keeps { (n : NodeId) → Given self.old.given n → row_at self.new n ≡ row_at self.old n }
         ensures live { OnOk result (live self.new ≡ live self.old + 1) }
         ensures given { OnOk result (self.new.given ≡ self.old.given + 1) }
-        ensures sound { OnOk result (IsSound self.new) }
+        ensures sound { OnOk result (IsSoundArena self.new) }
         ensures unknown { IsErrOf result AddFault.Unknown ↔ ¬ NamesGiven self.old.given (def_of def) }
         ensures wrong_type { IsErrOf result AddFault.WrongType
             ↔ (NamesGiven self.old.given (def_of def) × ¬ Makes self.old (def_of def) ty) }
@@ -213,7 +213,7 @@ impl Arena {
         ensures keeps { (n : NodeId) → Given self.old.given n → row_at self.new n ≡ row_at self.old n }
         ensures live { OnOk result (live self.new ≡ live self.old + 1) }
         ensures given { OnOk result (self.new.given ≡ self.old.given + 1) }
-        ensures sound { OnOk result (IsSound self.new) }
+        ensures sound { OnOk result (IsSoundArena self.new) }
         ensures err { OnErr result (self.new ≡ self.old) }
     {
         // The slab uses free slots first, so the slot is below; its contract doesn't say so.
@@ -239,7 +239,7 @@ impl Arena {
         ensures dropped { Changes self.old self.new id None }
         ensures live { live self.new + 1 ≡ live self.old }
         ensures given { self.new.given ≡ self.old.given }
-        ensures sound { IsSound self.new }
+        ensures sound { IsSoundArena self.new }
     {
         self.nodes.remove(id.slot);
     }

@@ -4,7 +4,7 @@ ghost use Rattle.inc_value.specs.Value.{type_of};
 ghost use Rattle.inc_terms.specs.Code.{def_of};
 ghost use Rattle.inc_terms.specs.Graph.{Const, Map, Fold, If, Join, Bind};
 ghost use Rattle.inc_terms.specs.Within.{Given};
-ghost use Rattle.node_arena.specs.Sound.{IsSound};
+ghost use Rattle.node_arena.specs.Sound.{IsSoundArena};
 ghost use Rattle.node_arena.specs.Building.{building_in, Answers, TellsFault, Adds};
 
 use crate::{AddFault, Arena};
@@ -49,7 +49,7 @@ impl Builder {
     /// The arena, with what was added.
     pub fn finish(self) -> Arena
         ensures arena { result ≡ self.arena }
-        ensures sound { IsSound result }
+        ensures sound { IsSoundArena result }
     {
         self.arena
     }

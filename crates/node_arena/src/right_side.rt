@@ -4,7 +4,7 @@ ghost use Rattle.inc_value.specs.declared.function.FnKind.TheVariants.{Rhs};
 ghost use Rattle.inc_terms.specs.Within.{Given};
 ghost use Rattle.node_arena.specs.Arena.{IsFull};
 ghost use Rattle.node_arena.specs.Building.{building_in, Grows};
-ghost use Rattle.node_arena.specs.Sound.{IsSound};
+ghost use Rattle.node_arena.specs.Sound.{IsSoundArena};
 ghost use Rattle.node_arena.specs.RightSide.{MayBuild, IsRoot, SameMeaning, one_built};
 
 use crate::{Arena, BuildFault, Builder, Functions};
@@ -33,7 +33,7 @@ impl Arena {
         requires kind { f.id.kind ≡ Rhs }
         requires ready { MayBuild (building_in scope self.old) f.sig (F.right functions.old f) left.now captures.now }
         ensures sound { F.is_sound functions.new }
-        ensures arena { IsSound self.new }
+        ensures arena { IsSoundArena self.new }
         ensures grows { Grows (F.right functions.old f).uses (building_in scope self.old) (building_in scope self.new)
             (F.right functions.old f).size }
         ensures root { IfOk result (λ n. IsRoot (building_in scope self.new) captures.now n

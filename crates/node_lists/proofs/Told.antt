@@ -7,7 +7,7 @@ use Rattle.inc_terms.specs.Depend.{main}
 use Rattle.inc_terms.proofs.Plan.{among_left, among_right, among_parts, among_map}
 use Rattle.point_map.specs.Rows.{Rows, at, Holds, Changes}
 use Rattle.point_map.proofs.Places.{point_cases}
-use Rattle.node_lists.specs.Deaths.{IsTold}
+use Rattle.node_lists.specs.Deaths.{AreDeaths}
 
 -- where none is twice and one more comes, none is twice
 one_more : {A : Type 0} (xs : List A) (x : A) → NoRepeats xs → (Among x xs → ⊥) → NoRepeats (xs ++ x ∷ [])
@@ -50,18 +50,18 @@ main_less p (x ∷ xs) n (inl e) = inl (inl e)
 main_less p (x ∷ xs) n (inr h) = elim (main_less p xs n h) [ inl i ↦ inl (inr i) | inr e ↦ inr e ]
 
 -- a node has a scope exactly where it died
-pub told_node : (ns : List NodeId) (s : Rows NodeId) → IsTold ns s → (n : NodeId)
+pub told_node : (ns : List NodeId) (s : Rows NodeId) → AreDeaths ns s → (n : NodeId)
     → (Holds s (main n) → Among n ns) × (Among n ns → Holds s (main n))
 told_node ns s told n =
     (λ h. node_of n ns ((told.rows (main n)).0 h), λ a. (told.rows (main n)).1 (among_map main n ns a))
 
 -- the last one that died has a scope
-pub last_told : (ns : List NodeId) (n : NodeId) (s : Rows NodeId) → IsTold (ns ++ n ∷ []) s → Holds s (main n)
+pub last_told : (ns : List NodeId) (n : NodeId) (s : Rows NodeId) → AreDeaths (ns ++ n ∷ []) s → Holds s (main n)
 last_told ns n s told = (told.rows (main n)).1 (main_more (main n) ns n (inr refl))
 
 -- one more dies
-pub told_added : (ns : List NodeId) (n b : NodeId) (s s' : Rows NodeId) → IsTold ns s → at s (main n) ≡ None
-    → Changes s s' (main n) (Some b) → IsTold (ns ++ n ∷ []) s'
+pub told_added : (ns : List NodeId) (n b : NodeId) (s s' : Rows NodeId) → AreDeaths ns s → at s (main n) ≡ None
+    → Changes s s' (main n) (Some b) → AreDeaths (ns ++ n ∷ []) s'
 told_added ns n b s s' told absent changes = record {
   once = one_more ns n told.once (λ a. let e = subst IsSome absent ((told_node ns s told n).1 a) in absurd (cc));
   rows = λ p. (
@@ -80,8 +80,8 @@ told_added ns n b s s' told absent changes = record {
 }
 
 -- the last one is taken off
-pub told_popped : (ns : List NodeId) (n : NodeId) (s s' : Rows NodeId) → IsTold (ns ++ n ∷ []) s
-    → Changes s s' (main n) None → IsTold ns s'
+pub told_popped : (ns : List NodeId) (n : NodeId) (s s' : Rows NodeId) → AreDeaths (ns ++ n ∷ []) s
+    → Changes s s' (main n) None → AreDeaths ns s'
 told_popped ns n s s' told changes =
     let less = one_less ns n told.once in
     record {

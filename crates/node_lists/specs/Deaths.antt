@@ -13,6 +13,6 @@ pub record Deaths : Type 0 where
   pub spare : ℕ
 
 -- no node died twice, and there is a scope at the main of each that died and nowhere else
-pub record IsTold (nodes : List NodeId) (scopes : Rows NodeId) : Type 0 where
+pub record AreDeaths (nodes : List NodeId) (scopes : Rows NodeId) : Type 0 where
   pub once : NoRepeats nodes
   pub rows : (p : Point) → Holds scopes p ↔ Among p (map main nodes)

@@ -3,7 +3,7 @@ ghost use Rattle.std.specs.Prelude.{◌≡◌, ◌<◌, ◌≤◌, ◌+◌, ◌+
 ghost use Rattle.inc_value.specs.declared.node.Point.{Point as APoint};
 ghost use Rattle.inc_terms.specs.Depend.{main};
 ghost use Rattle.point_map.specs.Rows.{at, Changes, KeepsRows};
-ghost use Rattle.node_lists.specs.Deaths.{IsTold};
+ghost use Rattle.node_lists.specs.Deaths.{AreDeaths};
 
 use inc_value::{NodeId, Point};
 use point_map::PointMap;
@@ -36,7 +36,7 @@ impl Drop for Deaths {
 
 impl Model for Deaths {
     ghost use Rattle.std.specs.Prelude.{◌-◌, min, vec_len, vec_capacity};
-    ghost use Rattle.node_lists.specs.Deaths.{Deaths as Seen, IsTold};
+    ghost use Rattle.node_lists.specs.Deaths.{Deaths as Seen, AreDeaths};
 
     ghost Value = { Seen };
 
@@ -46,7 +46,7 @@ impl Model for Deaths {
       spare = min (vec_capacity d.nodes - vec_len d.nodes) d.scopes.spare;
     } };
 
-    ghost invariant = { λ d. IsTold d.nodes.items d.scopes };
+    ghost invariant = { λ d. AreDeaths d.nodes.items d.scopes };
 }
 
 impl Deaths {
@@ -55,7 +55,7 @@ impl Deaths {
         ensures nodes { result.nodes ≡ [] }
         ensures scopes { (p : APoint) → at result.scopes p ≡ None }
         ensures spare { result.spare ≡ 0 }
-        ensures told { IsTold result.nodes result.scopes }
+        ensures told { AreDeaths result.nodes result.scopes }
     {
         Deaths {
             nodes: Vec::new(alloc),
@@ -70,7 +70,7 @@ impl Deaths {
         ensures room { OnOk result (n ≤ self.new.spare) }
         ensures spare { self.old.spare ≤ self.new.spare }
         ensures succeeds { n ≤ self.old.spare → IsOk result }
-        ensures told { IsTold self.new.nodes self.new.scopes }
+        ensures told { AreDeaths self.new.nodes self.new.scopes }
     {
         self.nodes.reserve(n)?;
         self.scopes.reserve(n)
@@ -79,7 +79,7 @@ impl Deaths {
     /// How many died.
     pub fn len(&self) -> usize
         ensures len { result ≡ length self.now.nodes }
-        ensures told { IsTold self.now.nodes self.now.scopes }
+        ensures told { AreDeaths self.now.nodes self.now.scopes }
     {
         self.nodes.len()
     }
@@ -113,7 +113,7 @@ impl Deaths {
         ensures nodes { self.new.nodes ≡ self.old.nodes ++ node ∷ [] }
         ensures scope { Changes self.old.scopes self.new.scopes (main node) (Some scope) }
         ensures spare { self.new.spare + 1 ≡ self.old.spare }
-        ensures told { IsTold self.new.nodes self.new.scopes }
+        ensures told { AreDeaths self.new.nodes self.new.scopes }
     {
         self.nodes.push_reserved(node);
         self.scopes.insert(Point::main(node), scope);
@@ -127,7 +127,7 @@ impl Deaths {
         ensures spare { OnSome result (self.new.spare ≡ self.old.spare + 1) }
         ensures none { IfNone result (self.old.nodes ≡ []) }
         ensures unchanged { IfNone result (self.new ≡ self.old) }
-        ensures told { IsTold self.new.nodes self.new.scopes }
+        ensures told { AreDeaths self.new.nodes self.new.scopes }
     {
         let node = self.nodes.pop()?;
         let scope = self.scopes.remove(Point::main(node));

@@ -30,7 +30,7 @@ use Rattle.point_map.specs.Rows.{Rows, at, Holds}
 use Rattle.node_arena.specs.Arena.{Arena, row_at, NamesGiven}
 use Rattle.node_arena.specs.Graph.{Holdings, graph_of, AllCallFit, CallsFit}
 use Rattle.node_arena.specs.Meanings.{HaveMapSigs}
-use Rattle.node_arena.specs.Sound.{IsSound}
+use Rattle.node_arena.specs.Sound.{IsSoundArena}
 use Rattle.node_arena.specs.Typing.{Fits, Makes, MapMakes, FoldMakes, FoldTakes}
 use Rattle.inc_terms.specs.Work.{taken_by}
 use Rattle.stabilize_round.specs.Calling.{IsAnswer, cost_at, row_cost, or_none}
@@ -386,7 +386,7 @@ holds_value d v w same (inl h) = inl (ap def_of h ∙ ap Const (sym same))
 holds_value d v w same (inr h) = inr (ap def_of h ∙ ap Var (sym same))
 
 module _ (F : Functions) (arena : Arena) (roots : Rows NodeId) (round : ℕ) (old : Noted) (n : NodeId) (row : Row)
-    (kept : KeepsTypes arena (held_in arena old.rows roots) old.rows) (sound : IsSound arena) (is_row : row_at arena n ≡ Some row) where
+    (kept : KeepsTypes arena (held_in arena old.rows roots) old.rows) (sound : IsSoundArena arena) (is_row : row_at arena n ≡ Some row) where
   abbrev held : Holdings
   held = held_in arena old.rows roots
 

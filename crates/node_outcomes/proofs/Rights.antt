@@ -19,7 +19,7 @@ use Rattle.inc_terms.specs.Within.{Given}
 use Rattle.point_map.specs.Rows.{Rows, at}
 use Rattle.node_arena.specs.Arena.{Arena, row_at, NamesGiven}
 use Rattle.node_arena.specs.Graph.{Holdings, graph_of}
-use Rattle.node_arena.specs.Sound.{IsSound}
+use Rattle.node_arena.specs.Sound.{IsSoundArena}
 use Rattle.node_arena.specs.Typing.{Fits, Makes}
 use Rattle.node_outcomes.specs.Computing.{seen, KeepsTypes, IsOfType}
 use Rattle.node_outcomes.specs.declared.row.Progress.{Progress}
@@ -82,7 +82,7 @@ module _ (arena : Arena) (held now : Holdings) (rows : Rows Progress) (kept : Ke
   fits_so n s m t def o names makes is shows roots e = cc
 
   -- what a node's subject shows chooses a right side that was given and fits the node, where a root that is held for it was and does
-  pub right_fits : IsSound arena → (n s m : NodeId) (r : Row) (o : Outcome) → row_at arena n ≡ Some r → subject_of r.def ≡ Some s → Shown s o
+  pub right_fits : IsSoundArena arena → (n s m : NodeId) (r : Row) (o : Outcome) → row_at arena n ≡ Some r → subject_of r.def ≡ Some s → Shown s o
       → ((w : Built) → now.built n ≡ Some w → w.root ≡ Some m → Given arena.given m × Fits arena m r.ty)
       → right_of (graph_of arena now) n r.def o ≡ Some m → Given arena.given m × Fits arena m r.ty
   right_fits sound n s m r o is subject shows roots e = fits_so n s m r.ty r.def o (sound.names n r is) (sound.types n r is) subject shows roots e

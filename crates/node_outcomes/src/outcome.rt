@@ -9,7 +9,7 @@ ghost use Rattle.point_map.specs.Rows.{Holds};
 ghost use Rattle.node_arena.specs.Arena.{IsLive};
 ghost use Rattle.node_arena.specs.Graph.{AllCallFit};
 ghost use Rattle.node_arena.specs.RightSideLaws.{ids_of};
-ghost use Rattle.node_arena.specs.Sound.{IsSound};
+ghost use Rattle.node_arena.specs.Sound.{IsSoundArena};
 ghost use Rattle.node_outcomes.specs.Choosing.{held_in};
 ghost use Rattle.node_outcomes.specs.Computing.{CallComputes, Ends, IsKnown, KeepsTypes};
 ghost use Rattle.node_outcomes.specs.Computing.{FoldFits, ShowsValue, noted};
@@ -43,7 +43,7 @@ pub fn compute<F: Functions>(
     requires live { IsLive arena.now node }
     requires sound { F.is_sound functions.old }
     requires fit { AllCallFit (F.known functions.old) (ids_of (F.right functions.old)) arena.now }
-    requires arena { IsSound arena.now }
+    requires arena { IsSoundArena arena.now }
     ensures computed { Ends (functions_of F.Functions functions.old) arena.now
         (held_in arena.now rows.old roots.now) round (noted rows.old ran.old.items (F.calls functions.old))
         (noted rows.new ran.new.items (F.calls functions.new)) node result }

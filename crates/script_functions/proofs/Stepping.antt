@@ -16,7 +16,7 @@ use Rattle.inc_terms.specs.Term.{Term, Const}
 use Rattle.node_arena.specs.Building.{Building, Adds, Use, CallsListed, Weighs, Grows}
 use Rattle.node_arena.specs.Listing.{Listed}
 use Rattle.node_arena.specs.RightSide.{MayBuild, IsRoot}
-use Rattle.node_arena.specs.Sound.{IsSound}
+use Rattle.node_arena.specs.Sound.{IsSoundArena}
 use Rattle.node_arena.specs.Typing.{Fits}
 use Rattle.node_arena.proofs.Growing.{grown_none, grown_more, grown_most, given_added, given_still, in_added}
 use Rattle.node_arena.proofs.Growing.{fits_added, value_any, weigh_any}
@@ -66,7 +66,7 @@ module _ (uses : List Use) (listed : List Listed) (T : parts.Part → Option Ty)
 
 -- ---- what was made stays
 
-module _ (b b' : Building) (id : NodeId) (def : Def) (t : Ty) (sound : IsSound b.arena) (adds : Adds b b' id def t)
+module _ (b b' : Building) (id : NodeId) (def : Def) (t : Ty) (sound : IsSoundArena b.arena) (adds : Adds b b' id def t)
     (uses : List Use) (calls : CallsListed uses def) (captures : List NodeId) where
   still_reads : (n : NodeId) (term : Term) → Reads b captures n term → Reads b' captures n term
   still_reads n term h =
@@ -118,7 +118,7 @@ module _ (body : spec.Body) (start : Building) (left : Value) (captures : List N
       line_ready body start left captures ready uses b way.taken way.grows made way.terms way.types way.made_so_far
       x.line x.ty way.typed.0
 
-  one_more_line : (b b' : Building) (made made' : List NodeId) (x : TypedLine) (todo : List TypedLine) → IsSound b.arena
+  one_more_line : (b b' : Building) (made made' : List NodeId) (x : TypedLine) (todo : List TypedLine) → IsSoundArena b.arena
       → IsUnderWay start b body left captures made (x ∷ todo)
       → IsNoted b b' made made' (filled listed captures made x.line) x.ty
       → IsUnderWay start b' body left captures made' todo
@@ -166,7 +166,7 @@ module _ (body : spec.Body) (start : Building) (left : Value) (captures : List N
     pub ready_at : IsReady b (filled listed captures made x.line) x.ty
     ready_at = next_ready b made x (drop (i + 1) lines) here
 
-    pub one_more_at : (b' : Building) (made' : List NodeId) → IsSound b.arena
+    pub one_more_at : (b' : Building) (made' : List NodeId) → IsSoundArena b.arena
         → IsNoted b b' made made' (filled listed captures made x.line) x.ty
         → IsUnderWay start b' body left captures made' (drop (i + 1) lines)
     one_more_at b' made' sound noted = one_more_line b b' made made' x (drop (i + 1) lines) sound here noted

@@ -11,7 +11,7 @@ use Rattle.inc_terms.specs.Unfold.{Unfolds}
 use Rattle.inc_terms.specs.Within.{Given}
 use Rattle.node_arena.specs.Building.{Building, Adds, Use, Grows}
 use Rattle.node_arena.specs.Graph.{graph_of, nothing_held}
-use Rattle.node_arena.specs.Sound.{IsSound}
+use Rattle.node_arena.specs.Sound.{IsSoundArena}
 use Rattle.node_arena.specs.Typing.{Fits}
 use Rattle.script_functions.specs.Bodies.{Body, captured, line_types, all_terms, size_of}
 use Rattle.script_functions.specs.Lines.{AreTyped, sizes, terms_after, uses_of}
@@ -45,7 +45,7 @@ pub record IsUnderWay (start b : Building) (body : Body) (left : Value) (capture
   pub types : List Ty
   pub taken : ℕ
   pub grows : Grows (uses_of body.draft.lines) start b taken
-  pub sound : IsSound b.arena
+  pub sound : IsSoundArena b.arena
   pub made_so_far : AreMade b captures made terms types
   pub typed : AreTyped body.draft.listed (captured body.draft.sig.takes) types todo
   pub called : (u : Use) → Among u (uses_of todo) → Among u (uses_of body.draft.lines)

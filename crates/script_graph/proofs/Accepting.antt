@@ -14,7 +14,7 @@ use Rattle.inc_terms.specs.Term as term
 use Rattle.inc_terms.specs.Term.{Functions}
 use Rattle.graph.specs.Sound.{IsWhole}
 use Rattle.graph.specs.Stabilizes.{Stabilizes as GraphStabilizes, left_by}
-use Rattle.graph.specs.Standing.{Standing, graph, in_use, node_at as looked_at, cutoff_of, AreRooted}
+use Rattle.graph.specs.Standing.{GraphView, graph, in_use, node_at as looked_at, cutoff_of, AreRooted}
 use Rattle.graph.specs.declared.observer.Observer.{Observer as Looking}
 use Rattle.node_arena.specs.Arena.{row_at}
 use Rattle.map_nodes.specs.declared.cutoff.Cutoff.TheVariants.{Equal}
@@ -63,7 +63,7 @@ use Rattle.transfer.proofs.Typed.{bind_body, body_entry, body_typed, valid_grabs
 
 -- ---- the stabilize
 
-module _ (named : List ℕ → Option FnRef) (value : FnRef → List GraphValue → GraphValue) (m : Moment) (k : Kept) (g : Standing (Unit {0}))
+module _ (named : List ℕ → Option FnRef) (value : FnRef → List GraphValue → GraphValue) (m : Moment) (k : Kept) (g : GraphView (Unit {0}))
     (stands : Stands (meanings_of named value) k m) (unbroken : m.broken ≡ None) (c : IsStabilize (meanings_of named value) m.present k g)
     (whole : IsWhole c.meaning k.graph) (done : GraphStabilizes (graph_functions (meanings_of named value) k.bodies) k.graph g) where
   abbrev F : Meanings
@@ -461,7 +461,7 @@ module _ (named : List ℕ → Option FnRef) (value : FnRef → List GraphValue 
 -- ---- over a graph with its functions
 
 -- a stabilize of a session's graph that was accepted is one of its script
-pub session_accepted : {A : Type 0} (named : List ℕ → Option FnRef) (value : FnRef → List GraphValue → GraphValue) (k : Kept) (old new : Standing A)
+pub session_accepted : {A : Type 0} (named : List ℕ → Option FnRef) (value : FnRef → List GraphValue → GraphValue) (k : Kept) (old new : GraphView A)
     (c : IsSessions value k old new) → GraphStabilizes (functions_over value k.bodies) old new
     → ((n : NodeId) → row_at new.nodes n ≡ None → cutoff_of new n ≡ Equal) → (called calls : ℕ) → RoseBy called (costs_of (left_by old new) new.ran) calls
     → (m : Moment) → Stands (meanings_of named value) k m
@@ -470,7 +470,7 @@ session_accepted named value k old new c done dead called calls rose m stands =
     accepted_stands named value m k (without_functions new) stands (moment_unbroken named value k old new c m stands)
     (stabilize_of named value k old new c m stands) (kept_whole named value k old new c m stands done.was)
     (kept_so named value k old new c m stands
-    (λ (h : Standing (Unit {0})). GraphStabilizes (graph_functions (meanings_of named value) k.bodies) h (without_functions new))
+    (λ (h : GraphView (Unit {0})). GraphStabilizes (graph_functions (meanings_of named value) k.bodies) h (without_functions new))
     (stabilizes_without (graph_functions (meanings_of named value) k.bodies) old new
     (functions_so named value k old new c m stands (λ (M : Functions). GraphStabilizes M old new) done))) dead called calls
-    (kept_so named value k old new c m stands (λ (h : Standing (Unit {0})). RoseBy called (costs_of (left_by h (without_functions new)) new.ran) calls) rose)
+    (kept_so named value k old new c m stands (λ (h : GraphView (Unit {0})). RoseBy called (costs_of (left_by h (without_functions new)) new.ran) calls) rose)

@@ -1,7 +1,7 @@
 -- A graph takes a welcome definition, unless there is no memory.
 use Rattle.std.proofs.Common.{◌≡◌, inl, inr, ◌-◌, ◌^◌, ◌<◌, Bool, None, Some, Result, Ok, Err, IfOk, IfErr, IsErr, refl, ap, sym, subst, ◌∙◌, arith}
 use Rattle.graph.specs.Effects.{top, Adds, KeepsAll, IsAddFault, AnswersAdd}
-use Rattle.graph.specs.Standing.{Standing, IsUnbroken, IsBroken}
+use Rattle.graph.specs.Standing.{GraphView, IsUnbroken, IsBroken}
 use Rattle.graph.specs.declared.fault.GraphFault.{GraphFault}
 use Rattle.graph.specs.declared.fault.GraphFault.TheVariants as fault
 use Rattle.graph.specs.declared.fault.Kept.{Kept}
@@ -13,7 +13,7 @@ use Rattle.node_arena.specs.Arena.{live, IsFull}
 use Rattle.node_arena.specs.RightSide.{RightSide}
 use Rattle.script_graph.specs.Growing.{IsWelcome}
 
-module _ {F : Type 0} (s t : Standing F) (known : FnRef → Bool) (right : FnRef → RightSide) (d : Def) (ty : Ty)
+module _ {F : Type 0} (s t : GraphView F) (known : FnRef → Bool) (right : FnRef → RightSide) (d : Def) (ty : Ty)
     (whole : IsUnbroken s) (welcome : IsWelcome known right s.nodes d ty)
     (room : live s.nodes < 1048576) (ids : s.nodes.given < 2 ^ 64 - 1) where
   not_broken : (cause : Kept) → IsBroken s cause → ⊥
@@ -35,7 +35,7 @@ module _ {F : Type 0} (s t : Standing F) (known : FnRef → Bool) (right : FnRef
   only_memory (Ok n) a = tt
   only_memory (Err e) a = memory_alone (Err e) e refl a.adding a
 
-module _ {F : Type 0} (s t : Standing F) (d : Def) (ty : Ty) where
+module _ {F : Type 0} (s t : GraphView F) (d : Def) (ty : Ty) where
   -- the node was added
   pub was_added : (r : Result NodeId GraphFault) (n : NodeId) → r ≡ Ok n → AnswersAdd s t d ty r → Adds s t n (top d ty)
   was_added r n is a = subst (λ (x : Result NodeId GraphFault). IfOk x (λ (m : NodeId). Adds s t m (top d ty))) is a.added

@@ -1,7 +1,7 @@
 -- What is kept before the first line.
 use Rattle.std.proofs.Common.{◌≡◌, ℕ, List, [], length, Option, None, Some, refl, ap, sym, ◌∙◌, arith}
 use Rattle.std.proofs.lemmas.Option.{none-some}
-use Rattle.graph.specs.Standing.{Standing, IsUnbroken, cutoff_of, graph}
+use Rattle.graph.specs.Standing.{GraphView, IsUnbroken, cutoff_of, graph}
 use Rattle.inc_value.specs.declared.function.FnRef.{FnRef}
 use Rattle.inc_value.specs.declared.node.NodeId.{NodeId}
 use Rattle.inc_value.specs.declared.value.Value.{Value as GraphValue}
@@ -15,14 +15,14 @@ use Rattle.script_model.proofs.Validity.{start_is_valid}
 use Rattle.script_graph.specs.Kept.{Kept}
 use Rattle.script_graph.specs.Represents.{beside, Represents}
 use Rattle.script_graph.specs.Settled.{root_of, Settled}
-use Rattle.script_graph.specs.Sound.{IsSound}
+use Rattle.script_graph.specs.Sound.{IsSoundSession}
 use Rattle.script_graph.specs.State.{Stands}
 use Rattle.script_graph.proofs.Functions.{functions_fit}
 use Rattle.transfer.specs.Shows.{Fits}
 use Rattle.script_graph.proofs.Held.{looked_within, rooted_looks}
 
 -- what is kept over a graph without nodes and observers
-abbrev pub first_kept : Standing (Unit {0}) → Kept
+abbrev pub first_kept : GraphView (Unit {0}) → Kept
 first_kept g = record {
   names = record { declared = []; observers = []; now = 0 };
   nodes = [];
@@ -34,8 +34,8 @@ first_kept g = record {
   graph = g;
 }
 
-module _ (g : Standing (Unit {0})) (nodes : (n : NodeId) → row_at g.nodes n ≡ None) (observers : g.observers ≡ []) where
-  pub first_sound : IsUnbroken g → IsSound (first_kept g)
+module _ (g : GraphView (Unit {0})) (nodes : (n : NodeId) → row_at g.nodes n ≡ None) (observers : g.observers ≡ []) where
+  pub first_sound : IsUnbroken g → IsSoundSession (first_kept g)
   first_sound unbroken = record {
     one_node_each = refl;
     has_nodes = λ n d is. absurd (cc);

@@ -107,7 +107,7 @@ abbrev pub IsKnownSide : (FnRef → Bool) → FnKind → FnRef → Type 0
 IsKnownSide known kind.Map f = Unit {0}
 IsKnownSide known kind.Rhs f = KnownAs known kind.Rhs f
 
-module _ {A : Type 0} (known : FnRef → Bool) (s : standing.Standing A) where
+module _ {A : Type 0} (known : FnRef → Bool) (s : standing.GraphView A) where
   row_within : (n : NodeId) (def : Def) → DefWithin (λ n. Unit {0}) (IsKnownSide known) def
       → TermWithin AnyNode (IsKnownSide known) (graph.present_def (standing.graph s) n def)
   row_within n (graph.Const v) h = any_value v
@@ -164,12 +164,12 @@ module _ (maps : FnRef → Bool) (bodies more : List Body) where
       ap (λ (o : Option Maker). by_kind f.id.kind no_side (side_made o)) (still ∙ sym m.1)
 
 -- what is known of the functions of a graph over these bodies: right sides keep their promises, and functions of live nodes are known
-pub record AreKnown {A : Type 0} (maps : FnRef → Bool) (bodies : List Body) (s : standing.Standing A) : Type 0 where
+pub record AreKnown {A : Type 0} (maps : FnRef → Bool) (bodies : List Body) (s : standing.GraphView A) : Type 0 where
   pub holds : SidesHold (is_known maps (makers bodies)) (side_in (makers bodies))
   pub ids : FnRef → List NodeId
   pub fit : AllCallFit (is_known maps (makers bodies)) ids s.nodes
 
-module _ {A : Type 0} (maps : FnRef → Bool) (bodies more : List Body) (s : standing.Standing A) (are : AreKnown maps bodies s) where
+module _ {A : Type 0} (maps : FnRef → Bool) (bodies more : List Body) (s : standing.GraphView A) (are : AreKnown maps bodies s) where
   listed_known : (f : FnRef) → KnownAs (known maps bodies more) kind.Rhs f → (k : FnKind) (g : FnRef)
       → IsListed (side_in (makers bodies) f).uses k g → IsKnownSide (known maps bodies more) k g
   listed_known f h kind.Map g l = tt

@@ -19,7 +19,7 @@ use Rattle.inc_terms.specs.Term.{Functions}
 use Rattle.stabilizer.specs.Left.{IsObservedIn, IsMetIn, IsBuiltMetIn}
 use Rattle.graph.specs.Sound.{IsWhole}
 use Rattle.graph.specs.Stabilizes.{Stabilizes as GraphStabilizes, left_by, died_by}
-use Rattle.graph.specs.Standing.{look, Standing, graph, in_use}
+use Rattle.graph.specs.Standing.{look, GraphView, graph, in_use}
 use Rattle.stabilize_round.specs.Calling.{costs_of}
 use Rattle.script_model.specs.Blocked.{InTheWay, on_cycle, too_deep}
 use Rattle.script_model.specs.Formula as script
@@ -78,7 +78,7 @@ both_true false b e = absurd (cc)
 
 -- ---- the stabilize
 
-module _ (named : List ℕ → Option FnRef) (value : FnRef → List GraphValue → GraphValue) (m : Moment) (k : Kept) (g : Standing (Unit {0}))
+module _ (named : List ℕ → Option FnRef) (value : FnRef → List GraphValue → GraphValue) (m : Moment) (k : Kept) (g : GraphView (Unit {0}))
     (stands : Stands (meanings_of named value) k m) (unbroken : m.broken ≡ None) (c : IsStabilize (meanings_of named value) m.present k g)
     (whole : IsWhole c.meaning k.graph) (done : GraphStabilizes (graph_functions (meanings_of named value) k.bodies) k.graph g) where
   abbrev F : Meanings

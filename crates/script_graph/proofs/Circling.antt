@@ -21,7 +21,7 @@ use Rattle.inc_terms.proofs.Same.{outcome_decides}
 use Rattle.stabilizer.specs.Left.{ComesBack, IsListedIn, IsLawfulIn}
 use Rattle.graph.specs.Sound.{IsWhole}
 use Rattle.graph.specs.Stabilizes.{IsRefusedFor, HasCalledMet, left_by, died_by}
-use Rattle.graph.specs.Standing.{in_use, look, Standing, IsOwner, graph}
+use Rattle.graph.specs.Standing.{in_use, look, GraphView, IsOwner, graph}
 use Rattle.graph.specs.Fault.{kept_of}
 use Rattle.graph.specs.declared.fault.Kept.TheVariants as fault
 use Rattle.script_model.specs.Blocked.{IsCycle}
@@ -78,7 +78,7 @@ main_node m n e = ap (λ (p : Point). p.node) e
 
 -- ---- the stabilize
 
-module _ (named : List ℕ → Option FnRef) (value : FnRef → List GraphValue → GraphValue) (m : Moment) (k : Kept) (g : Standing (Unit {0}))
+module _ (named : List ℕ → Option FnRef) (value : FnRef → List GraphValue → GraphValue) (m : Moment) (k : Kept) (g : GraphView (Unit {0}))
     (stands : Stands (meanings_of named value) k m) (unbroken : m.broken ≡ None) (c : IsStabilize (meanings_of named value) m.present k g)
     (whole : IsWhole c.meaning k.graph) where
   abbrev F : Meanings
@@ -342,7 +342,7 @@ module _ (named : List ℕ → Option FnRef) (value : FnRef → List GraphValue 
 
 -- ---- over a graph with its functions
 
-module _ {A : Type 0} (named : List ℕ → Option FnRef) (value : FnRef → List GraphValue → GraphValue) (k : Kept) (old new : Standing A)
+module _ {A : Type 0} (named : List ℕ → Option FnRef) (value : FnRef → List GraphValue → GraphValue) (k : Kept) (old new : GraphView A)
     (c : IsSessions value k old new) (done : IsRefusedFor (functions_over value k.bodies) old new fault.Cycle) (m : Moment)
     (stands : Stands (meanings_of named value) k m) where
   abbrev Means : Meanings
@@ -351,11 +351,11 @@ module _ {A : Type 0} (named : List ℕ → Option FnRef) (value : FnRef → Lis
   abbrev H : Functions
   H = graph_functions Means k.bodies
 
-  abbrev bare : Standing (Unit {0})
+  abbrev bare : GraphView (Unit {0})
   bare = without_functions new
 
   lawful : IsLawfulIn H (left_by k.graph bare) (died_by k.graph bare) (look k.graph) (in_use k.graph.observers) done.met
-  lawful = kept_so named value k old new c m stands (λ (h : Standing (Unit {0})). IsLawfulIn H (left_by h bare) (died_by h bare) (look h)
+  lawful = kept_so named value k old new c m stands (λ (h : GraphView (Unit {0})). IsLawfulIn H (left_by h bare) (died_by h bare) (look h)
       (in_use h.observers) done.met) (functions_so named value k old new c m stands
       (λ (N : Functions). IsLawfulIn N (left_by old new) (died_by old new) (look old) (in_use old.observers) done.met) done.lawful)
 

@@ -5,7 +5,7 @@ use Rattle.inc_value.specs.declared.node.ObsId.{ObsId}
 use Rattle.inc_value.specs.declared.value.Value.{Value as GraphValue}
 use Rattle.inc_terms.specs.Term.{Functions}
 use Rattle.graph.specs.Sound.{IsWhole}
-use Rattle.graph.specs.Standing.{Standing, node_at}
+use Rattle.graph.specs.Standing.{GraphView, node_at}
 use Rattle.graph.specs.Stabilizes.{IsRefusedFor, HasCalledMet}
 use Rattle.graph.specs.declared.fault.Kept.{Kept as Cause}
 use Rattle.graph.specs.declared.observer.Observer.{Observer as Looking}
@@ -23,12 +23,12 @@ use Rattle.script_graph.proofs.Refusing.{IsSessions, kept_so, functions_so, mome
 -- ---- broken
 
 -- observers stay
-pub record KeepsObservers {A B : Type 0} (old : Standing A) (new : Standing B) : Type 0 where
+pub record KeepsObservers {A B : Type 0} (old : GraphView A) (new : GraphView B) : Type 0 where
   pub observers : new.observers ≡ old.observers
   pub rooted : new.rooted ≡ old.rooted
 
 -- the observers of a session that broke are there still
-watches_broken : (s : State) (k : Kept) (g : Standing (Unit {0})) (number : ℕ) → KeepsObservers k.graph g → Watches s k
+watches_broken : (s : State) (k : Kept) (g : GraphView (Unit {0})) (number : ℕ) → KeepsObservers k.graph g → Watches s k
     → Watches s (record k { broken = Some number; graph = g })
 watches_broken s k g number keeps w = record {
   made = w.made;
@@ -51,7 +51,7 @@ watches_broken s k g number keeps w = record {
     }
 
 -- what is kept of a script that broke matches the broken moment, where observers stayed
-pub broken_matches : (F : Meanings) (m : Moment) (k : Kept) (g : Standing (Unit {0})) (number : ℕ) → KeepsObservers k.graph g → MatchesMoment F k m
+pub broken_matches : (F : Meanings) (m : Moment) (k : Kept) (g : GraphView (Unit {0})) (number : ℕ) → KeepsObservers k.graph g → MatchesMoment F k m
     → MatchesMoment F (record k { broken = Some number; graph = g }) (record m { broken = Some number })
 broken_matches F m k g number keeps matches = record {
   names = matches.names;
@@ -65,13 +65,13 @@ broken_matches F m k g number keeps matches = record {
 -- ---- over a graph with its functions
 
 -- what is whole stays so without functions
-pub kept_whole : {A : Type 0} (named : List ℕ → Option FnRef) (value : FnRef → List GraphValue → GraphValue) (k : Kept) (old new : Standing A)
+pub kept_whole : {A : Type 0} (named : List ℕ → Option FnRef) (value : FnRef → List GraphValue → GraphValue) (k : Kept) (old new : GraphView A)
     (c : IsSessions value k old new) (m : Moment) (stands : Stands (meanings_of named value) k m) → old.refused ≡ None
     → IsWhole (stabilize_of named value k old new c m stands).meaning k.graph
 kept_whole named value k old new c m stands was =
-    (stabilize_of named value k old new c m stands).sound.whole (ap (λ (h : Standing (Unit {0})). h.refused) c.same ∙ was)
+    (stabilize_of named value k old new c m stands).sound.whole (ap (λ (h : GraphView (Unit {0})). h.refused) c.same ∙ was)
 
-module _ {A : Type 0} (named : List ℕ → Option FnRef) (value : FnRef → List GraphValue → GraphValue) (k : Kept) (old new : Standing A)
+module _ {A : Type 0} (named : List ℕ → Option FnRef) (value : FnRef → List GraphValue → GraphValue) (k : Kept) (old new : GraphView A)
     (c : IsSessions value k old new) (m : Moment) (stands : Stands (meanings_of named value) k m) where
   abbrev F : Meanings
   F = meanings_of named value
@@ -82,7 +82,7 @@ module _ {A : Type 0} (named : List ℕ → Option FnRef) (value : FnRef → Lis
   session_calls called calls was few =
       few_calls named value m k (without_functions new) stands (moment_unbroken named value k old new c m stands)
       (stabilize_of named value k old new c m stands) (kept_whole named value k old new c m stands was) called calls
-      (kept_so named value k old new c m stands (λ (h : Standing (Unit {0})). HasCalledMet (graph_functions F k.bodies) h (without_functions new) called calls)
+      (kept_so named value k old new c m stands (λ (h : GraphView (Unit {0})). HasCalledMet (graph_functions F k.bodies) h (without_functions new) called calls)
       (functions_so named value k old new c m stands (λ (M : Functions). HasCalledMet M old new called calls) few))
 
   -- and it leaves the broken moment
@@ -90,7 +90,7 @@ module _ {A : Type 0} (named : List ℕ → Option FnRef) (value : FnRef → Lis
       → MatchesMoment F (record k { broken = Some number; graph = without_functions new }) (record m { broken = Some number })
   session_broken number cause done =
       broken_matches F m k (without_functions new) number
-      (kept_so named value k old new c m stands (λ (h : Standing (Unit {0})). KeepsObservers h (without_functions new))
+      (kept_so named value k old new c m stands (λ (h : GraphView (Unit {0})). KeepsObservers h (without_functions new))
       (record { observers = done.observers; rooted = done.rooted })) stands.matches
 
   -- a stabilize of a session's graph that was cut short is one of its script

@@ -13,7 +13,7 @@ use Rattle.formula_elab.specs.declared.opened.Open.{Open}
 use Rattle.formula_elab.specs.declared.plan.Planned.{Planned}
 use Rattle.formula_elab.proofs.Weights.{one_node_each}
 use Rattle.graph.specs.Effects.{Sets, TakesBack}
-use Rattle.graph.specs.Standing.{Standing, graph}
+use Rattle.graph.specs.Standing.{GraphView, graph}
 use Rattle.inc_value.specs.declared.function.FnKind.{FnKind}
 use Rattle.inc_value.specs.declared.function.FnRef.{FnRef}
 use Rattle.inc_value.specs.Ty.{type_of_base}
@@ -41,7 +41,7 @@ use Rattle.script_graph.specs.Growing.{AllPlannedFit, AreServed, Extends, IsMaki
 use Rattle.script_graph.specs.Kept as kept
 use Rattle.script_graph.specs.Kept.{Kept, arena_of, node_in, without_functions}
 use Rattle.script_graph.specs.Represents.{AreNames, beside, graph_functions}
-use Rattle.script_graph.specs.Sound.{AreFew, HasLiveNode, HasTarget, HaveNodes, IsLiveBind, IsSound}
+use Rattle.script_graph.specs.Sound.{AreFew, HasLiveNode, HasTarget, HaveNodes, IsLiveBind, IsSoundSession}
 use Rattle.script_graph.specs.State.{MatchesMoment}
 use Rattle.script_graph.proofs.Bodies.{AreKnown, IsKnownSide, terms_stay}
 use Rattle.script_graph.proofs.Declaring.{declaring_stands, with_declared}
@@ -64,7 +64,7 @@ same_default nodes n low =
     let e : Some (node_at nodes n) ≡ Some (node_in nodes n) = sym (slice_get-get_or nodes n _ low) ∙ slice_get-get_or nodes n _ low in cc
 
 -- what a name that fits stands for has its node, which was given, and is of the name's type or dead
-pub names_there : (a : Arena) → arena.IsSound a → (names : Names) (nodes : List NodeId) → length nodes ≡ length names.declared
+pub names_there : (a : Arena) → arena.IsSoundArena a → (names : Names) (nodes : List NodeId) → length nodes ≡ length names.declared
     → HaveNodes a names.declared nodes → (position : ℕ) (t : Ty) → NameFits names position t
     → Given a.given (node_at nodes position) × Fits a (node_at nodes position) t
 names_there a sound names nodes one_each has position t fits =
@@ -145,14 +145,14 @@ new_target known a names nodes has made name body ty fits same new =
     record { target = _; is_target = get_append_last names.declared _; itself = refl; typed = refl; node = refl }
 
 -- the nodes of declarations were given
-pub nodes_given : (k : Kept) → IsSound k → arena.IsSound (arena_of k) → (s : State) → AreNames k.names s → NodesGiven s k
+pub nodes_given : (k : Kept) → IsSoundSession k → arena.IsSoundArena (arena_of k) → (s : State) → AreNames k.names s → NodesGiven s k
 nodes_given k h sound s names n b is =
     let e = body_entry s n b is in
     let declared : slice_get k.names.declared n ≡ Some (declared_of e.0) =
     ap (λ (ds : List Declared). slice_get ds n) names.declared ∙ (slice_get-map declared_of s.entries n ∙ ap (option_map declared_of) e.1) in
     node_given (arena_of k) sound k.names.declared k.nodes h.has_nodes n (declared_of e.0) declared
 
-module _ {F : Type 0} (first now : Standing F) (names : Names) (nodes : List NodeId) (observers : List ObsId) (room accepted : ℕ) (broken : Option ℕ)
+module _ {F : Type 0} (first now : GraphView F) (names : Names) (nodes : List NodeId) (observers : List ObsId) (room accepted : ℕ) (broken : Option ℕ)
     (bodies bodies' : List Bodies.Body) where
   abbrev before : Kept
   before = record {
@@ -170,7 +170,7 @@ module _ {F : Type 0} (first now : Standing F) (names : Names) (nodes : List Nod
   abbrev returned : Kept
   returned = record before { bodies = bodies'; graph = without_functions now }
 
-  module _ (h : IsSound before) (sound : arena.IsSound first.nodes) (sound' : arena.IsSound now.nodes) (maps : FnRef → Bool) (are : AreKnown maps bodies first)
+  module _ (h : IsSoundSession before) (sound : arena.IsSoundArena first.nodes) (sound' : arena.IsSoundArena now.nodes) (maps : FnRef → Bool) (are : AreKnown maps bodies first)
       (most : ℕ) (keeps : KeepsBodies bodies bodies' most) where
     abbrev Q : FnKind → FnRef → Type 0
     Q = IsKnownSide (is_known maps (makers bodies))
@@ -179,7 +179,7 @@ module _ {F : Type 0} (first now : Standing F) (names : Names) (nodes : List Nod
     serve M x functions is =
         subst (λ (bs : List Bodies.Body). TermsStay x (graph_functions M bs) Q) (sym keeps.behind) (terms_stay maps bodies keeps.more first are M x functions is)
 
-    pub returned_sound : Extends first now → WereLive first.nodes now.nodes → IsSound returned
+    pub returned_sound : Extends first now → WereLive first.nodes now.nodes → IsSoundSession returned
     returned_sound more were =
         sound_on before h sound (without_functions now) (extends_without first now more) bodies'
         (subst (λ (bs : List Bodies.Body). AreFew bs now.nodes room) (sym keeps.behind) (few_back maps bodies keeps.more first are now.nodes room were more.given h.few))
@@ -280,14 +280,14 @@ module _ {F : Type 0} (first now : Standing F) (names : Names) (nodes : List Nod
                   let w = subst (λ (b : Body). IsOfKind maps names H first now (node_at nodes) (type_at names) made b z) b.3 of_kind in
                   (row, _, _, _, ap (row_at now.nodes) node_new ∙ is, def ∙ ap (filled made) w.3)
 
-          pub declared_sound : IsSound after
+          pub declared_sound : IsSoundSession after
           declared_sound =
               sound_declared before h sound (without_functions now) more name ty body root less bodies' (λ grab. absurd (no_grab maps names body ty fits.body_fits grab))
               (new_target maps first.nodes names nodes h.has_nodes made name body ty fits.body_fits node_same node_new) (λ itself other. live_new itself) few
 
   -- ---- after an assignment
 
-  module _ (h : IsSound before) (sound : arena.IsSound first.nodes) (sound' : arena.IsSound now.nodes) (target : ℕ) (w : GraphValue)
+  module _ (h : IsSoundSession before) (sound : arena.IsSoundArena first.nodes) (sound' : arena.IsSoundArena now.nodes) (target : ℕ) (w : GraphValue)
       (sets : Sets first now (node_in nodes target) w) where
     -- what is kept with the variable set
     abbrev set_kept : Kept
@@ -300,7 +300,7 @@ module _ {F : Type 0} (first now : Standing F) (names : Names) (nodes : List Nod
       set = sets.set;
     }
 
-    pub set_sound : IsVariable first.nodes (node_in nodes target) → IsSound set_kept
+    pub set_sound : IsVariable first.nodes (node_in nodes target) → IsSoundSession set_kept
     set_sound variable = sound_set before h sound (without_functions now) (node_in nodes target) w sets_without variable
 
     pub set_stands : (v : Value) → AssignmentFits names target v → (named : List ℕ → Option FnRef) (value : FnRef → List GraphValue → GraphValue)
@@ -312,7 +312,7 @@ module _ {F : Type 0} (first now : Standing F) (names : Names) (nodes : List Nod
 
 -- ---- nodes that were taken back
 
-module _ {F : Type 0} (first full now : Standing F) (count : ℕ) (more : Extends first full) (back : TakesBack full now count)
+module _ {F : Type 0} (first full now : GraphView F) (count : ℕ) (more : Extends first full) (back : TakesBack full now count)
     (since : count ≡ first.nodes.given) where
   pub back_extends : Extends first now
   back_extends = taken_back_extends first full now count more back (omega (arith, since))
@@ -345,7 +345,7 @@ kind_known (Some d) is = (d, refl, by_kind d.kind is)
     by_kind VariableKind is = refl
     by_kind k is = absurd (cc)
 
-module _ (a : Arena) (names : Names) (nodes : List NodeId) (sound : arena.IsSound a) (one_each : length nodes ≡ length names.declared)
+module _ (a : Arena) (names : Names) (nodes : List NodeId) (sound : arena.IsSoundArena a) (one_each : length nodes ≡ length names.declared)
     (has : HaveNodes a names.declared nodes) where
   -- what a name that fits stands for was given, and is of its type or dead
   named_fits : (position : ℕ) (ty : Ty) → NameFits names position ty → Given a.given (node_in nodes position) × Fits a (node_in nodes position) ty

@@ -13,7 +13,7 @@ use Rattle.inc_value.specs.declared.function.FnRef.{FnRef}
 use Rattle.inc_value.specs.declared.node.NodeId.{NodeId}
 use Rattle.inc_value.specs.declared.ty.Ty.{Ty}
 use Rattle.inc_value.specs.declared.value.Value.{Value as GraphValue}
-use Rattle.graph.specs.Standing.{Standing, graph}
+use Rattle.graph.specs.Standing.{GraphView, graph}
 use Rattle.link_table.proofs.Lists.{get_append_last, get_append_other}
 use Rattle.inc_terms.specs.Graph.{Graph}
 use Rattle.inc_terms.specs.Rebuilding.{outcome_of}
@@ -189,7 +189,7 @@ no_live_grab known names body ty fits b w e = absurd fits
 -- ---- what is kept
 
 -- what is kept with one declaration more
-abbrev pub with_declared : Kept → List ℕ → Ty → Body → NodeId → ℕ → List Bodies.Body → Standing (Unit {0}) → Kept
+abbrev pub with_declared : Kept → List ℕ → Ty → Body → NodeId → ℕ → List Bodies.Body → GraphView (Unit {0}) → Kept
 with_declared k name ty body root room bodies g = record k {
   names = record k.names {
     declared = k.names.declared
@@ -219,8 +219,8 @@ pub record IsNew (s : State) (name : List ℕ) (ty : Ty) (body : Body) (nodes : 
   pub grab : (b : ℕ) (v : Value) (left : Formula) (t : ℕ) (kept : KeptOf) → body ≡ Grab b v true → body_at s b ≡ Some (Computed (Bind left (Name t)) kept) → ⊥
   pub owned : OwnNodesOf G (IsSince count root) (IsPartSince count root) root body
 
-module _ (F : Meanings) (k : Kept) (g : Standing (Unit {0})) (bodies : List Bodies.Body) (Q : FnKind → FnRef → Type 0) (serve : BodiesServe F k bodies Q)
-    (sound : arena.IsSound (arena_of k)) (sound' : arena.IsSound g.nodes) (more : Extends k.graph g) (m : Moment) (given : NodesGiven m.present k)
+module _ (F : Meanings) (k : Kept) (g : GraphView (Unit {0})) (bodies : List Bodies.Body) (Q : FnKind → FnRef → Type 0) (serve : BodiesServe F k bodies Q)
+    (sound : arena.IsSoundArena (arena_of k)) (sound' : arena.IsSoundArena g.nodes) (more : Extends k.graph g) (m : Moment) (given : NodesGiven m.present k)
     (name : List ℕ) (ty : Ty) (body : Body) (root : NodeId) (room : ℕ) (room_is : room + places_of_body body ≡ k.room)
     (is_new : AreNames k.names m.present → Represents F m.present k → IsNew m.present name ty body k.nodes (arena_of k).given root (graph g)) where
   abbrev s : State
@@ -448,9 +448,9 @@ module _ (F : Meanings) (k : Kept) (g : Standing (Unit {0})) (bodies : List Bodi
 
 -- ---- a declaration that fits
 
-module _ (named : List ℕ → Option FnRef) (value : FnRef → List GraphValue → GraphValue) (known : FnRef → Bool) (k : Kept) (g : Standing (Unit {0}))
+module _ (named : List ℕ → Option FnRef) (value : FnRef → List GraphValue → GraphValue) (known : FnRef → Bool) (k : Kept) (g : GraphView (Unit {0}))
     (bodies : List Bodies.Body) (Q : FnKind → FnRef → Type 0) (serve : BodiesServe (meanings_of named value) k bodies Q)
-    (sound : arena.IsSound (arena_of k)) (sound' : arena.IsSound g.nodes) (more : Extends k.graph g) (m : Moment) (given : NodesGiven m.present k)
+    (sound : arena.IsSoundArena (arena_of k)) (sound' : arena.IsSoundArena g.nodes) (more : Extends k.graph g) (m : Moment) (given : NodesGiven m.present k)
     (name : List ℕ) (ty : Ty) (body : Body) (root : NodeId) (room : ℕ) (fits : DeclarationFits known k.names name ty body)
     (room_is : room + places_of_body body ≡ k.room)
     (owned : OwnNodesOf (graph g) (IsSince (arena_of k).given root) (IsPartSince (arena_of k).given root) root body)

@@ -3,7 +3,7 @@ use Rattle.std.proofs.Common.{◌≡◌, ◌⊎◌, inl, inr, ℕ, zero, suc, �
 use Rattle.std.proofs.lemmas.Slice.Eq.{bytes_eq-Decides}
 use Rattle.std.specs.Str.{bytes_eq}
 use Rattle.graph.specs.Effects.{Ends}
-use Rattle.graph.specs.Standing.{Standing, graph, node_at, looked_at}
+use Rattle.graph.specs.Standing.{GraphView, graph, node_at, looked_at}
 use Rattle.inc_value.specs.Choice.{Among, NoRepeats}
 use Rattle.inc_value.specs.declared.node.NodeId.{NodeId}
 use Rattle.inc_value.specs.declared.node.ObsId.{ObsId}
@@ -15,7 +15,7 @@ use Rattle.script_model.specs.Step.{Moment, moved}
 use Rattle.script_graph.specs.Kept.{Kept, node_in}
 use Rattle.script_graph.specs.Represents.{rooted_at, there_in, IsShown, Watches}
 use Rattle.script_graph.specs.Settled.{ScopesBuilt, StillDeclares}
-use Rattle.script_graph.specs.Sound.{AreFew, HaveNodes, IsSound}
+use Rattle.script_graph.specs.Sound.{AreFew, HaveNodes, IsSoundSession}
 use Rattle.script_graph.specs.State.{MatchesMoment}
 use Rattle.script_graph.proofs.Carrying.{LeavesBeside, settled_on}
 use Rattle.script_graph.proofs.Held.{rooted_looks, rooted_still, was_still}
@@ -262,14 +262,14 @@ same_truth false false to from = refl
 -- ---- ending one
 
 -- what is kept without an observer: the last name and id stand in its place
-abbrev pub without_observer : Kept → ℕ → List ℕ → ObsId → Standing (Unit {0}) → Kept
+abbrev pub without_observer : Kept → ℕ → List ℕ → ObsId → GraphView (Unit {0}) → Kept
 without_observer k i name o g = record k {
   names = record k.names { observers = swap_remove k.names.observers i name };
   observers = swap_remove k.observers i o;
   graph = g;
 }
 
-module _ (k : Kept) (name d : List ℕ) (i : ℕ) (o : ObsId) (g : Standing (Unit {0})) (sound : IsSound k)
+module _ (k : Kept) (name d : List ℕ) (i : ℕ) (o : ObsId) (g : GraphView (Unit {0})) (sound : IsSoundSession k)
     (at_id : slice_get k.observers i ≡ Some o) (at_name : slice_get k.names.observers i ≡ Some name) (ends : Ends k.graph g o) where
   abbrev new : Kept
   new = without_observer k i d o g
@@ -305,7 +305,7 @@ module _ (k : Kept) (name d : List ℕ) (i : ℕ) (o : ObsId) (g : Standing (Uni
       (sound.looking p (among_at k.observers (source last i at.0) p old.1))
 
   -- what is kept fits together still
-  pub ending_sound : IsSound new
+  pub ending_sound : IsSoundSession new
   ending_sound = record {
     one_node_each = sound.one_node_each;
     has_nodes = subst (λ (a : Arena). HaveNodes a k.names.declared k.nodes) (sym ends.nodes) sound.has_nodes;

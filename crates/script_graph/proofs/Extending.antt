@@ -15,7 +15,7 @@ use Rattle.inc_terms.specs.Term as term
 use Rattle.inc_terms.specs.Term.{Functions}
 use Rattle.inc_terms.specs.Within.{Given}
 use Rattle.graph.specs.Effects.{KeepsTop, KeepsNodes, KeepsBeside, KeepsBesideGiven, KeepsAll, Adds, TakesBack, NoneScopedSince}
-use Rattle.graph.specs.Standing.{Standing, graph}
+use Rattle.graph.specs.Standing.{GraphView, graph}
 use Rattle.node_arena.specs.Arena.{Arena, row_at}
 use Rattle.node_arena.specs.Sound as arena
 use Rattle.script_functions.specs.Bodies as Bodies
@@ -45,13 +45,13 @@ use Rattle.transfer.proofs.Typed.{bind_body, body_entry}
 
 module _ {F : Type 0} where
   -- what stays beside nodes stays but for the functions
-  pub top_without : (a b : Standing F) → KeepsTop a b → KeepsTop (without_functions a) (without_functions b)
+  pub top_without : (a b : GraphView F) → KeepsTop a b → KeepsTop (without_functions a) (without_functions b)
   top_without a b h = record { functions = refl; rooted = h.rooted; refused = h.refused; ran = h.ran }
 
-  pub nodes_without : (Of : NodeId → Type 0) (a b : Standing F) → KeepsNodes Of a b → KeepsNodes Of (without_functions a) (without_functions b)
+  pub nodes_without : (Of : NodeId → Type 0) (a b : GraphView F) → KeepsNodes Of a b → KeepsNodes Of (without_functions a) (without_functions b)
   nodes_without Of a b h = record { shown = h.shown; chosen = h.chosen; built = h.built; last = h.last }
 
-  pub beside_without : (Of : NodeId → Type 0) (a b : Standing F) → KeepsBeside Of a b → KeepsBeside Of (without_functions a) (without_functions b)
+  pub beside_without : (Of : NodeId → Type 0) (a b : GraphView F) → KeepsBeside Of a b → KeepsBeside Of (without_functions a) (without_functions b)
   beside_without Of a b h = record {
     top = top_without a b h.top;
     observers = h.observers;
@@ -62,7 +62,7 @@ module _ {F : Type 0} where
   }
 
   -- so over one call after another, of the nodes of which both keep it
-  pub beside_on : (Of Later : NodeId → Type 0) (a b c : Standing F) → ((n : NodeId) → Of n → Later n) → KeepsBeside Of a b → KeepsBeside Later b c
+  pub beside_on : (Of Later : NodeId → Type 0) (a b c : GraphView F) → ((n : NodeId) → Of n → Later n) → KeepsBeside Of a b → KeepsBeside Later b c
       → KeepsBeside Of a c
   beside_on Of Later a b c later g h = record {
     top = record {
@@ -84,7 +84,7 @@ module _ {F : Type 0} where
   }
 
 module _ {F : Type 0} where
-  pub extends_itself : (s : Standing F) → Extends s s
+  pub extends_itself : (s : GraphView F) → Extends s s
   extends_itself s = record {
     beside = record {
       top = record { functions = refl; rooted = refl; refused = refl; ran = refl };
@@ -99,7 +99,7 @@ module _ {F : Type 0} where
     outside = λ n r is. inl is;
   }
 
-  pub extends_on : (a b c : Standing F) → Extends a b → Extends b c → Extends a c
+  pub extends_on : (a b c : GraphView F) → Extends a b → Extends b c → Extends a c
   extends_on a b c g h = record {
     beside = beside_on (Given a.nodes.given) (Given b.nodes.given) (without_functions a) (without_functions b) (without_functions c)
         (λ n low. omega (arith, low, g.given)) g.beside h.beside;
@@ -108,7 +108,7 @@ module _ {F : Type 0} where
     outside = λ n r is. elim (h.outside n r is) [ inl was ↦ g.outside n r was | inr out ↦ inr out ];
   }
 
-  pub adds_extends : (a b : Standing F) (id : NodeId) (r : Row) → Adds a b id r → r.scope ≡ None → Extends a b
+  pub adds_extends : (a b : GraphView F) (id : NodeId) (r : Row) → Adds a b id r → r.scope ≡ None → Extends a b
   adds_extends a b id r h out = record {
     beside = beside_without (Given a.nodes.given) a b h.beside;
     given = omega (arith, h.given);
@@ -121,7 +121,7 @@ module _ {F : Type 0} where
     ];
   }
 
-  pub keeps_extends : (a b : Standing F) → KeepsAll a b → Extends a b
+  pub keeps_extends : (a b : GraphView F) → KeepsAll a b → Extends a b
   keeps_extends a b h = record {
     beside = beside_without (Given a.nodes.given) a b h.beside;
     given = let same = ap (λ (a : Arena). a.given) h.nodes in omega (arith, same);
@@ -130,7 +130,7 @@ module _ {F : Type 0} where
   }
 
   -- nodes that were added and taken back again
-  pub taken_back_extends : (a b c : Standing F) (count : ℕ) → Extends a b → TakesBack b c count → a.nodes.given ≤ count → Extends a c
+  pub taken_back_extends : (a b c : GraphView F) (count : ℕ) → Extends a b → TakesBack b c count → a.nodes.given ≤ count → Extends a c
   taken_back_extends a b c count g h later = record {
     beside = beside_on (Given a.nodes.given) (λ n. n.gen_ < count) (without_functions a) (without_functions b) (without_functions c)
         (λ n low. omega (arith, low, later)) g.beside (beside_without (λ n. n.gen_ < count) b c h.beside);
@@ -146,7 +146,7 @@ module _ {F : Type 0} where
       below_or i j = grind arith
 
   -- nodes that were there stay but for the functions
-  pub extends_without : (a b : Standing F) → Extends a b → Extends (without_functions a) (without_functions b)
+  pub extends_without : (a b : GraphView F) → Extends a b → Extends (without_functions a) (without_functions b)
   extends_without a b h = record {
     beside = h.beside;
     given = h.given;
@@ -155,25 +155,25 @@ module _ {F : Type 0} where
   }
 
   -- still none that was given since a count stands in a scope
-  pub unscoped_on : (a b : Standing F) (count : ℕ) → Extends a b → NoneScopedSince a.nodes count → NoneScopedSince b.nodes count
+  pub unscoped_on : (a b : GraphView F) (count : ℕ) → Extends a b → NoneScopedSince a.nodes count → NoneScopedSince b.nodes count
   unscoped_on a b count h none n r is since = elim (h.outside n r is) [ inl was ↦ none n r was since | inr out ↦ out ]
 
   -- live nodes stay
-  pub live_stays : (a b : Standing F) → arena.IsSound a.nodes → Extends a b → (n : NodeId) (r : Row)
+  pub live_stays : (a b : GraphView F) → arena.IsSoundArena a.nodes → Extends a b → (n : NodeId) (r : Row)
       → row_at a.nodes n ≡ Some r → row_at b.nodes n ≡ Some r
   live_stays a b sound h n r is = h.rows n (sound.given n (rw is refl)) ∙ is
 
 -- functions were added
-pub rest_extends : {F : Type 0} (a b : Standing F) → without_functions b ≡ without_functions a → Extends a b
+pub rest_extends : {F : Type 0} (a b : GraphView F) → without_functions b ≡ without_functions a → Extends a b
 rest_extends a b same =
-    let e = subst (λ (s : Standing (Unit {0})). Extends (without_functions a) s) (sym same) (extends_itself (without_functions a)) in
+    let e = subst (λ (s : GraphView (Unit {0})). Extends (without_functions a) s) (sym same) (extends_itself (without_functions a)) in
     record { beside = e.beside; given = e.given; rows = e.rows; outside = e.outside }
 
 same_unit : (x y : Unit {0}) → x ≡ y
 same_unit x y = refl
 
 -- where there are no functions all stays beside
-pub extends_beside : (a b : Standing (Unit {0})) → Extends a b → KeepsBesideGiven a b
+pub extends_beside : (a b : GraphView (Unit {0})) → Extends a b → KeepsBesideGiven a b
 extends_beside a b h = record {
   top = record { functions = same_unit b.functions a.functions; rooted = h.beside.top.rooted; refused = h.beside.top.refused; ran = h.beside.top.ran };
   observers = h.beside.observers;
@@ -237,7 +237,7 @@ body_there s n low = let e = inside s.entries n low in (e.0.body, entry_body s n
     inside (e ∷ es) (suc i) low = inside es i (omega (arith, low))
 
 -- an id that is never given is of no node
-pub never_given : (a : Arena) → arena.IsSound a → row_at a no_node ≡ None
+pub never_given : (a : Arena) → arena.IsSoundArena a → row_at a no_node ≡ None
 never_given a sound = go (row_at a no_node) refl
   where
     go : (o : Option Row) → row_at a no_node ≡ o → row_at a no_node ≡ None
@@ -268,7 +268,7 @@ abbrev pub NodesGiven : State → Kept → Type 0
 NodesGiven s k = NodesAre (Given (arena_of k).given) s k
 
 -- rows that formulas may have stay in a graph; of these nodes those that are dead stay so, and binds are built as they were
-pub record KeepsGraph (Of : NodeId → Type 0) (k : Kept) (g : Standing (Unit {0})) : Type 0 where
+pub record KeepsGraph (Of : NodeId → Type 0) (k : Kept) (g : GraphView (Unit {0})) : Type 0 where
   pub rows : RowsStay (graph k.graph) (graph g)
   pub dead : (n : NodeId) → Of n → row_at (arena_of k) n ≡ None → row_at g.nodes n ≡ None
   pub built : (n : NodeId) → Of n → (graph g).built n ≡ (graph k.graph).built n
@@ -282,7 +282,7 @@ pub same_serve : (F : Meanings) (k : Kept) → BodiesServe F k k.bodies AnyFunct
 same_serve F k x functions is = subst (λ (H : Functions). TermsStay x H AnyFunction) functions (terms_itself x)
 
 module _ (Of : NodeId → Type 0) (F : Meanings) (s : State) (k : Kept) (held : Represents F s k) (given : NodesAre Of s k) (s' : State) (nodes : List NodeId)
-    (bodies : List Bodies.Body) (Q : FnKind → FnRef → Type 0) (serve : BodiesServe F k bodies Q) (g : Standing (Unit {0})) (keeps : KeepsGraph Of k g)
+    (bodies : List Bodies.Body) (Q : FnKind → FnRef → Type 0) (serve : BodiesServe F k bodies Q) (g : GraphView (Unit {0})) (keeps : KeepsGraph Of k g)
     (same : (t : ℕ) → t < length s.entries → node_in nodes t ≡ node_in k.nodes t) where
   abbrev x : Both
   x = beside F s k
@@ -349,7 +349,7 @@ module _ (Of : NodeId → Type 0) (F : Meanings) (s : State) (k : Kept) (held : 
           (outcome_agrees (IsDeclaredTarget s) (node_in k.nodes) (node_in nodes) (λ t d. same t (target_old t d)) o (held.refers n o e))
 
 -- where nodes were added all stays
-module _ (k : Kept) (g : Standing (Unit {0})) (sound : arena.IsSound (arena_of k)) (more : Extends k.graph g) where
+module _ (k : Kept) (g : GraphView (Unit {0})) (sound : arena.IsSoundArena (arena_of k)) (more : Extends k.graph g) where
   pub extends_keeps : KeepsGraph (Given (arena_of k).given) k g
   extends_keeps = record {
     rows = λ n r u is def. live_stays k.graph g sound more n r is;
@@ -375,8 +375,8 @@ module _ (k : Kept) (g : Standing (Unit {0})) (sound : arena.IsSound (arena_of k
 abbrev pub WereLive : Arena → Arena → Type 0
 WereLive old new = (n : NodeId) (r : Row) → row_at new n ≡ Some r → row_at old n ≡ Some r
 
-module _ (F : Meanings) (k : Kept) (g : Standing (Unit {0})) (bodies : List Bodies.Body) (Q : FnKind → FnRef → Type 0) (serve : BodiesServe F k bodies Q)
-    (sound : arena.IsSound (arena_of k)) (sound' : arena.IsSound g.nodes) (more : Extends k.graph g) (m : Moment) (given : NodesGiven m.present k) where
+module _ (F : Meanings) (k : Kept) (g : GraphView (Unit {0})) (bodies : List Bodies.Body) (Q : FnKind → FnRef → Type 0) (serve : BodiesServe F k bodies Q)
+    (sound : arena.IsSoundArena (arena_of k)) (sound' : arena.IsSoundArena g.nodes) (more : Extends k.graph g) (m : Moment) (given : NodesGiven m.present k) where
   abbrev new : Kept
   new = record k { bodies = bodies; graph = g }
 

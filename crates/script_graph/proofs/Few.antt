@@ -12,7 +12,7 @@ use Rattle.formula_elab.specs.declared.opened.Part.{Part}
 use Rattle.formula_elab.specs.declared.plan.Planned.{Planned}
 use Rattle.formula_elab.specs.declared.plan.Planned.TheVariants as planned
 use Rattle.formula_elab.proofs.Order.{order_of}
-use Rattle.graph.specs.Standing.{Standing}
+use Rattle.graph.specs.Standing.{GraphView}
 use Rattle.inc_value.specs.Choice.{Among}
 use Rattle.inc_value.specs.declared.function.FnKind.TheVariants as kind
 use Rattle.inc_value.specs.declared.function.FnRef.{FnRef}
@@ -53,7 +53,7 @@ weight_still maps bodies more (graph_def.Bind l f caps) known =
     ap (λ (r : RightSide). 1 + r.size) (side_still maps bodies more f (known l f caps refl))
 weight_still maps bodies more def known = refl
 
-module _ {F : Type 0} (maps : FnRef → Bool) (bodies more : List Body) (s : Standing F) (are : AreKnown maps bodies s) where
+module _ {F : Type 0} (maps : FnRef → Bool) (bodies more : List Body) (s : GraphView F) (are : AreKnown maps bodies s) where
   row_known : (n : NodeId) (r : Row) → row_at s.nodes n ≡ Some r → (l : NodeId) (f : FnRef) (caps : List NodeId) → r.def ≡ graph_def.Bind l f caps
       → KnownAs (is_known maps (makers bodies)) kind.Rhs f
   row_known n r is l f caps def = (subst (λ (d : Def). DefWithin (λ n. Unit {0}) (Fit s.nodes.given (is_known maps (makers bodies)) are.ids) d) def (are.fit n r is)).0.0
@@ -125,9 +125,9 @@ made_weigh W V (planned.Body o ∷ makes) (was.Fn f ∷ made) kinds less =
     let b = sum_by-cons V (planned.Body o) makes in omega (arith, rest, b)
 made_weigh W V (planned.Body o ∷ makes) (was.Node n ∷ made) kinds less = absurd kinds.0.0
 
-module _ {F : Type 0} (maps : FnRef → Bool) (bodies more : List Body) (H : Functions) (first now : Standing F) (are : AreKnown maps bodies first)
+module _ {F : Type 0} (maps : FnRef → Bool) (bodies more : List Body) (H : Functions) (first now : GraphView F) (are : AreKnown maps bodies first)
     (makes : List Planned) (made : List Made) (h : IsMaking H first now makes made) (known : FnRef → Bool)
-    (served : AreServed known (side_in (makers (bodies ++ more))) makes made) (sound : arena.IsSound now.nodes) where
+    (served : AreServed known (side_in (makers (bodies ++ more))) makes made) (sound : arena.IsSoundArena now.nodes) where
   open_weight : (x : Open) (i : ℕ) → slice_get makes i ≡ Some (planned.Node x) → i < length made
       → ((ty : Ty) (left : Part) (body : ℕ) → x ≡ open_def.Bind ty left body → (o : OpenBody) × (slice_get makes body ≡ Some (planned.Body o)) × (body < length made))
       → weight_of (bodies ++ more) (filled made x) ≤ weight_planned makes (planned.Node x)

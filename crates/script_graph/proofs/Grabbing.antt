@@ -32,7 +32,7 @@ use Rattle.script_graph.specs.Growing.{functions_over}
 use Rattle.script_graph.specs.Kept as kept
 use Rattle.script_graph.specs.Kept.{Kept, arena_of, node_in}
 use Rattle.script_graph.specs.Represents.{AreNames, beside, Represents}
-use Rattle.script_graph.specs.Sound.{IsSound}
+use Rattle.script_graph.specs.Sound.{IsSoundSession}
 use Rattle.script_graph.specs.State.{MatchesMoment, Stands}
 use Rattle.script_graph.specs.Today.{IsDeclaredTarget}
 use Rattle.script_graph.proofs.Beside.{represented_fits, rooted_binds}
@@ -67,7 +67,7 @@ HasOwn k ty root t = (d : Declared) × (slice_get k.names.declared t ≡ Some d)
 
 -- ---- that it fits together
 
-module _ (k : Kept) (h : IsSound k) (sound : arena.IsSound (arena_of k)) (name : List ℕ) (ty : Ty) (root : NodeId) where
+module _ (k : Kept) (h : IsSoundSession k) (sound : arena.IsSoundArena (arena_of k)) (name : List ℕ) (ty : Ty) (root : NodeId) where
   abbrev count : ℕ
   count = length k.names.declared
 
@@ -77,7 +77,7 @@ module _ (k : Kept) (h : IsSound k) (sound : arena.IsSound (arena_of k)) (name :
   node_old : (n : ℕ) → n < count → node_in (k.nodes ++ root ∷ []) n ≡ node_in k.nodes n
   node_old n low = get_or_append_left k.nodes (root ∷ []) kept.no_node n (let each = h.one_node_each in omega (arith, low, each))
 
-  pub alias_sound : (t : ℕ) → HasOwn k ty root t → IsSound (with_grab k (alias_of name ty t) root)
+  pub alias_sound : (t : ℕ) → HasOwn k ty root t → IsSoundSession (with_grab k (alias_of name ty t) root)
   alias_sound t (d, is, itself, node, typed) =
       let low = slice_get_within k.names.declared t d is in
       sound_declared k h sound k.graph (extends_itself k.graph) name ty (alias t) root k.room k.bodies (λ grab. absurd (cc))
@@ -89,7 +89,7 @@ module _ (k : Kept) (h : IsSound k) (sound : arena.IsSound (arena_of k)) (name :
         node = node_old t low ∙ (node ∙ sym node_new);
       }) (λ self other. absurd (let same : t ≡ count = self in omega (arith, low, same))) h.few
 
-  pub grab_sound : Given (arena_of k).given root × FitsType (arena_of k) root ty → IsSound (with_grab k (grab_as count name ty) root)
+  pub grab_sound : Given (arena_of k).given root × FitsType (arena_of k) root ty → IsSoundSession (with_grab k (grab_as count name ty) root)
   grab_sound fits =
       sound_declared k h sound k.graph (extends_itself k.graph) name ty (Grab 0 some_value false) root k.room k.bodies (λ grab. fits)
       (record { target = _; is_target = get_append_last k.names.declared _; itself = refl; typed = refl; node = refl })
@@ -110,7 +110,7 @@ bind_known (Some d) is = (d, refl, by_kind d.kind is)
     by_kind c is = absurd (cc)
 
 -- where the roots of binds are of the types that their functions give, that of a bind that is named is of the name's
-module _ (k : Kept) (h : IsSound k) (sound : arena.IsSound (arena_of k))
+module _ (k : Kept) (h : IsSoundSession k) (sound : arena.IsSoundArena (arena_of k))
     (roots : RootsFit (arena_of k) (graph k.graph))
     (name : List ℕ) (ty : Ty) (b : ℕ) (root : NodeId) (fits : GrabFits k.names name ty b) (is_right : IsRightSide k b root) where
 
@@ -254,7 +254,7 @@ other_grab : (s : State) (b : ℕ) (left below : Formula) → ((t : ℕ) → bel
 other_grab s b left (Name t) no_name = absurd (no_name t refl)
 other_grab s b left below no_name = refl
 
-module _ (named : List ℕ → Option FnRef) (value : FnRef → List GraphValue → GraphValue) (k : Kept) (h : IsSound k) (sound : arena.IsSound (arena_of k))
+module _ (named : List ℕ → Option FnRef) (value : FnRef → List GraphValue → GraphValue) (k : Kept) (h : IsSoundSession k) (sound : arena.IsSoundArena (arena_of k))
     (rooted : Rooted (functions_over value k.bodies) (graph k.graph)) (name : List ℕ) (ty : Ty) (b : ℕ) (root : NodeId)
     (grab_fits : GrabFits k.names name ty b) (is_right : IsRightSide k b root) (m : Moment) (stands : Stands (meanings_of named value) k m)
     (whole : m.broken ≡ None) where

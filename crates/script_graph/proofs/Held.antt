@@ -9,7 +9,7 @@ use Rattle.inc_terms.specs.Need.{Holder, Observing, Freezing, Observed, nodes_of
 use Rattle.inc_terms.proofs.Local.{reach_more}
 use Rattle.inc_terms.proofs.Plan.{among_map}
 use Rattle.stabilizer.specs.Left.{StoodBeside}
-use Rattle.graph.specs.Standing.{look, Standing, in_use, looked_at, node_at, rooted_nodes, IsNeeded, AreRooted, times_linked, times_rooted}
+use Rattle.graph.specs.Standing.{look, GraphView, in_use, looked_at, node_at, rooted_nodes, IsNeeded, AreRooted, times_linked, times_rooted}
 use Rattle.graph.specs.declared.observer.Observer.{Observer as Looking}
 use Rattle.graph.proofs.Needing.{needed_root, needed_linked, needed_has}
 use Rattle.stabilize_round.proofs.Points.{count_among, among_count}
@@ -109,21 +109,21 @@ reaches_less less (step r on) = step (less _ _ r) (reaches_less less on)
 
 module _ {A : Type 0} where
   -- an observer that was there then looks at its node now
-  pub rooted_looks : (g : Standing A) (o : ObsId) (n : NodeId) → rooted_at g o ≡ Some n → (o.0 < g.rooted) × (node_at g.observers o ≡ Some n)
+  pub rooted_looks : (g : GraphView A) (o : ObsId) (n : NodeId) → rooted_at g o ≡ Some n → (o.0 < g.rooted) × (node_at g.observers o ≡ Some n)
   rooted_looks g o n e = taken_looks g.rooted g.observers o.0 n e
 
-  pub looks_rooted : (g : Standing A) (o : ObsId) (n : NodeId) → o.0 < g.rooted → node_at g.observers o ≡ Some n → rooted_at g o ≡ Some n
+  pub looks_rooted : (g : GraphView A) (o : ObsId) (n : NodeId) → o.0 < g.rooted → node_at g.observers o ≡ Some n → rooted_at g o ≡ Some n
   looks_rooted g o n low e = looks_taken g.rooted g.observers o.0 low ∙ e
 
   -- one that looks at a node was there then, if there were more observers
-  pub was_there : (g : Standing A) (o : ObsId) (n : NodeId) → o.0 < g.rooted → node_at g.observers o ≡ Some n → WasThere g o
+  pub was_there : (g : GraphView A) (o : ObsId) (n : NodeId) → o.0 < g.rooted → node_at g.observers o ≡ Some n → WasThere g o
   was_there g o n low e = (n, looks_rooted g o n low e)
 
-  pub wasnt_there : (g : Standing A) (o : ObsId) → g.rooted ≤ o.0 → WasThere g o → ⊥
+  pub wasnt_there : (g : GraphView A) (o : ObsId) → g.rooted ≤ o.0 → WasThere g o → ⊥
   wasnt_there g o high was = let low = (rooted_looks g o was.0 was.1).0 in absurd (omega (arith, low, high))
 
   -- so it is in use
-  root_holds : (g : Standing A) (holder : Holder) (n : NodeId) → root_of g holder ≡ Some n → StillHolds (observed_by g) holder
+  root_holds : (g : GraphView A) (holder : Holder) (n : NodeId) → root_of g holder ≡ Some n → StillHolds (observed_by g) holder
   root_holds g (Observing o) n e =
       let same : 0 + o.0 ≡ o.0 = omega arith in
       subst (λ (i : ℕ). Among (record { 0 = i }) (map (λ (x : Observed). x.observer) (observed_by g))) same
@@ -131,17 +131,17 @@ module _ {A : Type 0} where
   root_holds g (Freezing m) n e = absurd (cc)
 
   -- where no other observers were there then, and the observer looks at what it did, it was there as it was
-  pub rooted_still : (g h : Standing A) (o : ObsId) → h.rooted ≡ g.rooted → node_at h.observers o ≡ node_at g.observers o
+  pub rooted_still : (g h : GraphView A) (o : ObsId) → h.rooted ≡ g.rooted → node_at h.observers o ≡ node_at g.observers o
       → (n : NodeId) → rooted_at g o ≡ Some n → rooted_at h o ≡ Some n
   rooted_still g h o same looks n was =
       let then = rooted_looks g o n was in
       looks_rooted h o n (subst (λ (r : ℕ). o.0 < r) (sym same) then.0) (looks ∙ then.1)
 
-  pub was_still : (g h : Standing A) (o : ObsId) → h.rooted ≡ g.rooted → node_at h.observers o ≡ node_at g.observers o → WasThere g o → WasThere h o
+  pub was_still : (g h : GraphView A) (o : ObsId) → h.rooted ≡ g.rooted → node_at h.observers o ≡ node_at g.observers o → WasThere g o → WasThere h o
   was_still g h o same looks was = (was.0, rooted_still g h o same looks was.0 was.1)
 
   -- what is needed is held beside the graph
-  module _ (g : Standing A) (roots : AreRooted g (rooted_nodes g)) where
+  module _ (g : GraphView A) (roots : AreRooted g (rooted_nodes g)) where
     root_held : (p : Point) → 0 < times_rooted g p → Held (side_of g) (observed_by g) p
     root_held p root =
         let n = main_among p (rooted_nodes g)
@@ -169,7 +169,7 @@ module _ {A : Type 0} where
     stood_beside = record { held = needed_held; last = λ n. refl; never = λ n. refl }
 
   -- of fewer roots and links less is held
-  module _ (g g' : Standing A) (rooted : (o : ObsId) (n : NodeId) → rooted_at g' o ≡ Some n → rooted_at g o ≡ Some n)
+  module _ (g g' : GraphView A) (rooted : (o : ObsId) (n : NodeId) → rooted_at g' o ≡ Some n → rooted_at g o ≡ Some n)
       (fewer : (p q : Point) → times_linked g' p q ≤ times_linked g p q) where
     root_less : (holder : Holder) (n : NodeId) → root_of g' holder ≡ Some n → root_of g holder ≡ Some n
     root_less (Observing o) n e = rooted o n e
@@ -188,7 +188,7 @@ module _ {A : Type 0} where
     }
 
   -- where all observers in use are roots, what is held is needed
-  module _ (g : Standing A) (roots : AreRooted g (in_use g.observers)) where
+  module _ (g : GraphView A) (roots : AreRooted g (in_use g.observers)) where
     root_is_needed : (holder : Holder) (n : NodeId) → root_of g holder ≡ Some n → IsNeeded g (main n)
     root_is_needed (Observing o) n e =
         needed_root g (main n) (subst (λ (c : ℕ). 0 < c) (sym (roots (main n)))

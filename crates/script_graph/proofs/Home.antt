@@ -8,7 +8,7 @@ use Rattle.inc_value.specs.declared.value.Value.{Value as GraphValue}
 use Rattle.inc_terms.specs.Graph.{Graph, Row}
 use Rattle.inc_terms.specs.Rebuild.{Inside as StandsInside, direct, nested}
 use Rattle.inc_terms.specs.Term as term
-use Rattle.graph.specs.Standing.{Standing, IsOwner, graph}
+use Rattle.graph.specs.Standing.{GraphView, IsOwner, graph}
 use Rattle.script_model.specs.Blocked.{IsPrintedFor, own, of_bind}
 use Rattle.script_model.specs.Formula.{State, Body, Formula, body_at, meanings_of, formula_of_body, Name, Bound, Bind, Variable, Computed, Grab}
 use Rattle.script_model.specs.Need.{Edge, Argument, Test, Then, Else, Child, Left, Inside, Item, Named, Place, part_at, part_of, formula_at}
@@ -34,7 +34,7 @@ inside_bind : (g f : Formula) (v : Value) → part_at g (Inside v) ≡ Some f �
 inside_bind (Bind left body) f v e = (left, body, refl)
 inside_bind g f v e = absurd (cc)
 
-module _ (named : List ℕ → Option FnRef) (value : FnRef → List GraphValue → GraphValue) (s : State) (k : Kept) (g : Standing (Unit {0}))
+module _ (named : List ℕ → Option FnRef) (value : FnRef → List GraphValue → GraphValue) (s : State) (k : Kept) (g : GraphView (Unit {0}))
     (c : IsStabilize (meanings_of named value) s k g) where
   abbrev y : Both
   y = middle (meanings_of named value) s k g

@@ -11,7 +11,7 @@ use Rattle.inc_terms.specs.Same.{same_outcome}
 use Rattle.inc_terms.specs.Term.{Functions}
 use Rattle.inc_terms.specs.Within.{Given}
 use Rattle.inc_terms.proofs.Same.{outcome_decides}
-use Rattle.graph.specs.Standing.{Standing, graph, look, in_use}
+use Rattle.graph.specs.Standing.{GraphView, graph, look, in_use}
 use Rattle.graph.specs.Stabilizes.{LeavesNodes, left_by, died_by}
 use Rattle.stabilizer.specs.Left.{IsBuiltOther, BuildsRightIn}
 use Rattle.node_arena.specs.Arena.{row_at}
@@ -39,7 +39,7 @@ unbuilt_other None b' none some same = cc
 unbuilt_other (Some w) None none some same = cc
 unbuilt_other (Some w) (Some w') none some same = cc
 
-module _ {A : Type 0} (M : Functions) (old new : Standing A) (before after : Counts)
+module _ {A : Type 0} (M : Functions) (old new : GraphView A) (before after : Counts)
     (given : (n : NodeId) (r : Row) → row_at old.nodes n ≡ Some r → Given old.nodes.given n) (scoped : Scoped (graph old)) (built : ScopesBuilt (graph old))
     (stays : GraphStays old.nodes.given new.nodes.given (graph old) (left_by old new)) (left : LeavesNodes M old new before after) where
   abbrev G : Graph

@@ -24,7 +24,7 @@ use Rattle.formula_elab.specs.declared.plan.Planned.TheVariants as planned
 use Rattle.formula_elab.proofs.Order.{order_of}
 use Rattle.formula_elab.proofs.Standing.{none_stands, one_more_stands}
 use Rattle.graph.specs.Effects.{top, Adds}
-use Rattle.graph.specs.Standing.{Standing, graph}
+use Rattle.graph.specs.Standing.{GraphView, graph}
 use Rattle.inc_value.specs.Choice.{Among, Every}
 use Rattle.stabilize_round.proofs.Points.{node_or_other}
 use Rattle.inc_terms.proofs.Plan.{among_left, among_right}
@@ -97,7 +97,7 @@ refers_given a (value.Node n b) fits = fits.0
 
 -- ---- given nodes that fit
 
-module _ {F : Type 0} (first now : Standing F) (more : Extends first now) where
+module _ {F : Type 0} (first now : GraphView F) (more : Extends first now) where
   -- a given node that fits a type does so still
   pub fits_still : (n : NodeId) (t : Ty) → Given first.nodes.given n → Fits first.nodes n t → Fits now.nodes n t
   fits_still n t given fits = subst (λ (o : Option Row). IfSome o (λ (q : Row). q.ty ≡ t)) (sym (more.rows n given)) fits
@@ -132,8 +132,8 @@ among_or u (x ∷ xs) ys (inr among) = elim (among_or u xs ys among) [ inl first
 
 -- ---- nodes
 
-module _ {F : Type 0} (H : Functions) (first now : Standing F) (makes : List Planned) (made : List Made) (h : IsMaking H first now makes made)
-    (sound : arena.IsSound now.nodes) where
+module _ {F : Type 0} (H : Functions) (first now : GraphView F) (makes : List Planned) (made : List Made) (h : IsMaking H first now makes made)
+    (sound : arena.IsSoundArena now.nodes) where
   abbrev Done : List Planned
   Done = take (length made) makes
 
@@ -324,7 +324,7 @@ same_body o p e = cc
 
 module _ {F : Type 0} where
   -- nothing was made yet
-  pub none_made : (H : Functions) (s : Standing F) (makes : List Planned) → AreInOrder [] makes → IsMaking H s s makes []
+  pub none_made : (H : Functions) (s : GraphView F) (makes : List Planned) → AreInOrder [] makes → IsMaking H s s makes []
   none_made H s makes order = record {
     extends = extends_itself s;
     stands = none_stands H (graph s) makes order;
@@ -337,8 +337,8 @@ module _ {F : Type 0} where
     few = omega arith;
   }
 
-  module _ (H H' : Functions) (first now new : Standing F) (makes : List Planned) (made : List Made) (h : IsMaking H first now makes made)
-      (sound : arena.IsSound now.nodes) (terms : elab.TermsStay H H' made) where
+  module _ (H H' : Functions) (first now new : GraphView F) (makes : List Planned) (made : List Made) (h : IsMaking H first now makes made)
+      (sound : arena.IsSoundArena now.nodes) (terms : elab.TermsStay H H' made) where
     -- a node was made
     module _ (y : Open) (next : slice_get makes (length made) ≡ Some (planned.Node y)) (id : NodeId) (adds : Adds now new id (top (filled made y) (open_ty y))) where
       abbrev last_one : Made
@@ -420,7 +420,7 @@ module _ {F : Type 0} where
     module _ (o : OpenBody) (next : slice_get makes (length made) ≡ Some (planned.Body o)) (b : Bodies.Body) (filled_b : IsFilled made o b) (one : Made)
         (kept : IsBodyKept H' now new b one) where
       nodes_same : new.nodes ≡ now.nodes
-      nodes_same = ap (λ (s : Standing (Unit {0})). s.nodes) kept.rest
+      nodes_same = ap (λ (s : GraphView (Unit {0})). s.nodes) kept.rest
 
       -- a node that was made is no function
       before_last : (i : ℕ) (x : Open) → slice_get makes i ≡ Some (planned.Node x) → i < length (made ++ one ∷ []) → i < length made
@@ -451,7 +451,7 @@ module _ {F : Type 0} where
                 (r.0, ap (row_at new.nodes) (same_node i low) ∙ (ap (λ (a : Arena). row_at a (made_node made i)) nodes_same ∙ r.1), r.2);
             unbuilt = λ i x at less. let low = before_last i x at less in
                 ap (λ (n : NodeId). (graph new).built n) (same_node i low)
-                ∙ (ap (λ (s : Standing (Unit {0})). (graph s).built (made_node made i)) kept.rest ∙ h.unbuilt i x at low);
+                ∙ (ap (λ (s : GraphView (Unit {0})). (graph s).built (made_node made i)) kept.rest ∙ h.unbuilt i x at low);
             ids = λ i j x z at_i at_j less low.
                 let low_j = before_last j z at_j low in
                 let low_i : i < length made = omega (arith, less, low_j) in

@@ -15,9 +15,9 @@ use Rattle.inc_terms.specs.Term as term
 use Rattle.inc_terms.specs.Term.{Functions}
 use Rattle.inc_terms.specs.Within.{Given}
 use Rattle.stabilizer.specs.Left.{IsBuiltOther}
-use Rattle.graph.specs.Sound.{IsSound}
+use Rattle.graph.specs.Sound.{IsSoundGraph}
 use Rattle.graph.specs.Stabilizes.{LeavesNodes, left_by, died_by}
-use Rattle.graph.specs.Standing.{Standing, graph}
+use Rattle.graph.specs.Standing.{GraphView, graph}
 use Rattle.node_arena.specs.Arena.{row_at}
 use Rattle.node_outcomes.specs.Meaning.{Meaning}
 use Rattle.stabilize_round.specs.Laws.{GraphStays}
@@ -51,7 +51,7 @@ abbrev pub DeadGrabsGiven : State → Kept → Type 0
 DeadGrabsGiven s k = (n b : ℕ) (v : Value) → body_at s n ≡ Some (Grab b v false) → Given (arena_of k).given (node_in k.nodes n)
 
 -- a stabilize of the graph that is kept of a valid state, which leaves this graph
-pub record IsStabilize (F : Meanings) (s : State) (k : Kept) (g : Standing (Unit {0})) : Type 0 where
+pub record IsStabilize (F : Meanings) (s : State) (k : Kept) (g : GraphView (Unit {0})) : Type 0 where
   pub meaning : Meaning
   pub meaning' : Meaning
   pub before : Counts
@@ -60,16 +60,16 @@ pub record IsStabilize (F : Meanings) (s : State) (k : Kept) (g : Standing (Unit
   pub valid : Valid F s
   pub held : Represents F s k
   pub grabs : DeadGrabsGiven s k
-  pub sound : IsSound meaning k.graph
+  pub sound : IsSoundGraph meaning k.graph
   pub functions : meaning.functions ≡ graph_functions F k.bodies
-  pub sound' : IsSound meaning' g
+  pub sound' : IsSoundGraph meaning' g
   pub functions' : meaning'.functions ≡ graph_functions F k.bodies
   pub built : ScopesBuilt (graph k.graph)
   pub stays : GraphStays (arena_of k).given g.nodes.given (graph k.graph) (left_by k.graph g)
   pub left : LeavesNodes (graph_functions F k.bodies) k.graph g before after
 
 -- the state beside the graph that it leaves, and who died
-abbrev pub middle : Meanings → State → Kept → Standing (Unit {0}) → Both
+abbrev pub middle : Meanings → State → Kept → GraphView (Unit {0}) → Both
 middle F s k g = record {
   meanings = F;
   state = s;
@@ -79,7 +79,7 @@ middle F s k g = record {
   died = died_by k.graph g;
 }
 
-module _ (named : List ℕ → Option FnRef) (value : FnRef → List GraphValue → GraphValue) (s : State) (k : Kept) (g : Standing (Unit {0}))
+module _ (named : List ℕ → Option FnRef) (value : FnRef → List GraphValue → GraphValue) (s : State) (k : Kept) (g : GraphView (Unit {0}))
     (c : IsStabilize (meanings_of named value) s k g) where
   abbrev F : Meanings
   F = meanings_of named value

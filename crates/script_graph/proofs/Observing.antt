@@ -5,7 +5,7 @@ use Rattle.std.specs.List.{list_any}
 use Rattle.std.specs.Prelude.{IsFalse}
 use Rattle.std.specs.Str.{bytes_eq}
 use Rattle.graph.specs.Effects.{Observes}
-use Rattle.graph.specs.Standing.{Standing, graph, node_at, looked_at, shown_of, called_last, cutoff_of, times_linked}
+use Rattle.graph.specs.Standing.{GraphView, graph, node_at, looked_at, shown_of, called_last, cutoff_of, times_linked}
 use Rattle.inc_value.specs.Choice.{Among}
 use Rattle.inc_value.specs.declared.node.NodeId.{NodeId}
 use Rattle.inc_value.specs.declared.node.ObsId.{ObsId}
@@ -127,14 +127,14 @@ body_there s (e ∷ es) zero less = (e, refl)
 body_there s (e ∷ es) (suc n) less = body_there s es n (omega (arith, less))
 
 -- the names with a new observer's, and its id behind the others
-abbrev pub with_observer : Kept → List ℕ → ObsId → Standing (Unit {0}) → Kept
+abbrev pub with_observer : Kept → List ℕ → ObsId → GraphView (Unit {0}) → Kept
 with_observer k name o g = record k {
   names = record k.names { observers = k.names.observers ++ name ∷ [] };
   observers = k.observers ++ o ∷ [];
   graph = g;
 }
 
-module _ (F : Meanings) (k : Kept) (m : Moment) (name : List ℕ) (target : ℕ) (o : ObsId) (g : Standing (Unit {0})) (stands : MatchesMoment F k m)
+module _ (F : Meanings) (k : Kept) (m : Moment) (name : List ℕ) (target : ℕ) (o : ObsId) (g : GraphView (Unit {0})) (stands : MatchesMoment F k m)
     (unbroken : m.broken ≡ None) (fresh_name : IsFalse (is_among k.names.observers name)) (earlier : target < length k.names.declared)
     (named_each : length k.observers ≡ length k.names.observers)
     (rooted : k.graph.rooted ≤ length k.graph.observers) (observes : Observes k.graph g o (node_in k.nodes target)) where
@@ -154,13 +154,13 @@ module _ (F : Meanings) (k : Kept) (m : Moment) (name : List ℕ) (target : ℕ)
   w = stands.watches
 
   nodes_same : g.nodes ≡ k.graph.nodes
-  nodes_same = ap (λ (h : Standing (Unit {0})). h.nodes) observes.rest
+  nodes_same = ap (λ (h : GraphView (Unit {0})). h.nodes) observes.rest
 
   observers_more : g.observers ≡ k.graph.observers ++ record { node = node_in k.nodes target; in_use = true } ∷ []
-  observers_more = ap (λ (h : Standing (Unit {0})). h.observers) observes.rest
+  observers_more = ap (λ (h : GraphView (Unit {0})). h.observers) observes.rest
 
   rooted_same : g.rooted ≡ k.graph.rooted
-  rooted_same = ap (λ (h : Standing (Unit {0})). h.rooted) observes.rest
+  rooted_same = ap (λ (h : GraphView (Unit {0})). h.rooted) observes.rest
 
   -- the new name isn't in use
   fresh : (j : ℕ) (y : Observer) → slice_get w.made j ≡ Some (Some y) → y.name ≡ name → ⊥
@@ -180,7 +180,7 @@ module _ (F : Meanings) (k : Kept) (m : Moment) (name : List ℕ) (target : ℕ)
   old_shown : (p : ObsId) (y : Observer) → p.0 < length k.graph.observers → IsShown k p y → IsShown new p y
   old_shown p y less h = record {
     earlier = λ was. let e = h.earlier (was_still g k.graph p (sym rooted_same) (sym (looks_old p less)) was) in
-        (e.0, e.1, λ whole. ap (λ (h : Standing (Unit {0})). shown_of h (node_in k.nodes y.target)) observes.rest ∙ e.2 whole);
+        (e.0, e.1, λ whole. ap (λ (h : GraphView (Unit {0})). shown_of h (node_in k.nodes y.target)) observes.rest ∙ e.2 whole);
     later = λ never. h.later (λ was. never (was_still k.graph g p rooted_same (looks_old p less) was));
   }
 
@@ -269,14 +269,14 @@ module _ (F : Meanings) (k : Kept) (m : Moment) (name : List ℕ) (target : ℕ)
         let is = rooted_looks g p n at in
         let low : p.0 < length k.graph.observers = (let less = is.0 in let r = rooted in let same = rooted_same in omega (arith, less, r, same)) in
         rooted_still g k.graph p (sym rooted_same) (sym (looks_old p low)) n at;
-    fewer = λ p q. let same = ap (λ (h : Standing (Unit {0})). times_linked h p q) observes.rest in omega (arith, same);
+    fewer = λ p q. let same = ap (λ (h : GraphView (Unit {0})). times_linked h p q) observes.rest in omega (arith, same);
     given = let same = ap (λ (a : Arena). a.given) nodes_same in omega (arith, same);
-    last = λ n given. ap (λ (h : Standing (Unit {0})). called_last h n) observes.rest;
-    no_more_cutoffs = λ n equal. ap (λ (h : Standing (Unit {0})). cutoff_of h n) observes.rest ∙ equal;
+    last = λ n given. ap (λ (h : GraphView (Unit {0})). called_last h n) observes.rest;
+    no_more_cutoffs = λ n equal. ap (λ (h : GraphView (Unit {0})). cutoff_of h n) observes.rest ∙ equal;
   }
 
   built_same : (b : NodeId) → (graph g).built b ≡ (graph k.graph).built b
-  built_same b = ap (λ (h : Standing (Unit {0})). (graph h).built b) observes.rest
+  built_same b = ap (λ (h : GraphView (Unit {0})). (graph h).built b) observes.rest
 
   still : StillDeclares s k.nodes (graph k.graph) then new
   still = record {
@@ -289,7 +289,7 @@ module _ (F : Meanings) (k : Kept) (m : Moment) (name : List ℕ) (target : ℕ)
   }
 
   scopes_still : ScopesBuilt (graph k.graph) → ScopesBuilt (graph g)
-  scopes_still = subst (λ (h : Standing (Unit {0})). ScopesBuilt (graph k.graph) → ScopesBuilt (graph h)) (sym observes.rest) (λ built. built)
+  scopes_still = subst (λ (h : GraphView (Unit {0})). ScopesBuilt (graph k.graph) → ScopesBuilt (graph h)) (sym observes.rest) (λ built. built)
 
   shown_was : (y : Observer) → Among y then.observers → IsSome y.shown → Among y s.observers
   shown_was y among is = elim (among_last y x s.observers among) [

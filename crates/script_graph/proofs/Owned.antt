@@ -18,7 +18,7 @@ use Rattle.formula_elab.specs.declared.opened.Part.TheVariants.{Made as Numbered
 use Rattle.formula_elab.specs.declared.plan.Planned.{Planned}
 use Rattle.formula_elab.specs.declared.plan.Planned.TheVariants as planned
 use Rattle.formula_elab.proofs.Showing.{root_declares}
-use Rattle.graph.specs.Standing.{Standing, graph}
+use Rattle.graph.specs.Standing.{GraphView, graph}
 use Rattle.inc_value.specs.declared.function.FnRef.{FnRef}
 use Rattle.inc_value.specs.declared.node.NodeId.{NodeId}
 use Rattle.inc_value.specs.declared.ty.Ty.{Ty}
@@ -280,7 +280,7 @@ module _ (known : FnRef → Bool) (H : Functions) (G : Graph) (all : List Planne
   body_owns body ty fits sits = absurd fits
 
 -- the nodes of a body were made from the first on, and none after the root
-module _ (known : FnRef → Bool) (names : Names) {F : Type 0} (H : Functions) (first now : Standing F) (nodes : ℕ → NodeId) (tys : ℕ → Ty) (made : List Made) where
+module _ (known : FnRef → Bool) (names : Names) {F : Type 0} (H : Functions) (first now : GraphView F) (nodes : ℕ → NodeId) (tys : ℕ → Ty) (made : List Made) where
   abbrev makes_for : Body → List Planned
   makes_for body = (laid_body nodes tys 0 body).makes
 

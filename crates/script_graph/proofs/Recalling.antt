@@ -21,7 +21,7 @@ use Rattle.inc_terms.proofs.Local.{needed_more}
 use Rattle.inc_terms.specs.Term as term
 use Rattle.inc_terms.proofs.Unfolding.{scope_stands}
 use Rattle.stabilizer.specs.Left.{IsObservedIn}
-use Rattle.graph.specs.Standing.{Standing, graph, in_use, shown_of, chosen_by, called_last}
+use Rattle.graph.specs.Standing.{GraphView, graph, in_use, shown_of, chosen_by, called_last}
 use Rattle.graph.specs.Stabilizes.{Stabilizes, left_by, died_by}
 use Rattle.node_arena.specs.Arena.{Arena, row_at}
 use Rattle.script_model.specs.Formula.{State, Meanings}
@@ -38,12 +38,12 @@ use Rattle.transfer.proofs.Recalling.{visits_have_nodes}
 -- ---- what is needed is right
 
 -- the outcome that a graph shows of a node, and that by which one of two points last chose its right side
-abbrev pub shown_in : {A : Type 0} → Standing A → NodeId → Part → Option Outcome
+abbrev pub shown_in : {A : Type 0} → GraphView A → NodeId → Part → Option Outcome
 shown_in g n Main = shown_of g n
 shown_in g n Change = chosen_by g n
 
 -- that of a point
-abbrev pub shown_at : {A : Type 0} → Standing A → Point → Option Outcome
+abbrev pub shown_at : {A : Type 0} → GraphView A → Point → Option Outcome
 shown_at g p = shown_in g p.node p.part
 
 -- what is needed once these observers have their roots, needs no one who died
@@ -58,7 +58,7 @@ reach_without : (M : Functions) (G : Graph) (died : NodeId → Option NodeId) (p
 reach_without M G died p q here = here
 reach_without M G died p q (step {b = r} d on) = step (without_dead M G died p r d) (reach_without M G died r q on)
 
-module _ {A : Type 0} (M : Functions) (old new : Standing A) (scoped : Scoped (graph new)) (rooted : BindsRooted M (graph new))
+module _ {A : Type 0} (M : Functions) (old new : GraphView A) (scoped : Scoped (graph new)) (rooted : BindsRooted M (graph new))
     (done : Stabilizes M old new) where
   abbrev L : Graph
   L = left_by old new
@@ -151,7 +151,7 @@ called_on M G n values cost def give is = absurd (cc)
 -- ---- the last calls
 
 -- the visit's node was last called with the visit's values
-pub record IsRecalled {A : Type 0} (x : Both) (arena : Arena) (g : Standing A) (v : Visit) : Type 0 where
+pub record IsRecalled {A : Type 0} (x : Both) (arena : Arena) (g : GraphView A) (v : Visit) : Type 0 where
   pub node : NodeId
   pub is_node : node_of x v.item ≡ Some node
   pub row : Row
@@ -161,7 +161,7 @@ pub record IsRecalled {A : Type 0} (x : Both) (arena : Arena) (g : Standing A) (
   pub values_are : call.arguments ≡ map (graph_value x.nodes) v.values
 
 -- over a pair of the graph that a stabilize left, in which nobody is known to have died
-module _ {A : Type 0} (M : Functions) (old new : Standing A) (scoped : Scoped (graph new)) (rooted : BindsRooted M (graph new)) (done : Stabilizes M old new)
+module _ {A : Type 0} (M : Functions) (old new : GraphView A) (scoped : Scoped (graph new)) (rooted : BindsRooted M (graph new)) (done : Stabilizes M old new)
     (F : Meanings) (s : State) (nodes : List NodeId) (fits : Fits (record {
       meanings = F;
       state = s;

@@ -5,9 +5,9 @@ use Rattle.inc_value.specs.declared.function.FnRef.{FnRef}
 use Rattle.inc_value.specs.declared.value.Value.{Value as GraphValue}
 use Rattle.inc_terms.specs.Depend.{main}
 use Rattle.inc_terms.specs.Term.{Functions}
-use Rattle.graph.specs.Sound.{IsSound, IsWhole}
+use Rattle.graph.specs.Sound.{IsSoundGraph, IsWhole}
 use Rattle.graph.specs.Stabilizes.{HasCalledMet, LeavesNodes, left_by}
-use Rattle.graph.specs.Standing.{Standing, graph}
+use Rattle.graph.specs.Standing.{GraphView, graph}
 use Rattle.node_outcomes.specs.Meaning.{Meaning}
 use Rattle.stabilize_round.specs.Laws.{GraphStays}
 use Rattle.wiring.specs.Stands.{Counts}
@@ -35,15 +35,15 @@ use Rattle.transfer.proofs.Typed.{body_entry, valid_grabs}
 
 -- what a session knows of a stabilize of its graph, accepted or refused: what it keeps fits together, the graphs before and after are sound over functions of
 -- the bodies that are kept, and of nodes it leaves what a stabilize may
-pub record IsSessions {A : Type 0} (value : FnRef → List GraphValue → GraphValue) (k : Kept) (old new : Standing A) : Type 0 where
+pub record IsSessions {A : Type 0} (value : FnRef → List GraphValue → GraphValue) (k : Kept) (old new : GraphView A) : Type 0 where
   pub same : k.graph ≡ without_functions old
   pub unbroken : k.broken ≡ None
-  pub kept : sound_kept.IsSound k
+  pub kept : sound_kept.IsSoundSession k
   pub meaning : Meaning
-  pub sound : IsSound meaning old
+  pub sound : IsSoundGraph meaning old
   pub functions : meaning.functions ≡ functions_over value k.bodies
   pub meaning' : Meaning
-  pub sound' : IsSound meaning' new
+  pub sound' : IsSoundGraph meaning' new
   pub functions' : meaning'.functions ≡ functions_over value k.bodies
   pub stays : GraphStays old.nodes.given new.nodes.given (graph old) (left_by old new)
   pub before : Counts
@@ -51,7 +51,7 @@ pub record IsSessions {A : Type 0} (value : FnRef → List GraphValue → GraphV
   pub left : LeavesNodes (functions_over value k.bodies) old new before after
 
 -- nodes of dead grabs were given
-dead_given : (F : Meanings) (s : State) (k : Kept) → Represents F s k → AreNames k.names s → sound_kept.IsSound k → DeadGrabsGiven s k
+dead_given : (F : Meanings) (s : State) (k : Kept) → Represents F s k → AreNames k.names s → sound_kept.IsSoundSession k → DeadGrabsGiven s k
 dead_given F s k held names sound n b v is =
     let e = body_entry s n (Grab b v false) is in
     let there : slice_get k.names.declared n ≡ Some (declared_of e.0) =
@@ -60,7 +60,7 @@ dead_given F s k held names sound n b v is =
     let target : e.0.target ≡ n = held.targets n e.0 e.1 ∙ ap (target_of_body n) e.2 in
     ((sound.has_nodes n (declared_of e.0) there).grab target (ap kind_of_body e.2)).0
 
-module _ {A : Type 0} (named : List ℕ → Option FnRef) (value : FnRef → List GraphValue → GraphValue) (k : Kept) (old new : Standing A)
+module _ {A : Type 0} (named : List ℕ → Option FnRef) (value : FnRef → List GraphValue → GraphValue) (k : Kept) (old new : GraphView A)
     (c : IsSessions value k old new) (m : Moment) (stands : Stands (meanings_of named value) k m) where
   abbrev named_meanings : Meanings
   named_meanings = meanings_of named value
@@ -72,7 +72,7 @@ module _ {A : Type 0} (named : List ℕ → Option FnRef) (value : FnRef → Lis
   are = functions_are named value k.bodies
 
   -- what is so of the graph before is so of the one that is kept
-  pub kept_so : (P : Standing (Unit {0}) → Type 0) → P (without_functions old) → P k.graph
+  pub kept_so : (P : GraphView (Unit {0}) → Type 0) → P (without_functions old) → P k.graph
   kept_so P h = subst P (sym c.same) h
 
   -- over the script's functions
@@ -89,19 +89,19 @@ module _ {A : Type 0} (named : List ℕ → Option FnRef) (value : FnRef → Lis
     valid = stands.valid.1;
     held = stands.matches.represents moment_unbroken;
     grabs = dead_given named_meanings m.present k (stands.matches.represents moment_unbroken) stands.matches.names c.kept;
-    sound = kept_so (λ (h : Standing (Unit {0})). IsSound c.meaning h) (sound_without c.meaning old c.sound);
+    sound = kept_so (λ (h : GraphView (Unit {0})). IsSoundGraph c.meaning h) (sound_without c.meaning old c.sound);
     functions = c.functions ∙ sym are;
     sound' = sound_without c.meaning' new c.sound';
     functions' = c.functions' ∙ sym are;
     built = (stands.matches.settled moment_unbroken).built;
-    stays = kept_so (λ (h : Standing (Unit {0})). GraphStays h.nodes.given new.nodes.given (graph h) (left_by h (without_functions new))) c.stays;
-    left = kept_so (λ (h : Standing (Unit {0})). LeavesNodes (graph_functions named_meanings k.bodies) h (without_functions new) c.before c.after)
+    stays = kept_so (λ (h : GraphView (Unit {0})). GraphStays h.nodes.given new.nodes.given (graph h) (left_by h (without_functions new))) c.stays;
+    left = kept_so (λ (h : GraphView (Unit {0})). LeavesNodes (graph_functions named_meanings k.bodies) h (without_functions new) c.before c.after)
         (functions_so (λ (M : Functions). LeavesNodes M old new c.before c.after) c.left);
   }
 
 -- ---- what was met
 
-module _ (named : List ℕ → Option FnRef) (value : FnRef → List GraphValue → GraphValue) (m : Moment) (k : Kept) (g : Standing (Unit {0}))
+module _ (named : List ℕ → Option FnRef) (value : FnRef → List GraphValue → GraphValue) (m : Moment) (k : Kept) (g : GraphView (Unit {0}))
     (stands : Stands (meanings_of named value) k m) (unbroken : m.broken ≡ None) (c : IsStabilize (meanings_of named value) m.present k g)
     (whole : IsWhole c.meaning k.graph) where
   abbrev F : Meanings

@@ -15,7 +15,7 @@ use Rattle.inc_terms.proofs.Plan.{among_left, among_map}
 use Rattle.stabilizer.specs.Left.{StoodBeside, IsMetIn}
 use Rattle.graph.specs.Sound.{IsWhole}
 use Rattle.graph.specs.Stabilizes.{left_by, died_by}
-use Rattle.graph.specs.Standing.{look, Standing, graph, in_use, node_at, IsNeeded, cutoff_of}
+use Rattle.graph.specs.Standing.{look, GraphView, graph, in_use, node_at, IsNeeded, cutoff_of}
 use Rattle.map_nodes.specs.declared.cutoff.Cutoff.{Cutoff}
 use Rattle.map_nodes.specs.declared.cutoff.Cutoff.TheVariants.{Equal, Never}
 use Rattle.node_arena.specs.Arena.{row_at}
@@ -101,7 +101,7 @@ not_never : (c : Cutoff) → c ≡ Equal → is_never c ≡ true → ⊥
 not_never Equal e never = cc
 not_never Never e never = cc
 
-module _ (named : List ℕ → Option FnRef) (value : FnRef → List GraphValue → GraphValue) (m : Moment) (k : Kept) (g : Standing (Unit {0}))
+module _ (named : List ℕ → Option FnRef) (value : FnRef → List GraphValue → GraphValue) (m : Moment) (k : Kept) (g : GraphView (Unit {0}))
     (stands : Stands (meanings_of named value) k m) (unbroken : m.broken ≡ None) (c : IsStabilize (meanings_of named value) m.present k g)
     (whole : IsWhole c.meaning k.graph) where
   abbrev F : Meanings

@@ -12,7 +12,7 @@ use Rattle.inc_terms.specs.Graph as graph
 use Rattle.inc_terms.specs.Graph.{Row, Built as BuiltFor}
 use Rattle.inc_terms.specs.Within.{Given}
 use Rattle.graph.specs.Effects.{Sets}
-use Rattle.graph.specs.Standing.{Standing, graph as graph_of}
+use Rattle.graph.specs.Standing.{GraphView, graph as graph_of}
 use Rattle.node_arena.specs.Arena.{row_at, with_value}
 use Rattle.node_arena.specs.Sound as arena
 use Rattle.script_model.specs.Check.{Assign, Declared, Names, declared_of, kind_of_body, is_variable, names_of, target_of_body}
@@ -105,8 +105,8 @@ variable_entry names s same target value fits = go (slice_get s.entries target) 
 
 -- ---- what is kept
 
-module _ (named : List ℕ → Option FnRef) (value : FnRef → List GraphValue → GraphValue) (k : Kept) (g : Standing (Unit {0}))
-    (sound : arena.IsSound (arena_of k)) (sound' : arena.IsSound g.nodes) (m : Moment) (target : ℕ) (w : GraphValue) (v : Value)
+module _ (named : List ℕ → Option FnRef) (value : FnRef → List GraphValue → GraphValue) (k : Kept) (g : GraphView (Unit {0}))
+    (sound : arena.IsSoundArena (arena_of k)) (sound' : arena.IsSoundArena g.nodes) (m : Moment) (target : ℕ) (w : GraphValue) (v : Value)
     (is_value : graph_value (node_in k.nodes) v ≡ w)
     (sets : Sets k.graph g (node_in k.nodes target) w) (fits : AssignmentFits k.names target v) (given : NodesGiven m.present k) where
   abbrev F : Meanings

@@ -2,7 +2,7 @@
 use Rattle.std.proofs.Common.{◌≡◌, ℕ, ◌<◌, zero, suc, List, [], ◌∷◌, ◌++◌, map, length, Option, None, Some, refl, ap, sym, subst, ◌∙◌, arith, slice_get}
 use Rattle.std.proofs.lemmas.Option.{slice_get_within}
 use Rattle.inc_value.specs.declared.node.ObsId.{ObsId}
-use Rattle.graph.specs.Standing.{Standing, node_at, shown_of}
+use Rattle.graph.specs.Standing.{GraphView, node_at, shown_of}
 use Rattle.graph.specs.declared.observer.Observer.{Observer as Looking}
 use Rattle.script_model.specs.Evaluate.{NameGives}
 use Rattle.script_model.specs.Formula.{State, Body, Observer, Watch, Meanings, body_at, Unwatched}
@@ -15,7 +15,7 @@ use Rattle.script_graph.proofs.Held.{was_there}
 use Rattle.script_graph.proofs.Referring.{outcome_refers_more}
 use Rattle.transfer.specs.Both.{graph_outcome}
 
-module _ (F : Meanings) (s : State) (k : Kept) (g : Standing (Unit {0})) where
+module _ (F : Meanings) (s : State) (k : Kept) (g : GraphView (Unit {0})) where
   -- what an observer shows then: what its target gives, which refers to what is declared, and the graph shows it
   pub record ShowsThen (x : Observer) (p : Outcome) : Type 0 where
     pub gives : NameGives F s x.target p

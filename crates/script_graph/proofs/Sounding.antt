@@ -5,7 +5,7 @@ use Rattle.std.proofs.lemmas.List.{length-append, get_or_append_left, get_or_at}
 use Rattle.std.proofs.lemmas.Option.{slice_get_within}
 use Rattle.graph.specs.Effects.{Sets}
 use Rattle.graph.specs.Standing as standing
-use Rattle.graph.specs.Standing.{Standing, IsUnbroken}
+use Rattle.graph.specs.Standing.{GraphView, IsUnbroken}
 use Rattle.graph.specs.declared.observer.Observer.{Observer as Looking}
 use Rattle.inc_value.specs.declared.node.NodeId.{NodeId}
 use Rattle.inc_value.specs.declared.ty.Ty.{Ty}
@@ -21,7 +21,7 @@ use Rattle.script_model.specs.Check.{Declared, Kind, Grab as GrabKind, kind_of_b
 use Rattle.script_model.specs.Formula.{Body}
 use Rattle.script_graph.specs.Growing.{Extends}
 use Rattle.script_graph.specs.Kept.{Kept, arena_of, node_in, no_node}
-use Rattle.script_graph.specs.Sound.{AreFew, HasTarget, HasLiveNode, HasNode, HaveNodes, IsLiveBind, IsSound, weight_at, weight_of}
+use Rattle.script_graph.specs.Sound.{AreFew, HasTarget, HasLiveNode, HasNode, HaveNodes, IsLiveBind, IsSoundSession, weight_at, weight_of}
 use Rattle.script_graph.proofs.Few.{sum_less}
 use Rattle.script_graph.proofs.Declaring.{with_declared}
 use Rattle.script_graph.proofs.Extending.{live_stays}
@@ -48,7 +48,7 @@ kind_or k = inr (λ e. cc)
 row_fits : (a : Arena) (n : NodeId) (t : Ty) (r : Row) → row_at a n ≡ Some r → r.ty ≡ t → Fits a n t
 row_fits a n t r row ty = subst (λ (o : Option Row). IfSome o (λ (q : Row). q.ty ≡ t)) (sym row) ty
 
-module _ (a : Arena) (sound : arena.IsSound a) (declared : List Declared) (nodes : List NodeId) (has : HaveNodes a declared nodes) where
+module _ (a : Arena) (sound : arena.IsSoundArena a) (declared : List Declared) (nodes : List NodeId) (has : HaveNodes a declared nodes) where
   -- the node of what stands for itself was given, and is of its type or dead
   own_fits : (n : ℕ) (d : Declared) → slice_get declared n ≡ Some d → d.target ≡ n → Given a.given (node_in nodes n) × Fits a (node_in nodes n) d.ty
   own_fits n d is itself = elim (kind_or d.kind) [
@@ -68,8 +68,8 @@ module _ (a : Arena) (sound : arena.IsSound a) (declared : List Declared) (nodes
   pub node_given : (n : ℕ) (d : Declared) → slice_get declared n ≡ Some d → Given a.given (node_in nodes n)
   node_given n d is = (node_fits n d is).0
 
-module _ (k : Kept) (h : IsSound k) (sound : arena.IsSound (arena_of k)) where
-  module _ (g : Standing (Unit {0})) (more : Extends k.graph g) where
+module _ (k : Kept) (h : IsSoundSession k) (sound : arena.IsSoundArena (arena_of k)) where
+  module _ (g : GraphView (Unit {0})) (more : Extends k.graph g) where
     looks_on : (o : _) → IsSome (standing.node_at k.graph.observers o) → IsSome (standing.node_at g.observers o)
     looks_on o is = subst (λ (os : List Looking). IsSome (standing.node_at os o)) (sym more.beside.observers) is
 
@@ -101,7 +101,7 @@ module _ (k : Kept) (h : IsSound k) (sound : arena.IsSound (arena_of k)) where
     }
 
     -- where nodes were added and bodies kept, and the room for those that are declared stays
-    pub sound_on : (bodies : List Bodies.Body) → AreFew bodies g.nodes k.room → IsSound (record k { bodies = bodies; graph = g })
+    pub sound_on : (bodies : List Bodies.Body) → AreFew bodies g.nodes k.room → IsSoundSession (record k { bodies = bodies; graph = g })
     sound_on bodies few = record {
       one_node_each = h.one_node_each;
       has_nodes = λ n d is. node_on n d (h.has_nodes n d is);
@@ -186,7 +186,7 @@ module _ (k : Kept) (h : IsSound k) (sound : arena.IsSound (arena_of k)) where
       ]
 
       -- where a declaration was added, with less room
-      pub sound_declared : AreFew bodies g.nodes room → IsSound new
+      pub sound_declared : AreFew bodies g.nodes room → IsSoundSession new
       sound_declared few = record {
         one_node_each =
             let nodes = length-append k.nodes (root ∷ []) in
@@ -200,7 +200,7 @@ module _ (k : Kept) (h : IsSound k) (sound : arena.IsSound (arena_of k)) where
       }
 
   -- where a variable was set
-  module _ (g : Standing (Unit {0})) (n : NodeId) (w : GraphValue) (sets : Sets k.graph g n w) where
+  module _ (g : GraphView (Unit {0})) (n : NodeId) (w : GraphValue) (sets : Sets k.graph g n w) where
     node_or : (p q : NodeId) → (p ≡ q) ⊎ (p ≡ q → ⊥)
     node_or p q = elim (cases_eq p.slot q.slot) [
       | inl slot ↦ elim (cases_eq p.gen_ q.gen_) [ inl gen ↦ inl (both p q slot gen) | inr other ↦ inr (λ e. other (ap (λ (m : NodeId). m.gen_) e)) ]
@@ -304,7 +304,7 @@ module _ (k : Kept) (h : IsSound k) (sound : arena.IsSound (arena_of k)) where
           let most = h.few.weight in omega (arith, less, most);
     }
 
-    pub sound_set : IsVariable (arena_of k) n → IsSound (record k { graph = g })
+    pub sound_set : IsVariable (arena_of k) n → IsSoundSession (record k { graph = g })
     sound_set v = record {
       one_node_each = h.one_node_each;
       has_nodes = λ i d is. has_set v i d (h.has_nodes i d is);

@@ -13,7 +13,7 @@ use Rattle.stabilizer.specs.Look.{Look}
 use Rattle.stabilizer.specs.Left.{IsListedIn, IsLawfulIn}
 use Rattle.graph.specs.Sound.{IsWhole}
 use Rattle.graph.specs.Stabilizes.{IsRefusedFor, HasCalledMet, left_by, died_by}
-use Rattle.graph.specs.Standing.{in_use, look, Standing, IsOwner, graph}
+use Rattle.graph.specs.Standing.{in_use, look, GraphView, IsOwner, graph}
 use Rattle.graph.specs.Fault.{kept_of}
 use Rattle.graph.specs.declared.fault.Kept.TheVariants as fault
 use Rattle.script_model.specs.Blocked.{IsPrintedFor, own, of_bind}
@@ -63,7 +63,7 @@ first_is_owner nodes n target owner first within = go (compared target owner)
 
 -- ---- the stabilize
 
-module _ (named : List ℕ → Option FnRef) (value : FnRef → List GraphValue → GraphValue) (m : Moment) (k : Kept) (g : Standing (Unit {0}))
+module _ (named : List ℕ → Option FnRef) (value : FnRef → List GraphValue → GraphValue) (m : Moment) (k : Kept) (g : GraphView (Unit {0}))
     (stands : Stands (meanings_of named value) k m) (unbroken : m.broken ≡ None) (c : IsStabilize (meanings_of named value) m.present k g)
     (whole : IsWhole c.meaning k.graph) where
   abbrev F : Meanings
@@ -201,7 +201,7 @@ chain_begins M G died before observed (Some (refused.Height points)) (refused.He
     long_begins points.items (subst (λ (v : _). length v.items ≡ 130) (sym same) lawful.1)
 chain_begins M G died before observed (Some met) r e cause lawful = absurd (cc)
 
-module _ {A : Type 0} (named : List ℕ → Option FnRef) (value : FnRef → List GraphValue → GraphValue) (k : Kept) (old new : Standing A)
+module _ {A : Type 0} (named : List ℕ → Option FnRef) (value : FnRef → List GraphValue → GraphValue) (k : Kept) (old new : GraphView A)
     (c : IsSessions value k old new) (done : IsRefusedFor (functions_over value k.bodies) old new fault.Height) (m : Moment)
     (stands : Stands (meanings_of named value) k m) where
   abbrev Means : Meanings
@@ -210,11 +210,11 @@ module _ {A : Type 0} (named : List ℕ → Option FnRef) (value : FnRef → Lis
   abbrev Ms : Functions
   Ms = graph_functions Means k.bodies
 
-  abbrev bare : Standing (Unit {0})
+  abbrev bare : GraphView (Unit {0})
   bare = without_functions new
 
   lawful : IsLawfulIn Ms (left_by k.graph bare) (died_by k.graph bare) (look k.graph) (in_use k.graph.observers) done.met
-  lawful = kept_so named value k old new c m stands (λ (h : Standing (Unit {0})). IsLawfulIn Ms (left_by h bare) (died_by h bare) (look h)
+  lawful = kept_so named value k old new c m stands (λ (h : GraphView (Unit {0})). IsLawfulIn Ms (left_by h bare) (died_by h bare) (look h)
       (in_use h.observers) done.met) (functions_so named value k old new c m stands
       (λ (N : Functions). IsLawfulIn N (left_by old new) (died_by old new) (look old) (in_use old.observers) done.met) done.lawful)
 

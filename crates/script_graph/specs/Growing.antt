@@ -31,7 +31,7 @@ use Rattle.formula_elab.specs.declared.opened.Part.{Part}
 use Rattle.formula_elab.specs.declared.opened.Part.TheVariants as part
 use Rattle.formula_elab.specs.declared.plan.Planned.TheVariants as planned
 use Rattle.graph.specs.Effects.{top, Adds, CallsKnown, KeepsBesideGiven}
-use Rattle.graph.specs.Standing.{Standing, graph, without_functions}
+use Rattle.graph.specs.Standing.{GraphView, graph, without_functions}
 use Rattle.node_arena.specs.Arena.{Arena, row_at, live, NamesGiven}
 use Rattle.node_arena.specs.Building.{Use}
 use Rattle.node_arena.specs.Listing.{Listed}
@@ -120,19 +120,19 @@ IsWelcomeMake known right a (make.Right b) = AreUsable known right (side_of b)
 
 module _ {F : Type 0} where
   -- it was made: a node that is so defined was added
-  abbrev pub IsNodeAdded : Standing F → Standing F → Def → Ty → Made → Type 0
+  abbrev pub IsNodeAdded : GraphView F → GraphView F → Def → Ty → Made → Type 0
   IsNodeAdded old new d ty (was.Node n) = Adds old new n (top d ty)
   IsNodeAdded old new d ty (was.Fn f) = ⊥
 
   -- nodes were added, and functions maybe: what was given before is as it was, and each node that is live was so before, or stands outside all scopes
-  pub record Extends (old new : Standing F) : Type 0 where
+  pub record Extends (old new : GraphView F) : Type 0 where
     pub beside : KeepsBesideGiven (without_functions old) (without_functions new)
     pub given : old.nodes.given ≤ new.nodes.given
     pub rows : (n : NodeId) → Given old.nodes.given n → row_at new.nodes n ≡ row_at old.nodes n
     pub outside : (n : NodeId) (r : Row) → row_at new.nodes n ≡ Some r → (row_at old.nodes n ≡ Some r) ⊎ (r.scope ≡ None)
 
   -- over the first graph so many of what is to be made were made in order, each node under the next id
-  pub record IsMaking (H : Functions) (first now : Standing F) (makes : List Planned) (made : List Made) : Type 0 where
+  pub record IsMaking (H : Functions) (first now : GraphView F) (makes : List Planned) (made : List Made) : Type 0 where
     pub extends : Extends first now
     pub stands : StandsIn H (graph now) makes made
     pub types : (i : ℕ) (x : Open) → slice_get makes i ≡ Some (planned.Node x) → i < length made
@@ -152,7 +152,7 @@ abbrev pub functions_over : (FnRef → List Value → Value) → List Bodies.Bod
 functions_over value bodies = meaning (seen_value value) (side_in (makers bodies))
 
 -- over these functions a function of right sides has the terms of the body, and of the graph all but its functions stays
-pub record IsBodyKept {F : Type 0} (H : Functions) (old new : Standing F) (b : Bodies.Body) (m : Made) : Type 0 where
+pub record IsBodyKept {F : Type 0} (H : Functions) (old new : GraphView F) (b : Bodies.Body) (m : Made) : Type 0 where
   pub is_function : IsFunction m
   pub kind : (function_made m).id.kind ≡ kind.Rhs
   pub sig : (function_made m).sig ≡ b.draft.sig
@@ -160,7 +160,7 @@ pub record IsBodyKept {F : Type 0} (H : Functions) (old new : Standing F) (b : B
   pub rest : without_functions new ≡ without_functions old
 
 -- it was made: a node that is so defined was added, or a body was kept
-abbrev pub IsMadeIn : {F : Type 0} → Functions → Standing F → Standing F → Make → Made → Type 0
+abbrev pub IsMadeIn : {F : Type 0} → Functions → GraphView F → GraphView F → Make → Made → Type 0
 IsMadeIn H old new (make.Node d ty) m = IsNodeAdded old new d ty m
 IsMadeIn H old new (make.Right b) m = IsBodyKept H old new b m
 

@@ -2,7 +2,7 @@
 use Rattle.std.specs.Prelude.{ℕ, List, Option, slice_index_or}
 use Rattle.inc_value.specs.declared.node.NodeId.{NodeId}
 use Rattle.inc_value.specs.declared.node.ObsId.{ObsId}
-use Rattle.graph.specs.Standing.{Standing}
+use Rattle.graph.specs.Standing.{GraphView}
 pub use Rattle.graph.specs.Standing.{without_functions}
 use Rattle.node_arena.specs.Arena.{Arena}
 use Rattle.script_functions.specs.Bodies.{Body}
@@ -19,7 +19,7 @@ pub record Kept : Type 0 where
   pub accepted : ℕ
   pub broken : Option ℕ
   pub bodies : List Body
-  pub graph : Standing (Unit {0})
+  pub graph : GraphView (Unit {0})
 
 -- a library, how many right sides of binds were built, or were to be, and what is kept of a script over it
 pub record Script (L : Type 0) : Type 0 where

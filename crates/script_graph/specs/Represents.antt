@@ -6,7 +6,7 @@ use Rattle.inc_terms.specs.Depend.{none_died}
 use Rattle.inc_terms.specs.Graph.{Graph}
 use Rattle.inc_terms.specs.Rebuilding.{outcome_of}
 use Rattle.inc_terms.specs.Term.{Functions}
-use Rattle.graph.specs.Standing.{Standing, graph, node_at, shown_of}
+use Rattle.graph.specs.Standing.{GraphView, graph, node_at, shown_of}
 use Rattle.node_arena.specs.RightSideLaws.{meaning}
 use Rattle.script_functions.specs.Bodies as Bodies
 use Rattle.script_functions.specs.Keeping.{makers, side_in}
@@ -74,11 +74,11 @@ there_in (Some x ∷ xs) = x ∷ there_in xs
 
 module _ {A : Type 0} where
   -- the node of an observer in use that was there when a stabilize was accepted last
-  abbrev pub rooted_at : Standing A → ObsId → Option NodeId
+  abbrev pub rooted_at : GraphView A → ObsId → Option NodeId
   rooted_at g o = node_at (take g.rooted g.observers) o
 
   -- an observer in use was there then
-  abbrev pub WasThere : Standing A → ObsId → Type 0
+  abbrev pub WasThere : GraphView A → ObsId → Type 0
   WasThere g o = (n : NodeId) × (rooted_at g o ≡ Some n)
 
 -- an observer that was there when a stabilize was accepted last shows an outcome, which is what the graph shows of its node unless the session is broken; a

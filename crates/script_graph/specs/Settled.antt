@@ -6,7 +6,7 @@ use Rattle.inc_terms.specs.Graph.{Graph, Row}
 use Rattle.inc_terms.specs.Local.{Scoped}
 use Rattle.inc_terms.specs.Need.{Beside, Holder, Observing, Freezing, Observed}
 use Rattle.inc_terms.specs.Within.{Given}
-use Rattle.graph.specs.Standing.{Standing, called_last, cutoff_of, graph, times_linked}
+use Rattle.graph.specs.Standing.{GraphView, called_last, cutoff_of, graph, times_linked}
 use Rattle.graph.specs.declared.observer.Observer.{Observer as Looking}
 use Rattle.node_outcomes.specs.Row.{is_never}
 use Rattle.script_model.specs.Formula.{State, Entry, Observer, Meanings, entry_at}
@@ -32,13 +32,13 @@ observed_from i (o ∷ os) = cond o.in_use (record { observer = record { 0 = i }
 
 module _ {A : Type 0} where
   -- for which node a holder has put need on
-  abbrev pub root_of : Standing A → Holder → Option NodeId
+  abbrev pub root_of : GraphView A → Holder → Option NodeId
   root_of g (Observing o) = rooted_at g o
   root_of g (Freezing n) = frozen_root n
 
   -- what stands beside the graph: need of the observers that the last accepted stabilize saw, the links and last calls since, and who has cutoff
   -- Never
-  abbrev pub side_of : Standing A → Beside
+  abbrev pub side_of : GraphView A → Beside
   side_of g = record {
     roots = root_of g;
     links = λ p q. times_linked g p q;
@@ -48,7 +48,7 @@ module _ {A : Type 0} where
   }
 
   -- the observers in use
-  abbrev pub observed_by : Standing A → List Observed
+  abbrev pub observed_by : GraphView A → List Observed
   observed_by g = observed_from 0 g.observers
 
 -- ---- what stays of the pair

@@ -63,7 +63,7 @@ pub record AreFew (bodies : List Body) (a : Arena) (room : ℕ) : Type 0 where
   pub weight : sum_by (weight_at bodies a) tops + room ≤ 1048575
 
 -- what is kept fits together
-pub record IsSound (k : Kept) : Type 0 where
+pub record IsSoundSession (k : Kept) : Type 0 where
   pub one_node_each : length k.nodes ≡ length k.names.declared
   pub has_nodes : HaveNodes (arena_of k) k.names.declared k.nodes
   pub few : AreFew k.bodies (arena_of k) k.room

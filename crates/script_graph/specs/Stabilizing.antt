@@ -4,7 +4,7 @@ use Rattle.height_order.specs.Chains.{StartsAt}
 use Rattle.inc_value.specs.declared.node.NodeId.{NodeId}
 use Rattle.inc_value.specs.declared.node.Point.{Point}
 use Rattle.inc_terms.specs.Depend.{main}
-use Rattle.graph.specs.Standing.{Standing, IsOwner, graph}
+use Rattle.graph.specs.Standing.{GraphView, IsOwner, graph}
 use Rattle.node_arena.specs.Arena.{row_at}
 use Rattle.script_model.specs.Check.{Declared}
 use Rattle.script_model.specs.Formula.{Meanings}
@@ -56,10 +56,10 @@ ChainBegins (Some (Height points)) p = StartsAt points.items p
 ChainBegins met p = ⊥
 
 -- the node stands in the scope, or in one within it, of a bind outside all scopes, whose main the point is
-abbrev pub IsOwnRoot : {A : Type 0} → Standing A → Point → NodeId → Type 0
+abbrev pub IsOwnRoot : {A : Type 0} → GraphView A → Point → NodeId → Type 0
 IsOwnRoot g p n = (top : NodeId) × IsOwner (graph g) n top × (top ≡ n → ⊥) × (p ≡ main top)
 
-module _ {A : Type 0} (g : Standing A) (declared : List Declared) (nodes : List NodeId) where
+module _ {A : Type 0} (g : GraphView A) (declared : List Declared) (nodes : List NodeId) where
   -- from the one point to the other the declaration is passed: the other is the main of its node, and it is its own target. A bind's right side that its
   -- own main reads is read as a part of the bind's formula, though it is grabbed
   abbrev pub IsPassed : Point → Point → ℕ → Type 0
@@ -79,12 +79,12 @@ module _ {A : Type 0} (g : Standing A) (declared : List Declared) (nodes : List 
   PassesAll (p ∷ rest) targets = PassesFrom p rest targets
 
 -- so does the cycle of points that was met
-abbrev pub PassesMet : {A : Type 0} → Standing A → List Declared → List NodeId → Option Refused → List ℕ → Type 0
+abbrev pub PassesMet : {A : Type 0} → GraphView A → List Declared → List NodeId → Option Refused → List ℕ → Type 0
 PassesMet g declared nodes (Some (Cycle points)) targets = PassesAll g declared nodes points.items targets
 PassesMet g declared nodes met targets = ⊥
 
 -- the cycle of points that was met passes these declarations, each once
-abbrev pub CyclePasses : {A : Type 0} → Standing A → List Declared → List NodeId → List ℕ → Type 0
+abbrev pub CyclePasses : {A : Type 0} → GraphView A → List Declared → List NodeId → List ℕ → Type 0
 CyclePasses g declared nodes targets = PassesMet g declared nodes g.refused targets
 
 -- it is a cycle of points that was met
@@ -112,11 +112,11 @@ IsOwnNode declared nodes n target =
     (d : Declared) × (slice_get declared target ≡ Some d) × (d.target ≡ target) × (node_in nodes target ≡ n)
 
 -- the node has an owner, and the declaration's node is the first that isn't older than that; or it is dead, and the declaration is the grab whose node it is
-pub data IsTold {A : Type 0} (declared : List Declared) (nodes : List NodeId) (g : Standing A) (n : NodeId) (target : ℕ) : Type 0 where
+pub data IsTold {A : Type 0} (declared : List Declared) (nodes : List NodeId) (g : GraphView A) (n : NodeId) (target : ℕ) : Type 0 where
   of_owner : (top : NodeId) → IsOwner (graph g) n top → IsFirstNotOlder nodes top target → IsTold declared nodes g n target
   of_grab : (row_at g.nodes n ≡ None) → IsOwnNode declared nodes n target → IsTold declared nodes g n target
 
 -- if the node has an owner, the nodes of all declarations are older than that; and if it is dead, it is that of none
-pub record NoneTold {A : Type 0} (declared : List Declared) (nodes : List NodeId) (g : Standing A) (n : NodeId) : Type 0 where
+pub record NoneTold {A : Type 0} (declared : List Declared) (nodes : List NodeId) (g : GraphView A) (n : NodeId) : Type 0 where
   pub owner : (top : NodeId) → IsOwner (graph g) n top → AllOlder nodes top
   pub grab : row_at g.nodes n ≡ None → (target : ℕ) → IsOwnNode declared nodes n target → ⊥

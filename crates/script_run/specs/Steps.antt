@@ -10,7 +10,7 @@ use Rattle.script_io.specs.declared.ending.Ending.{Ending}
 use Rattle.script_io.specs.declared.ending.Ending.TheVariants.{Memory, ReadFault, WriteFault}
 use Rattle.script_model.specs.Formula.{Meanings}
 use Rattle.script_model.specs.Step.{Moment, Reply}
-use Rattle.session.specs.Session.{Standing}
+use Rattle.session.specs.Session.{SessionView}
 use Rattle.session.specs.Taken.{AsksStabilize, Says, Stops, Takes}
 use Rattle.session.specs.declared.answer.Did.{Did}
 use Rattle.script_run.specs.Counts.{Count}
@@ -22,7 +22,7 @@ use Rattle.script_run.specs.Telling.{Behind, TellsRound}
 
 -- where a line is answered: the session, what the sink was given, where it tells it, how often the sink failed, and what is still to be written
 pub record Desk (L : Type 0) : Type 0 where
-  pub session : Standing L
+  pub session : SessionView L
   pub written : Option (List ℕ)
   pub sink_faults : ℕ
   pub buffer : List ℕ
@@ -35,14 +35,14 @@ pub record Place (L : Type 0) : Type 0 where
   pub desk : Desk L
 
 -- a desk, and a place, by what there is
-abbrev pub desk_of : {L : Type 0} → Standing L → Option (List ℕ) → ℕ → List ℕ → Desk L
+abbrev pub desk_of : {L : Type 0} → SessionView L → Option (List ℕ) → ℕ → List ℕ → Desk L
 desk_of session written faults buffer = record { session = session; written = written; sink_faults = faults; buffer = buffer }
 
 abbrev pub place_of : {L : Type 0} → Reader → Option (List ℕ) → ℕ → Desk L → Place L
 place_of reader left faults desk = record { reader = reader; left = left; source_faults = faults; desk = desk }
 
 -- what was counted where a session is: by the library, and by the session itself
-abbrev pub counted_at : {L : Type 0} → (L → ℕ) → Standing L → Count
+abbrev pub counted_at : {L : Type 0} → (L → ℕ) → SessionView L → Count
 counted_at calls session = record { calls = calls session.library; builds = session.builds }
 
 -- how far a run has come at a place

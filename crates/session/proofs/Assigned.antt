@@ -6,15 +6,15 @@ use Rattle.formula_elab.specs.Opened.{node_at}
 use Rattle.formula_elab.proofs.Writes.{value_same}
 use Rattle.inc_value.specs.declared.node.NodeId.{NodeId}
 use Rattle.inc_value.specs.declared.value.Value.{Value as GraphValue}
-use Rattle.node_arena.specs.Sound.{IsSound as IsSoundArena}
+use Rattle.node_arena.specs.Sound.{IsSoundArena as IsSoundArena}
 use Rattle.script_model.specs.Values.{Value, Int, Bool, Text, Reference}
 use Rattle.script_graph.specs.Kept.{Kept, arena_of, node_in}
-use Rattle.script_graph.specs.Sound.{IsSound}
+use Rattle.script_graph.specs.Sound.{IsSoundSession}
 use Rattle.script_graph.proofs.Declared.{TakesValue, assigned_takes, same_default}
 use Rattle.transfer.specs.Both.{graph_value}
 use Rattle.session.proofs.Observed.{target_node}
 
-module _ (k : Kept) (sound : IsSound k) (target : ℕ) (v : Value) (fits : AssignmentFits k.names target v) where
+module _ (k : Kept) (sound : IsSoundSession k) (target : ℕ) (v : Value) (fits : AssignmentFits k.names target v) where
   -- what a value that fits refers to is declared
   pub refers_within : EveryReference (λ (n : ℕ). n < length k.nodes) v
   refers_within = by_value v fits

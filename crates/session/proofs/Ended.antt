@@ -8,13 +8,13 @@ use Rattle.std.specs.Str.{bytes_eq}
 use Rattle.indexmap.specs.IndexMap.{swap_remove_by}
 use Rattle.graph.specs.Effects.{Ends}
 use Rattle.script_graph.proofs.Extending.{top_without, nodes_without}
-use Rattle.graph.specs.Standing.{Standing, node_at}
+use Rattle.graph.specs.Standing.{GraphView, node_at}
 use Rattle.inc_value.specs.declared.node.ObsId.{ObsId}
 use Rattle.script_model.specs.Check.{Names, Unobserve}
 use Rattle.script_model.specs.Formula.{Meanings}
 use Rattle.script_model.specs.Step.{Moment, moved}
 use Rattle.script_graph.specs.Kept.{Kept, without_functions}
-use Rattle.script_graph.specs.Sound.{IsSound}
+use Rattle.script_graph.specs.Sound.{IsSoundSession}
 use Rattle.script_graph.specs.State.{MatchesMoment}
 use Rattle.script_graph.proofs.Ending.{ending_sound, ending_stands}
 use Rattle.session.proofs.Observed.{among_at, by_position}
@@ -43,12 +43,12 @@ same_place name names i at first =
     ∙ ap (λ (b : Bool). cond b (Some i) None) (lt-ltb i (length names) (slice_get_within names i name at)))
 
 -- a place of a name is one of its observer
-pub place_within : (k : Kept) → IsSound k → (i : ℕ) → i < length k.names.observers → i < length k.observers
+pub place_within : (k : Kept) → IsSoundSession k → (i : ℕ) → i < length k.names.observers → i < length k.observers
 place_within k sound i within = let same = sound.one_observer_each in omega (arith, within, same)
 
 -- ---- the observer at a place
 
-module _ (k : Kept) (sound : IsSound k) (i : ℕ) (within : i < length k.names.observers) (o : ObsId) (index : o ≡ slice_index_or k.observers i o) where
+module _ (k : Kept) (sound : IsSoundSession k) (i : ℕ) (within : i < length k.names.observers) (o : ObsId) (index : o ≡ slice_index_or k.observers i o) where
   at_id : slice_get k.observers i ≡ Some o
   at_id = slice_get_read k.observers (length k.observers) i o refl (place_within k sound i within) index
 
@@ -58,7 +58,7 @@ module _ (k : Kept) (sound : IsSound k) (i : ℕ) (within : i < length k.names.o
 
 -- ---- a graph whose observer was ended, but for its functions
 
-ends_so : {F : Type 0} (old new : Standing F) (o : ObsId) → Ends old new o → Ends (without_functions old) (without_functions new) o
+ends_so : {F : Type 0} (old new : GraphView F) (o : ObsId) → Ends old new o → Ends (without_functions old) (without_functions new) o
 ends_so old new o h = record {
   node = h.node;
   was = h.was;
@@ -73,7 +73,7 @@ ends_so old new o h = record {
 
 -- ---- what is kept without the observer
 
-module _ {F : Type 0} (k : Kept) (old new : Standing F) (graph_is : k.graph ≡ without_functions old) (sound : IsSound k) (name : List ℕ) (i : ℕ)
+module _ {F : Type 0} (k : Kept) (old new : GraphView F) (graph_is : k.graph ≡ without_functions old) (sound : IsSoundSession k) (name : List ℕ) (i : ℕ)
     (o : ObsId) (within : i < length k.names.observers) (at_name : slice_get k.names.observers i ≡ Some name)
     (first : (j : ℕ) → j < i → slice_get k.names.observers j ≡ Some name → ⊥) (index : o ≡ slice_index_or k.observers i o)
     (ends : Ends old new o) where
@@ -81,7 +81,7 @@ module _ {F : Type 0} (k : Kept) (old new : Standing F) (graph_is : k.graph ≡ 
   place = same_place name k.names.observers i at_name first
 
   ends_now : Ends k.graph (without_functions new) o
-  ends_now = subst (λ (g : Standing (Unit {0})). Ends g (without_functions new) o) (sym graph_is) (ends_so old new o ends)
+  ends_now = subst (λ (g : GraphView (Unit {0})). Ends g (without_functions new) o) (sym graph_is) (ends_so old new o ends)
 
   module _ (names : Names) (os : List ObsId) (names_are : names ≡ record k.names { observers = swap_remove_by (bytes_eq name) k.names.observers })
       (os_are : os ≡ swap_remove k.observers i o) where
@@ -89,7 +89,7 @@ module _ {F : Type 0} (k : Kept) (old new : Standing F) (graph_is : k.graph ≡ 
     names_now = names_are ∙ ap (λ (l : List (List ℕ)). record k.names { observers = l }) place.1
 
     -- what is kept fits together
-    pub ended_sound : IsSound (record k { names = names; observers = os; graph = without_functions new })
+    pub ended_sound : IsSoundSession (record k { names = names; observers = os; graph = without_functions new })
     ended_sound =
         rw (names_now, os_are)
         (ending_sound k name place.0 i o (without_functions new) sound (at_id k sound i within o index) at_name ends_now)

@@ -2,9 +2,9 @@
 use Rattle.std.proofs.Common.{◌≡◌, ◌+◌, ◌<◌, ◌≤◌, ◌^◌, ℕ, Bool, List, Option, None, Some, IsTrue, Ok, Err, refl, ap, sym, ◌∙◌, arith, length}
 use Rattle.std.specs.Prelude.{sum_by}
 use Rattle.graph.specs.Few.{ListsTops}
-use Rattle.graph.specs.Sound.{IsSound as IsSoundGraph}
+use Rattle.graph.specs.Sound.{IsSoundGraph as IsSoundGraph}
 use Rattle.graph.specs.Stabilizes.{left_by, HasCalledMet, IsRefusedFor, LeavesNodes}
-use Rattle.graph.specs.Standing.{IsUnbroken, Standing, graph, without_functions}
+use Rattle.graph.specs.Standing.{IsUnbroken, GraphView, graph, without_functions}
 use Rattle.graph.specs.declared.fault.Kept.TheVariants as cause
 use Rattle.graph.specs.declared.fault.Kept.{Kept as Cause}
 use Rattle.inc_terms.specs.Term.{Functions}
@@ -26,7 +26,7 @@ use Rattle.script_graph.proofs.Refusing.{IsSessions}
 use Rattle.script_graph.proofs.TooDeep.{session_none_told, session_too_deep}
 use Rattle.script_graph.specs.Growing.{functions_over}
 use Rattle.script_graph.specs.Kept.{Kept, Script, arena_of}
-use Rattle.script_graph.specs.Sound.{AreFew, IsSound}
+use Rattle.script_graph.specs.Sound.{AreFew, IsSoundSession}
 use Rattle.script_graph.specs.Stabilizing.{ChainBegins, IsAccepted, IsTold, NoneTold}
 use Rattle.script_graph.specs.State.{Stands}
 use Rattle.script_model.specs.Formula.{Meanings, meanings_of}
@@ -44,10 +44,10 @@ use Rattle.wiring.specs.Stands.{Counts}
 use Rattle.wiring.specs.declared.refused.Refused.TheVariants as refused
 
 -- over the maps that a library knew and knows, what was kept, the bodies that are kept now, and the graph as it was and is
-module _ {A : Type 0} (maps maps' : FnRef → Bool) (k : Kept) (bodies : List Body) (old new : Standing A) (value : FnRef → List GraphValue → GraphValue)
-    (before after : Counts) (sound : IsSound k) (same : k.graph ≡ without_functions old)
+module _ {A : Type 0} (maps maps' : FnRef → Bool) (k : Kept) (bodies : List Body) (old new : GraphView A) (value : FnRef → List GraphValue → GraphValue)
+    (before after : Counts) (sound : IsSoundSession k) (same : k.graph ≡ without_functions old)
     (knows : SameKnown (is_known maps (makers k.bodies)) (is_known maps' (makers bodies)))
-    (sides : SameSides (side_in (makers k.bodies)) (side_in (makers bodies))) (arena : arenas.IsSound old.nodes)
+    (sides : SameSides (side_in (makers k.bodies)) (side_in (makers bodies))) (arena : arenas.IsSoundArena old.nodes)
     (stays : GraphStays old.nodes.given new.nodes.given (graph old) (left_by old new))
     (left : LeavesNodes (functions_over value k.bodies) old new before after) (observers : new.observers ≡ old.observers) where
   -- the bodies make what those made that were kept
@@ -59,7 +59,7 @@ module _ {A : Type 0} (maps maps' : FnRef → Bool) (k : Kept) (bodies : List Bo
   kept_now accepted broken = record k { accepted = accepted; broken = broken; bodies = bodies; graph = without_functions new }
 
   -- fits together, where the graph is unbroken if nothing broke the session
-  pub kept_sound : (accepted : ℕ) (broken : Option ℕ) → (broken ≡ None → IsUnbroken new) → IsSound (kept_now accepted broken)
+  pub kept_sound : (accepted : ℕ) (broken : Option ℕ) → (broken ≡ None → IsUnbroken new) → IsSoundSession (kept_now accepted broken)
   kept_sound accepted broken unbroken =
       sound_now (record k { accepted = accepted; broken = broken; graph = without_functions new }) bodies made
       (left_sound (functions_over value k.bodies) old new before after arena stays left k sound same observers accepted broken unbroken)
@@ -70,7 +70,7 @@ module _ {A : Type 0} (maps maps' : FnRef → Bool) (k : Kept) (bodies : List Bo
 
 -- over what the libraries name, give, know and were called, and the two libraries
 module _ {L A : Type 0} (named : L → List ℕ → Option FnRef) (value : L → FnRef → List GraphValue → GraphValue) (known : L → FnRef → Bool) (calls : L → ℕ)
-    (l l' : L) (builds builds' : ℕ) (k : Kept) (bodies : List Body) (old new : Standing A) (before after : Counts) (sound : IsSound k)
+    (l l' : L) (builds builds' : ℕ) (k : Kept) (bodies : List Body) (old new : GraphView A) (before after : Counts) (sound : IsSoundSession k)
     (same : k.graph ≡ without_functions old) (knows : SameKnown (is_known (known l) (makers k.bodies)) (is_known (known l') (makers bodies)))
     (sides : SameSides (side_in (makers k.bodies)) (side_in (makers bodies)))
     (stays : GraphStays old.nodes.given new.nodes.given (graph old) (left_by old new))
@@ -108,13 +108,13 @@ module _ {L A : Type 0} (named : L → List ℕ → Option FnRef) (value : L →
 
   given_few : new.nodes.given ≤ (arena_of k).given + 2 ^ 20
   given_few =
-      let was : (arena_of k).given ≡ old.nodes.given = ap (λ (g : Standing (Unit {0})). g.nodes.given) same in
+      let was : (arena_of k).given ≡ old.nodes.given = ap (λ (g : GraphView (Unit {0})). g.nodes.given) same in
       let few = gives_few bodies new.nodes k.room (kept_few (known l) (known l') k bodies old new (value l) before after sound same knows sides
       sound_old.nodes stays left observers) old.nodes.given ids in
       omega (arith, was, few)
 
   observers_stay : new.observers ≡ k.graph.observers
-  observers_stay = observers ∙ sym (ap (λ (g : Standing (Unit {0})). g.observers) same)
+  observers_stay = observers ∙ sym (ap (λ (g : GraphView (Unit {0})). g.observers) same)
 
   as_many_bodies : length bodies ≡ length k.bodies
   as_many_bodies = as_many k.bodies bodies same_made

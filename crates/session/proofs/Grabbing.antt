@@ -3,8 +3,8 @@ use Rattle.std.proofs.Common.{◌≡◌, ◌⊎◌, ◌<◌, ◌≤◌, ◌+◌,
 use Rattle.std.proofs.lemmas.Bool.{cases_lt}
 use Rattle.std.specs.Prelude.{IfNone, IfSome}
 use Rattle.formula_lang.specs.Fits.{GrabFits}
-use Rattle.graph.specs.Sound.{IsSound as IsSoundGraph}
-use Rattle.graph.specs.Standing.{Standing, graph, root_in}
+use Rattle.graph.specs.Sound.{IsSoundGraph as IsSoundGraph}
+use Rattle.graph.specs.Standing.{GraphView, graph, root_in}
 use Rattle.inc_terms.specs.Graph.{Built, Def, Row}
 use Rattle.inc_terms.specs.Local.{IsRooted}
 use Rattle.inc_terms.specs.Rebuilding.{outcome_of}
@@ -29,7 +29,7 @@ use Rattle.script_graph.proofs.Grabbing.{HasOwn, alias_sound, alias_stands, grab
 use Rattle.script_graph.specs.Grabbing.{IsRightSide}
 use Rattle.script_graph.specs.Growing.{functions_over}
 use Rattle.script_graph.specs.Kept.{Kept, arena_of, node_in, without_functions}
-use Rattle.script_graph.specs.Sound.{HasLiveNode, IsLiveBind, IsSound}
+use Rattle.script_graph.specs.Sound.{HasLiveNode, IsLiveBind, IsSoundSession}
 use Rattle.script_graph.specs.State.{MatchesMoment, Stands}
 use Rattle.script_model.specs.Check.{Bind, Declared, Grab, Kind, Names, Take, is_bind, kind_of_body}
 use Rattle.script_model.specs.Formula as model
@@ -98,7 +98,7 @@ kind_is : (k : Option Kind) → IsTrue (is_bind k) → k ≡ Some Bind
 kind_is (Some Bind) is = refl
 kind_is k is = absurd (cc)
 
-module _ (k : Kept) (sound : IsSound k) (name : List ℕ) (ty : Ty) (bind : ℕ) (fits : GrabFits k.names name ty bind) where
+module _ (k : Kept) (sound : IsSoundSession k) (name : List ℕ) (ty : Ty) (bind : ℕ) (fits : GrabFits k.names name ty bind) where
   -- its declaration stands for itself
   target : (d : Declared) × (slice_get k.names.declared bind ≡ Some d) × (d.target ≡ bind) × (d.kind ≡ Bind)
   target =
@@ -123,19 +123,19 @@ module _ (k : Kept) (sound : IsSound k) (name : List ℕ) (ty : Ty) (bind : ℕ)
       let b = bind_there e.0.body (ap (λ (d : Declared). d.kind) e.2 ∙ t.3) in
       (b.0, ap (λ (o : Option Entry). and_then (and_then o (λ (d : Entry). Some d.body)) bind_of) e.1 ∙ b.1)
 
-  module _ {A : Type 0} (W : Meaning) (g : Standing A) (graph_is : k.graph ≡ without_functions g) (unbroken : k.broken ≡ None) (sane : IsSoundGraph W g) where
+  module _ {A : Type 0} (W : Meaning) (g : GraphView A) (graph_is : k.graph ≡ without_functions g) (unbroken : k.broken ≡ None) (sane : IsSoundGraph W g) where
     abbrev its_built : Option Built
     its_built = (graph g).built (node_in k.nodes bind)
 
     rooted : (w : Built) → its_built ≡ Some w → IsRooted W.functions (graph g) (node_in k.nodes bind) live.2 live.3 w
     rooted w is =
-        let there = subst (λ (s : Standing (Unit {0})). row_at s.nodes (node_in k.nodes bind) ≡ Some live.0) graph_is live.4 in
+        let there = subst (λ (s : GraphView (Unit {0})). row_at s.nodes (node_in k.nodes bind) ≡ Some live.0) graph_is live.4 in
         sane.built (node_in k.nodes bind) live.0 live.1 live.2 live.3 w there live.5 is
 
     alike : (F : Meanings) (m : Moment) → MatchesMoment F k m → outcome_of its_built ≡ option_map (graph_outcome (node_in k.nodes)) (built_at m.present bind)
     alike F m matches =
         let b = its_bind F m matches in
-        ap (λ (s : Standing (Unit {0})). outcome_of ((graph s).built (node_in k.nodes bind))) (sym graph_is)
+        ap (λ (s : GraphView (Unit {0})). outcome_of ((graph s).built (node_in k.nodes bind))) (sym graph_is)
         ∙ (matches.represents (matches.broken ∙ unbroken)).built bind b.0.0 b.0.1 b.1
 
     pub built_of_root : (F : Meanings) (m : Moment) → MatchesMoment F k m → (root : NodeId) → root_in its_built ≡ Some root
@@ -153,7 +153,7 @@ by_built : {P : Type 0} (built : Option Built) (root : NodeId) → root_in built
 by_built None root is go = absurd (cc)
 by_built (Some w) root is go = go w refl is
 
-module _ (k : Kept) (sound : IsSound k) (name : List ℕ) (ty : Ty) (bind : ℕ) (fits : GrabFits k.names name ty bind) {A : Type 0} (W : Meaning) (g : Standing A)
+module _ (k : Kept) (sound : IsSoundSession k) (name : List ℕ) (ty : Ty) (bind : ℕ) (fits : GrabFits k.names name ty bind) {A : Type 0} (W : Meaning) (g : GraphView A)
     (graph_is : k.graph ≡ without_functions g) (sane : IsSoundGraph W g) where
   -- its declaration's node is live
   its_live : HasLiveNode (arena_of k) k.nodes bind (target k sound name ty bind fits).0
@@ -170,20 +170,20 @@ module _ (k : Kept) (sound : IsSound k) (name : List ℕ) (ty : Ty) (bind : ℕ)
       its_live.typed ∙ (t.typed ∙ f.typed)
 
   there : row_at g.nodes (node_in k.nodes bind) ≡ Some its_live.row
-  there = subst (λ (s : Standing (Unit {0})). row_at s.nodes (node_in k.nodes bind) ≡ Some its_live.row) graph_is its_live.is_row
+  there = subst (λ (s : GraphView (Unit {0})). row_at s.nodes (node_in k.nodes bind) ≡ Some its_live.row) graph_is its_live.is_row
 
   pub root_fits : (root : NodeId) → root_in ((graph g).built (node_in k.nodes bind)) ≡ Some root
       → Given (arena_of k).given root × typing.Fits (arena_of k) root ty
   root_fits root is = by_built ((graph g).built (node_in k.nodes bind)) root is (λ w built is_root.
       let b = live k sound name ty bind fits in
       let here : row_at g.nodes (node_in k.nodes bind) ≡ Some b.0 =
-      subst (λ (s : Standing (Unit {0})). row_at s.nodes (node_in k.nodes bind) ≡ Some b.0) graph_is b.4 in
+      subst (λ (s : GraphView (Unit {0})). row_at s.nodes (node_in k.nodes bind) ≡ Some b.0) graph_is b.4 in
       let e : Some b.0 ≡ Some its_live.row = sym here ∙ there in
       let same : b.0 ≡ its_live.row = cc in
       let makes = subst (λ (d : Def). Makes g.nodes d b.0.ty) b.5 (sane.nodes.types (node_in k.nodes bind) b.0 here) in
       let gives : b.2.sig.gives ≡ ty = makes.gives ∙ (ap (λ (r : Row). r.ty) same ∙ live_ty) in
       let fit = sane.typed (node_in k.nodes bind) b.0 b.1 b.2 b.3 w root here b.5 built is_root in
-      subst (λ (s : Standing (Unit {0})). Given s.nodes.given root × typing.Fits s.nodes root ty) (sym graph_is)
+      subst (λ (s : GraphView (Unit {0})). Given s.nodes.given root × typing.Fits s.nodes root ty) (sym graph_is)
       (fit.0, subst (typing.Fits g.nodes root) gives fit.1))
 
 -- ---- the declaration of a type that has a node
@@ -225,16 +225,16 @@ module _ (k : Kept) (ty : Ty) (root : NodeId) where
 
   module _ (name : List ℕ) (kind : Kind) (target : ℕ) (is : IsGrabbedAs k.names k.nodes root ty kind target) where
     -- what is kept with it fits together
-    pub grabbed_sound : (sound : IsSound k) → arenas.IsSound (arena_of k) → Given (arena_of k).given root × typing.Fits (arena_of k) root ty
-        → IsSound (with_grab k (named_as name kind target) root)
+    pub grabbed_sound : (sound : IsSoundSession k) → arenas.IsSoundArena (arena_of k) → Given (arena_of k).given root × typing.Fits (arena_of k) root ty
+        → IsSoundSession (with_grab k (named_as name kind target) root)
     grabbed_sound sound arena fits = go is
       where
-        go : IsGrabbedAs k.names k.nodes root ty kind target → IsSound (with_grab k (named_as name kind target) root)
+        go : IsGrabbedAs k.names k.nodes root ty kind target → IsSoundSession (with_grab k (named_as name kind target) root)
         go (inl (kind_is, own)) = rw kind_is (alias_sound k sound arena name ty root target (has_own target own))
         go (inr (kind_is, itself, none)) = rw (kind_is, itself) (grab_sound k sound arena name ty root fits)
 
     -- and matches the moment behind the grab
-    pub grabbed_stands : (named : List ℕ → Option FnRef) (value : FnRef → List GraphValue → GraphValue) (sound : IsSound k) → arenas.IsSound (arena_of k)
+    pub grabbed_stands : (named : List ℕ → Option FnRef) (value : FnRef → List GraphValue → GraphValue) (sound : IsSoundSession k) → arenas.IsSoundArena (arena_of k)
         → Rooted (functions_over value k.bodies) (graph k.graph) → (bind : ℕ) → GrabFits k.names name ty bind → IsRightSide k bind root → (m : Moment)
         → Stands (meanings_of named value) k m → m.broken ≡ None
         → MatchesMoment (meanings_of named value) (with_grab k (named_as name kind target) root) (moved m (Take name ty bind))

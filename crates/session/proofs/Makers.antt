@@ -15,7 +15,7 @@ use Rattle.script_functions.specs.Keeping.{Maker, makers, side_in}
 use Rattle.script_graph.specs.Kept.{Kept, arena_of, node_in}
 use Rattle.script_graph.specs.Represents.{Represents, Watches, beside, besides, graph_functions}
 use Rattle.script_graph.specs.Settled.{Settled}
-use Rattle.script_graph.specs.Sound.{IsSound, weight_at, weight_of}
+use Rattle.script_graph.specs.Sound.{IsSoundSession, weight_at, weight_of}
 use Rattle.script_graph.specs.Stabilizing.{IsAccepted, IsCircular, IsCutShort, IsTooDeep}
 use Rattle.script_graph.specs.State.{MatchesMoment}
 use Rattle.script_model.specs.Formula.{Meanings, State, body_at}
@@ -162,7 +162,7 @@ module _ (k : Kept) (bodies : List Body) (same : makers bodies ≡ makers k.bodi
       let now = sum_by-cons (weight_at bodies a) n ns in
       omega (arith, first, rest, was, now)
 
-  pub sound_now : IsSound k → IsSound (record k { bodies = bodies })
+  pub sound_now : IsSoundSession k → IsSoundSession (record k { bodies = bodies })
   sound_now sound = record {
     one_node_each = sound.one_node_each;
     has_nodes = sound.has_nodes;

@@ -11,7 +11,7 @@ use Rattle.formula_elab.specs.Types.{AreTypedAsTargets}
 use Rattle.formula_elab.specs.declared.make.Made.{Made}
 use Rattle.formula_elab.specs.declared.make.Made.TheVariants as was
 use Rattle.formula_elab.specs.declared.plan.Planned.TheVariants as planned
-use Rattle.graph.specs.Standing.{Standing}
+use Rattle.graph.specs.Standing.{GraphView}
 use Rattle.inc_terms.specs.Term.{Functions}
 use Rattle.inc_value.specs.declared.function.FnRef.{FnRef}
 use Rattle.inc_value.specs.declared.value.Value.{Value}
@@ -100,7 +100,7 @@ bodies_all = bodies_within
 
 module _ {A : Type 0} where
   -- of what is next, what was made is of its kind
-  pub answers_next : (H : Functions) (old new : Standing A) (makes : List Planned) (made : List Made) (m : Make) → IsNext makes made (Some m) → (one : Made)
+  pub answers_next : (H : Functions) (old new : GraphView A) (makes : List Planned) (made : List Made) (m : Make) → IsNext makes made (Some m) → (one : Made)
       → IsMadeIn H old new m one → (x : Planned) × (slice_get makes (length made) ≡ Some x) × IsMadeAs x one
   answers_next H old new makes made m (planned.Node y, at, is) one done =
       (planned.Node y, at, node_is one (subst (λ (n : Make). IsMadeIn H old new n one) is done))
@@ -112,8 +112,8 @@ module _ {A : Type 0} where
       let kept = subst (λ (n : Make). IsMadeIn H old new n one) is done in
       (planned.Body o, at, (kept.is_function, kept.kind, kept.sig ∙ filled.sig))
 
-  module _ (maps maps' : FnRef → Bool) (value value' : FnRef → List Value → Value) (bodies bodies' : List Body) (first now new : Standing A)
-      (makes : List Planned) (made : List Made) (so : MadeSoFar maps value bodies first now makes made) (sound : arenas.IsSound now.nodes)
+  module _ (maps maps' : FnRef → Bool) (value value' : FnRef → List Value → Value) (bodies bodies' : List Body) (first now new : GraphView A)
+      (makes : List Planned) (made : List Made) (so : MadeSoFar maps value bodies first now makes made) (sound : arenas.IsSoundArena now.nodes)
       (stay : StayKnown maps maps' bodies bodies') where
     pub made_more : (m : Make) → IsNext makes made (Some m) → (one : Made) → IsMadeIn (functions_over value' bodies') now new m one
         → IsServing (is_known maps' (makers bodies')) (side_in (makers bodies')) m one → MadeSoFar maps' value' bodies' first new makes (made ++ one ∷ [])

@@ -9,7 +9,7 @@ use Rattle.std.specs.Str.{bytes_eq}
 use Rattle.indexmap.specs.IndexMap.{swap_remove_by}
 use Rattle.formula_lang.specs.Fits.{ObserverFits}
 use Rattle.graph.specs.Effects.{Observes, IsObserveFault, IsObserverFault}
-use Rattle.graph.specs.Standing.{Standing, node_at, looked_at, shown_of, IsUnbroken, IsBroken}
+use Rattle.graph.specs.Standing.{GraphView, node_at, looked_at, shown_of, IsUnbroken, IsBroken}
 use Rattle.graph.specs.declared.fault.GraphFault.{GraphFault}
 use Rattle.graph.specs.declared.fault.GraphFault.TheVariants as fault
 use Rattle.graph.specs.declared.fault.Kept.{Kept as Cause}
@@ -20,12 +20,12 @@ use Rattle.inc_value.specs.declared.node.NodeId.{NodeId}
 use Rattle.inc_value.specs.declared.node.ObsId.{ObsId}
 use Rattle.inc_value.specs.declared.outcome.Outcome as engine
 use Rattle.node_arena.specs.Arena.{Arena}
-use Rattle.node_arena.specs.Sound.{IsSound as IsSoundArena}
+use Rattle.node_arena.specs.Sound.{IsSoundArena as IsSoundArena}
 use Rattle.script_model.specs.Check.{Names, Declared, Kind, Grab, Observe, is_among}
 use Rattle.script_model.specs.Formula.{Meanings}
 use Rattle.script_model.specs.Step.{Moment, moved}
 use Rattle.script_graph.specs.Kept.{Kept, arena_of, node_in, without_functions}
-use Rattle.script_graph.specs.Sound.{AreFew, HasNode, HaveNodes, IsSound}
+use Rattle.script_graph.specs.Sound.{AreFew, HasNode, HaveNodes, IsSoundSession}
 use Rattle.script_graph.specs.Shown.{ShowsIt, ShowsNothing}
 use Rattle.script_graph.specs.State.{MatchesMoment}
 use Rattle.script_graph.proofs.Observing.{get_end, get_within, observing_stands, shows_it, shows_nothing, with_observer}
@@ -91,7 +91,7 @@ last_among [] name = rw (same_bytes name) refl
 last_among (x ∷ names) name = or_true (bytes_eq name x) (is_among (names ++ name ∷ []) name) (last_among names name)
 
 -- without memory for the observer all is as it was
-pub as_before : (k : Kept) (sound : IsSound k) (name : List ℕ) (between after : Names) (os : List ObsId) (g : Standing (Unit {0}))
+pub as_before : (k : Kept) (sound : IsSoundSession k) (name : List ℕ) (between after : Names) (os : List ObsId) (g : GraphView (Unit {0}))
     → IsFalse (is_among k.names.observers name) → between ≡ record k.names { observers = k.names.observers ++ name ∷ [] }
     → after ≡ record between { observers = swap_remove_by (bytes_eq name) between.observers } → os ≡ k.observers → g ≡ k.graph
     → record k { names = after; observers = os; graph = g } ≡ k
@@ -101,12 +101,12 @@ as_before k sound name between after os g fresh between_is after_is os_is g_is =
     rw (names_back, os_is, g_is) refl
 
 -- and it fits together still
-pub as_before_sound : (k : Kept) (sound : IsSound k) (name : List ℕ) (between after : Names) (os : List ObsId) (g : Standing (Unit {0}))
+pub as_before_sound : (k : Kept) (sound : IsSoundSession k) (name : List ℕ) (between after : Names) (os : List ObsId) (g : GraphView (Unit {0}))
     → IsFalse (is_among k.names.observers name) → between ≡ record k.names { observers = k.names.observers ++ name ∷ [] }
     → after ≡ record between { observers = swap_remove_by (bytes_eq name) between.observers } → os ≡ k.observers → g ≡ k.graph
-    → IsSound (record k { names = after; observers = os; graph = g })
+    → IsSoundSession (record k { names = after; observers = os; graph = g })
 as_before_sound k sound name between after os g fresh between_is after_is os_is g_is =
-    subst IsSound (sym (as_before k sound name between after os g fresh between_is after_is os_is g_is)) sound
+    subst IsSoundSession (sym (as_before k sound name between after os g fresh between_is after_is os_is g_is)) sound
 
 -- ---- lists by places
 
@@ -146,7 +146,7 @@ looks_within (o ∷ os) (suc i) h = let rest = looks_within os i h in omega (ari
 -- ---- a target's node
 
 -- the node at a declaration's place was given
-target_given : (k : Kept) → IsSound k → IsSoundArena (arena_of k) → (target : ℕ) → target < length k.names.declared
+target_given : (k : Kept) → IsSoundSession k → IsSoundArena (arena_of k) → (target : ℕ) → target < length k.names.declared
     → Given (arena_of k).given (node_in k.nodes target)
 target_given k sound arena target less = given_of declared.0 declared.1
   where
@@ -182,13 +182,13 @@ target_node (n ∷ nodes) zero node is = cc
 target_node (n ∷ nodes) (suc target) node is = target_node nodes target node is
 
 -- it was given
-pub given_node : (k : Kept) → IsSound k → IsSoundArena (arena_of k) → (target : ℕ) → target < length k.names.declared → (node : NodeId)
+pub given_node : (k : Kept) → IsSoundSession k → IsSoundArena (arena_of k) → (target : ℕ) → target < length k.names.declared → (node : NodeId)
     → slice_get k.nodes target ≡ Some node → Given (arena_of k).given node
 given_node k sound arena target less node is =
     subst (Given (arena_of k).given) (sym (target_node k.nodes target node is)) (target_given k sound arena target less)
 
 -- a graph that is observed, but for its functions
-pub observes_so : {F : Type 0} (old new : Standing F) (o : ObsId) (node other : NodeId) → Observes old new o node → node ≡ other
+pub observes_so : {F : Type 0} (old new : GraphView F) (o : ObsId) (node other : NodeId) → Observes old new o node → node ≡ other
     → Observes (without_functions old) (without_functions new) o other
 observes_so old new o node other h same = record {
   id = h.id;
@@ -198,13 +198,13 @@ observes_so old new o node other h same = record {
 
 -- ---- what is kept with a new observer
 
-module _ (k : Kept) (name : List ℕ) (target : ℕ) (o : ObsId) (g : Standing (Unit {0})) (sound : IsSound k)
+module _ (k : Kept) (name : List ℕ) (target : ℕ) (o : ObsId) (g : GraphView (Unit {0})) (sound : IsSoundSession k)
     (observes : Observes k.graph g o (node_in k.nodes target)) where
   observers_more : g.observers ≡ k.graph.observers ++ record { node = node_in k.nodes target; in_use = true } ∷ []
-  observers_more = ap (λ (h : Standing (Unit {0})). h.observers) observes.rest
+  observers_more = ap (λ (h : GraphView (Unit {0})). h.observers) observes.rest
 
   arena_same : g.nodes ≡ arena_of k
-  arena_same = ap (λ (h : Standing (Unit {0})). h.nodes) observes.rest
+  arena_same = ap (λ (h : GraphView (Unit {0})). h.nodes) observes.rest
 
   looks_old : (p : ObsId) → Among p k.observers → IsSome (node_at g.observers p)
   looks_old p among =
@@ -221,7 +221,7 @@ module _ (k : Kept) (name : List ℕ) (target : ℕ) (o : ObsId) (g : Standing (
   new_id : Among o k.observers → ⊥
   new_id among = let less = looks_within k.graph.observers o.0 (sound.looking o among) in let id = observes.id in absurd (omega (arith, less, id))
 
-  sound_observed : IsSound (with_observer k name o g)
+  sound_observed : IsSoundSession (with_observer k name o g)
   sound_observed = record {
     one_node_each = sound.one_node_each;
     has_nodes = subst (λ (a : Arena). HaveNodes a k.names.declared k.nodes) (sym arena_same) sound.has_nodes;
@@ -229,7 +229,7 @@ module _ (k : Kept) (name : List ℕ) (target : ℕ) (o : ObsId) (g : Standing (
     one_observer_each = length_more k.observers o ∙ ap (λ (n : ℕ). n + 1) sound.one_observer_each ∙ sym (length_more k.names.observers name);
     looking = λ p among. looks p (among_push k.observers o p among);
     apart = apart_push k.observers o sound.apart new_id;
-    unbroken = λ e. ap (λ (h : Standing (Unit {0})). h.refused) observes.rest ∙ sound.unbroken e;
+    unbroken = λ e. ap (λ (h : GraphView (Unit {0})). h.refused) observes.rest ∙ sound.unbroken e;
   }
     where
       looks : (p : ObsId) → Among p k.observers ⊎ (p ≡ o) → IsSome (node_at g.observers p)
@@ -239,7 +239,7 @@ module _ (k : Kept) (name : List ℕ) (target : ℕ) (o : ObsId) (g : Standing (
   module _ (names : Names) (os : List ObsId) (names_are : names ≡ record k.names { observers = k.names.observers ++ name ∷ [] })
       (os_are : os ≡ k.observers ++ o ∷ []) where
     -- what is kept fits together
-    pub observed_sound : IsSound (record k { names = names; observers = os; graph = g })
+    pub observed_sound : IsSoundSession (record k { names = names; observers = os; graph = g })
     observed_sound = rw (names_are, os_are) sound_observed
 
     -- and it matches the moment with an observer more
@@ -251,7 +251,7 @@ module _ (k : Kept) (name : List ℕ) (target : ℕ) (o : ObsId) (g : Standing (
 
 -- ---- faults that don't come
 
-module _ {F : Type 0} (s : Standing F) (unbroken : IsUnbroken s) where
+module _ {F : Type 0} (s : GraphView F) (unbroken : IsUnbroken s) where
   -- it isn't broken
   pub not_broken : (cause : Cause) → IsBroken s cause → ⊥
   not_broken cause broken = let is = broken.1 in let none = unbroken in absurd (cc)
@@ -301,7 +301,7 @@ module _ {F : Type 0} (s : Standing F) (unbroken : IsUnbroken s) where
 
 -- ---- what the observer of a name shows
 
-module _ (k : Kept) (sound : IsSound k) (unbroken : k.broken ≡ None) (name : List ℕ) (i : ℕ) (o : ObsId) (within : i < length k.names.observers)
+module _ (k : Kept) (sound : IsSoundSession k) (unbroken : k.broken ≡ None) (name : List ℕ) (i : ℕ) (o : ObsId) (within : i < length k.names.observers)
     (at_name : slice_get k.names.observers i ≡ Some name) (index : o ≡ slice_index_or k.observers i o) where
   at_id : slice_get k.observers i ≡ Some o
   at_id =

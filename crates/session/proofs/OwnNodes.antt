@@ -6,14 +6,14 @@ use Rattle.formula_lang.specs.NamesView.{AreEarlier}
 use Rattle.inc_value.specs.declared.node.NodeId.{NodeId}
 use Rattle.indexed_nodes.specs.Indexed.{IsFirst, IsNowhere}
 use Rattle.script_graph.specs.Kept.{Kept, no_node, node_in}
-use Rattle.script_graph.specs.Sound.{IsSound}
+use Rattle.script_graph.specs.Sound.{IsSoundSession}
 use Rattle.script_model.specs.Check.{Declared, Names}
 use Rattle.session.proofs.Observed.{target_node}
 use Rattle.session.proofs.Passing.{index_get}
 use Rattle.session.specs.Replies.{HaveTargets, IsOwnNode}
 
 -- what is kept has a node for each declaration's target
-pub have_targets : (k : Kept) → IsSound k → HaveTargets k.names.declared k.nodes
+pub have_targets : (k : Kept) → IsSoundSession k → HaveTargets k.names.declared k.nodes
 have_targets k sound n d is = (sound.has_nodes n d is).target
 
 -- ---- positions

@@ -1,7 +1,7 @@
 -- The declaration of a node: that in whose formula it stands, or the grab whose node it was; and whether a cycle passes it.
 use Rattle.std.proofs.Common.{◌≡◌, ℕ, List, [], ◌∷◌, Option, None, Some, IsSome, refl, ap, sym, subst, ◌∙◌, slice_get}
 use Rattle.std.specs.Prelude.{IfNone, IfSome}
-use Rattle.graph.specs.Standing.{Standing, IsOwner, graph}
+use Rattle.graph.specs.Standing.{GraphView, IsOwner, graph}
 use Rattle.height_order.specs.Chains.{StartsAt}
 use Rattle.inc_terms.specs.Depend.{main}
 use Rattle.inc_terms.specs.Graph.{Row}
@@ -22,7 +22,7 @@ no_row : {R : Type 0} (o : Option R) → (IsSome o → ⊥) → o ≡ None
 no_row None dead = refl
 no_row (Some r) dead = absurd (dead refl)
 
-module _ {A : Type 0} (names : Names) (nodes : List NodeId) (g : Standing A) (n : NodeId) where
+module _ {A : Type 0} (names : Names) (nodes : List NodeId) (g : GraphView A) (n : NodeId) where
   -- ---- a node with an owner
 
   module _ (top : NodeId) (is : IsOwner (graph g) n top) where
@@ -63,19 +63,19 @@ begins_first [] q p first begins = absurd begins
 begins_first (r ∷ items) q p first begins = let same : r ≡ q = cc in sym same ∙ begins
 
 -- what is so of its first point's node is so of the node where the chain begins
-pub at_beginning : {A : Type 0} (P : NodeId → Type 0) (g : Standing A) (points : _) (q : Point) → g.refused ≡ Some (Height points)
+pub at_beginning : {A : Type 0} (P : NodeId → Type 0) (g : GraphView A) (points : _) (q : Point) → g.refused ≡ Some (Height points)
     → slice_get points.items 0 ≡ Some q → P q.node → (p : Point) → ChainBegins g.refused p → P p.node
 at_beginning P g points q met first is p begins =
     let starts : StartsAt points.items p = subst (λ (r : Option Refused). ChainBegins r p) met begins in
     subst (λ (r : Point). P r.node) (begins_first points.items q p first starts) is
 
-pub told_begins : {A : Type 0} (names : Names) (nodes : List NodeId) (g : Standing A) (points : _) (q : Point) → g.refused ≡ Some (Height points)
+pub told_begins : {A : Type 0} (names : Names) (nodes : List NodeId) (g : GraphView A) (points : _) (q : Point) → g.refused ≡ Some (Height points)
     → slice_get points.items 0 ≡ Some q → (found : Option ℕ) → IfSome found (IsTold names.declared nodes g q.node)
     → IfSome found (λ i. (p : Point) → ChainBegins g.refused p → IsTold names.declared nodes g p.node i)
 told_begins names nodes g points q met first None told = tt
 told_begins names nodes g points q met first (Some i) told = at_beginning (λ n. IsTold names.declared nodes g n i) g points q met first told
 
-pub none_begins : {A T : Type 0} (names : Names) (nodes : List NodeId) (g : Standing A) (points : _) (q : Point) → g.refused ≡ Some (Height points)
+pub none_begins : {A T : Type 0} (names : Names) (nodes : List NodeId) (g : GraphView A) (points : _) (q : Point) → g.refused ≡ Some (Height points)
     → slice_get points.items 0 ≡ Some q → (found : Option T) → IfNone found (NoneTold names.declared nodes g q.node)
     → IfNone found ((p : Point) → ChainBegins g.refused p → NoneTold names.declared nodes g p.node)
 none_begins names nodes g points q met first (Some t) none = tt
@@ -87,7 +87,7 @@ none_begins names nodes g points q met first None none = at_beginning (NoneTold 
 is_main : (p : Point) (n : NodeId) → p.part ≡ Main → n ≡ p.node → p ≡ main n
 is_main p n part node = ap (λ (x : Part). record { node = p.node; part = x }) part ∙ ap main (sym node)
 
-module _ {A : Type 0} (names : Names) (nodes : List NodeId) (g : Standing A) (before point : Point) where
+module _ {A : Type 0} (names : Names) (nodes : List NodeId) (g : GraphView A) (before point : Point) where
   -- the declaration is passed whose main the point is, which its bind's main doesn't read
   pub passed_own : point.part ≡ Main → (IsOwnRoot g before point.node → ⊥) → (found : Option ℕ) → IfSome found (IsOwnNode names nodes point.node)
       → IfSome found (IsPassed g names.declared nodes before point)
@@ -107,7 +107,7 @@ module _ {A : Type 0} (names : Names) (nodes : List NodeId) (g : Standing A) (be
 -- ---- a right side that its own bind's main reads
 
 -- a root that its bind's main reads has that owner
-pub own_root : {A : Type 0} (g : Standing A) (p : Point) (n top : NodeId) → IsOwner (graph g) n top → IsOwnRoot g p n
+pub own_root : {A : Type 0} (g : GraphView A) (p : Point) (n top : NodeId) → IsOwner (graph g) n top → IsOwnRoot g p n
     → (top ≡ n → ⊥) × (p ≡ main top)
 own_root g p n top is own =
     let same : own.0 ≡ top = one_owner (graph g) n own.0 top own.1 is in (
@@ -116,5 +116,5 @@ own_root g p n top is own =
     )
 
 -- what isn't live has no owner whose main could read it
-pub no_root : {A : Type 0} (g : Standing A) (p : Point) (n : NodeId) → (IsLive g.nodes n → ⊥) → IsOwnRoot g p n → ⊥
+pub no_root : {A : Type 0} (g : GraphView A) (p : Point) (n : NodeId) → (IsLive g.nodes n → ⊥) → IsOwnRoot g p n → ⊥
 no_root g p n dead own = dead (owned_is_live (graph g) n own.0 own.1)

@@ -4,7 +4,7 @@ use Rattle.std.proofs.lemmas.Grind.{flat_map-append}
 use Rattle.std.proofs.lemmas.List.{append_assoc}
 use Rattle.std.specs.List.{flat_map}
 use Rattle.std.specs.Prelude.{codes, if◌then◌else◌, is_ok, Result, Ok, Err, OnOk}
-use Rattle.graph.specs.Standing.{Standing}
+use Rattle.graph.specs.Standing.{GraphView}
 use Rattle.wiring.specs.declared.refused.Refused.{Refused}
 use Rattle.wiring.specs.declared.refused.Refused.TheVariants.{Cycle}
 use Rattle.script_graph.specs.Kept.{without_functions}
@@ -28,7 +28,7 @@ index_get [] i d low = absurd (omega (arith, low))
 index_get (x ∷ xs) zero d low = refl
 index_get (x ∷ xs) (suc i) d low = index_get xs i d (omega (arith, low))
 
-module _ {A : Type 0} (g : Standing A) (declared : List Declared) (nodes : List NodeId) where
+module _ {A : Type 0} (g : GraphView A) (declared : List Declared) (nodes : List NodeId) where
   -- a walk of one point at most passes none
   short : (points : List Point) (i : ℕ) → length points ≤ suc i → PassesAll g declared nodes (drop i points) []
   short [] zero few = refl
@@ -106,7 +106,7 @@ module _ {A : Type 0} (g : Standing A) (declared : List Declared) (nodes : List 
 
 -- ---- the cycle
 
-module _ {A : Type 0} (g : Standing A) (declared : List Declared) (nodes : List NodeId) where
+module _ {A : Type 0} (g : GraphView A) (declared : List Declared) (nodes : List NodeId) where
   -- what is passed doesn't depend on the functions
   from_without : (p : Point) (points : List Point) (targets : List ℕ) → PassesFrom g declared nodes p points targets
       → PassesFrom (without_functions g) declared nodes p points targets
@@ -119,7 +119,7 @@ module _ {A : Type 0} (g : Standing A) (declared : List Declared) (nodes : List 
   without (p ∷ points) targets passes = from_without p points targets passes
 
 -- what the points of the cycle that was met pass, that cycle passes
-pub cycle_told : {A : Type 0} (g : Standing A) (declared : List Declared) (nodes : List NodeId) (points : _) (items : List Point) (targets : List ℕ)
+pub cycle_told : {A : Type 0} (g : GraphView A) (declared : List Declared) (nodes : List NodeId) (points : _) (items : List Point) (targets : List ℕ)
     → g.refused ≡ Some (Cycle points) → items ≡ points.items → PassesAll g declared nodes items targets
     → CyclePasses (without_functions g) declared nodes targets
 cycle_told g declared nodes points items targets met same_items passes =

@@ -6,9 +6,9 @@ use Rattle.std.proofs.Math.Nat.{min-eq_left}
 use Rattle.std.proofs.Math.Path.{fun_ext}
 use Rattle.stabilize_round.specs.Counts.{last_count}
 use Rattle.graph.specs.Fault.{kept_of}
-use Rattle.graph.specs.Sound.{IsSound as IsSoundGraph}
+use Rattle.graph.specs.Sound.{IsSoundGraph as IsSoundGraph}
 use Rattle.graph.specs.Stabilizes.{left_by, IsRefusedFor, LeavesNodes}
-use Rattle.graph.specs.Standing.{Standing, graph, IsUnbroken, node_at}
+use Rattle.graph.specs.Standing.{GraphView, graph, IsUnbroken, node_at}
 use Rattle.graph.specs.declared.fault.Kept.{Kept as Cause}
 use Rattle.graph.specs.declared.fault.Kept.TheVariants as cause
 use Rattle.graph.specs.declared.fault.StabilizeFault.{StabilizeFault}
@@ -36,7 +36,7 @@ use Rattle.script_graph.proofs.Few.{sum_less}
 use Rattle.script_graph.proofs.Refusing.{IsSessions}
 use Rattle.script_graph.specs.Growing.{functions_over}
 use Rattle.script_graph.specs.Kept.{Kept, arena_of, node_in, without_functions}
-use Rattle.script_graph.specs.Sound.{AreFew, HasLiveNode, HaveNodes, IsLiveBind, IsSound, weight_at, weight_of}
+use Rattle.script_graph.specs.Sound.{AreFew, HasLiveNode, HaveNodes, IsLiveBind, IsSoundSession, weight_at, weight_of}
 use Rattle.script_graph.specs.Stabilizing.{ChainBegins, IsCircular, IsCycleMet, IsTold, closed}
 use Rattle.script_model.specs.Check.{Declared}
 use Rattle.script_model.specs.Formula.{Meanings}
@@ -50,7 +50,7 @@ use Rattle.wiring.specs.declared.refused.Refused.TheVariants as refused
 -- ---- nodes that a stabilize leaves
 
 -- what stands in no scope stands inside no bind
-not_inside : {A : Type 0} (g : Standing A) (b n : NodeId) (r : Row) → row_at g.nodes n ≡ Some r → r.scope ≡ None → Inside (graph g) b n → ⊥
+not_inside : {A : Type 0} (g : GraphView A) (b n : NodeId) (r : Row) → row_at g.nodes n ≡ Some r → r.scope ≡ None → Inside (graph g) b n → ⊥
 not_inside g b n r row outside (direct {r = q} there scope) = let e : Some r ≡ Some q = sym row ∙ there in cc
 not_inside g b n r row outside (nested {r = q} there scope inside) = let e : Some r ≡ Some q = sym row ∙ there in cc
 
@@ -58,7 +58,7 @@ not_inside g b n r row outside (nested {r = q} there scope inside) = let e : Som
 abbrev counted : List Body → Option Row → ℕ
 counted bodies row = elim row [ None ↦ 0 | Some r ↦ weight_of bodies r.def ]
 
-module _ {A : Type 0} (M : Functions) (old new : Standing A) (before after : Counts) (arena : arenas.IsSound old.nodes)
+module _ {A : Type 0} (M : Functions) (old new : GraphView A) (before after : Counts) (arena : arenas.IsSoundArena old.nodes)
     (stays : GraphStays old.nodes.given new.nodes.given (graph old) (left_by old new)) (left : LeavesNodes M old new before after) where
   given_old : (n : NodeId) (r : Row) → row_at old.nodes n ≡ Some r → Given old.nodes.given n
   given_old n r is = arena.given n (ap is_some is)
@@ -150,11 +150,11 @@ module _ {A : Type 0} (M : Functions) (old new : Standing A) (before after : Cou
               omega (arith, e)
 
   -- what is kept fits together over the graph as it is left, if that is unbroken where nothing broke the session
-  pub left_sound : (k : Kept) → IsSound k → k.graph ≡ without_functions old → new.observers ≡ old.observers → (accepted : ℕ) (broken : Option ℕ)
-      → (broken ≡ None → IsUnbroken new) → IsSound (record k { accepted = accepted; broken = broken; graph = without_functions new })
+  pub left_sound : (k : Kept) → IsSoundSession k → k.graph ≡ without_functions old → new.observers ≡ old.observers → (accepted : ℕ) (broken : Option ℕ)
+      → (broken ≡ None → IsUnbroken new) → IsSoundSession (record k { accepted = accepted; broken = broken; graph = without_functions new })
   left_sound k sound same observers accepted broken unbroken =
-      let nodes : arena_of k ≡ old.nodes = ap (λ (g : Standing (Unit {0})). g.nodes) same in
-      let watching : k.graph.observers ≡ new.observers = ap (λ (g : Standing (Unit {0})). g.observers) same ∙ sym observers in
+      let nodes : arena_of k ≡ old.nodes = ap (λ (g : GraphView (Unit {0})). g.nodes) same in
+      let watching : k.graph.observers ≡ new.observers = ap (λ (g : GraphView (Unit {0})). g.observers) same ∙ sym observers in
       record {
         one_node_each = sound.one_node_each;
         has_nodes = have_nodes k.names.declared k.nodes (subst (λ (a : Arena). HaveNodes a k.names.declared k.nodes) nodes sound.has_nodes);
@@ -190,7 +190,7 @@ met_memory (refused.Height points) e = absurd (cc)
 met_memory refused.Full e = absurd (cc)
 met_memory refused.Memory e = refl
 
-pub memory_met : {A : Type 0} (M : Functions) (old new : Standing A) → IsRefusedFor M old new cause.Memory → new.refused ≡ Some refused.Memory
+pub memory_met : {A : Type 0} (M : Functions) (old new : GraphView A) → IsRefusedFor M old new cause.Memory → new.refused ≡ Some refused.Memory
 memory_met M old new done = done.broken ∙ ap (λ (r : Refused). Some r) (met_memory done.met done.is_cause)
 
 -- what was met where it was a cycle
@@ -200,7 +200,7 @@ met_cycle (refused.Height points) e = absurd (cc)
 met_cycle refused.Full e = absurd (cc)
 met_cycle refused.Memory e = absurd (cc)
 
-pub cycle_met : {A : Type 0} (M : Functions) (old new : Standing A) → IsRefusedFor M old new cause.Cycle → IsCycleMet new.refused
+pub cycle_met : {A : Type 0} (M : Functions) (old new : GraphView A) → IsRefusedFor M old new cause.Cycle → IsCycleMet new.refused
 cycle_met M old new done = subst IsCycleMet (sym done.broken) (met_cycle done.met done.is_cause)
 
 -- the declarations that it passes are told with the first once more at their end
@@ -212,7 +212,7 @@ circular_closed F m k targets first more called calls is circular =
 -- ---- where a chain begins
 
 -- the declaration that is told of it
-pub told_of : {A : Type 0} (declared : List Declared) (nodes : List NodeId) (g : Standing A) (found target : ℕ) → found ≡ target
+pub told_of : {A : Type 0} (declared : List Declared) (nodes : List NodeId) (g : GraphView A) (found target : ℕ) → found ≡ target
     → ((p : Point) → ChainBegins g.refused p → IsTold declared nodes g p.node found) → (p : Point) → ChainBegins g.refused p
     → IsTold declared nodes g p.node target
 told_of declared nodes g found target is told p begins = subst (IsTold declared nodes g p.node) is (told p begins)
@@ -234,8 +234,8 @@ same_functions value value' ms ms' values made =
     ap (λ (v : FnRef → List GraphValue → GraphValue). meaning v (side_in ms')) (fun_ext (λ f. fun_ext (λ args. values f args)))
     ∙ ap (λ (m : List Maker). meaning value (side_in m)) made
 
-pub of_sessions : {A : Type 0} (value value' : FnRef → List GraphValue → GraphValue) (k : Kept) (bodies : List Body) (old new : Standing A) (W W' : Meaning)
-    (before after : Counts) → k.graph ≡ without_functions old → k.broken ≡ None → IsSound k → IsSoundGraph W old → W.functions ≡ functions_over value k.bodies
+pub of_sessions : {A : Type 0} (value value' : FnRef → List GraphValue → GraphValue) (k : Kept) (bodies : List Body) (old new : GraphView A) (W W' : Meaning)
+    (before after : Counts) → k.graph ≡ without_functions old → k.broken ≡ None → IsSoundSession k → IsSoundGraph W old → W.functions ≡ functions_over value k.bodies
     → IsSoundGraph W' new → W'.functions ≡ functions_over value' bodies → SameValues (seen_value value) (seen_value value') → makers bodies ≡ makers k.bodies
     → GraphStays old.nodes.given new.nodes.given (graph old) (left_by old new) → LeavesNodes (functions_over value k.bodies) old new before after
     → IsSessions value k old new

@@ -4,7 +4,7 @@ use Rattle.formula_elab.specs.Make as make
 use Rattle.formula_elab.specs.Make.{Make, function_made}
 use Rattle.formula_elab.specs.declared.plan.Planned.{Planned}
 use Rattle.formula_elab.specs.declared.make.Made.{Made}
-use Rattle.graph.specs.Standing.{Standing}
+use Rattle.graph.specs.Standing.{GraphView}
 use Rattle.inc_value.specs.declared.function.FnRef.{FnRef}
 use Rattle.inc_value.specs.declared.value.Value.{Value}
 use Rattle.node_arena.specs.Meanings.{KeepsKnown}
@@ -30,13 +30,13 @@ pub record StayKnown (maps maps' : FnRef → Bool) (bodies bodies' : List Body) 
   pub sides : (f : FnRef) → IsTrue (is_known maps (makers bodies) f) → side_in (makers bodies') f ≡ side_in (makers bodies) f
 
 -- over a library that knows these maps and has these values, and the bodies that are kept, so much of what is to be made was made, and its functions serve
-pub record MadeSoFar {A : Type 0} (maps : FnRef → Bool) (value : FnRef → List Value → Value) (bodies : List Body) (first now : Standing A)
+pub record MadeSoFar {A : Type 0} (maps : FnRef → Bool) (value : FnRef → List Value → Value) (bodies : List Body) (first now : GraphView A)
     (makes : List Planned) (made : List Made) : Type 0 where
   pub making : IsMaking (functions_over value bodies) first now makes made
   pub served : AreServed (is_known maps (makers bodies)) (side_in (makers bodies)) makes made
 
 -- all of it was made
-pub record AreMade {A : Type 0} (maps : FnRef → Bool) (value : FnRef → List Value → Value) (bodies : List Body) (first now : Standing A)
+pub record AreMade {A : Type 0} (maps : FnRef → Bool) (value : FnRef → List Value → Value) (bodies : List Body) (first now : GraphView A)
     (makes : List Planned) (made : List Made) : Type 0 where
   pub so_far : MadeSoFar maps value bodies first now makes made
   pub whole : length made ≡ length makes

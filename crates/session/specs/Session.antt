@@ -3,7 +3,7 @@ use Rattle.std.specs.Prelude.{ℕ}
 use Rattle.script_graph.specs.Kept.{Kept}
 
 -- the library, how many right sides of binds were built, or were to be, what is kept, and how many lines were taken
-pub record Standing (L : Type 0) : Type 0 where
+pub record SessionView (L : Type 0) : Type 0 where
   pub library : L
   pub builds : ℕ
   pub kept : Kept

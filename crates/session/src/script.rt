@@ -44,7 +44,7 @@ pub(crate) struct Script<L: Library> {
 impl<L: Library> Model for Script<L> {
     ghost use Rattle.script_graph.specs.Kept as kept;
     ghost use Rattle.script_graph.specs.Kept.{without_functions};
-    ghost use Rattle.script_graph.specs.Sound.{IsSound};
+    ghost use Rattle.script_graph.specs.Sound.{IsSoundSession};
 
     ghost Value = { kept.Script L };
 
@@ -63,7 +63,7 @@ impl<L: Library> Model for Script<L> {
       };
     } };
 
-    ghost invariant = { λ s. IsSound (record {
+    ghost invariant = { λ s. IsSoundSession (record {
       names = s.names;
       nodes = s.nodes.items;
       observers = s.observers.items;

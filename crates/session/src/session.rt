@@ -31,9 +31,9 @@ impl<L: Library> Drop for Session<L> {
 }
 
 impl<L: Library> Model for Session<L> {
-    ghost use Rattle.session.specs.Session.{Standing};
+    ghost use Rattle.session.specs.Session.{SessionView};
 
-    ghost Value = { Standing L };
+    ghost Value = { SessionView L };
 
     ghost view = { λ s. record { library = s.script.library; builds = s.script.builds; kept = s.script.kept; lines = s.lines } };
 

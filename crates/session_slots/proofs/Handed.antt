@@ -6,7 +6,7 @@ use Rattle.std.proofs.lemmas.List.{append_assoc, append-nil}
 use Rattle.script_graph.specs.State.{Stands}
 use Rattle.script_model.specs.Run.{Turn, Chain, bytes_of, lines_read, transcript}
 use Rattle.script_model.specs.Step.{Moment}
-use Rattle.session.specs.Session.{Standing}
+use Rattle.session.specs.Session.{SessionView}
 use Rattle.std_library.specs.Calls.{Calls}
 use Rattle.session_slots.specs.Holding.{standard}
 use Rattle.session_slots.specs.Handed.{Given, AreGiven, HandsOutTranscripts}
@@ -35,7 +35,7 @@ runs_on h m [] end stands same = (
 )
 runs_on h m (g ∷ givens) end stands (taken, same, split, more) =
     let t = taken.0 m stands in
-    let later = runs_on g.after t.turn.after givens end (subst (λ (s : Standing Calls). Stands standard s.kept t.turn.after) (sym same) t.stands) more in (
+    let later = runs_on g.after t.turn.after givens end (subst (λ (s : SessionView Calls). Stands standard s.kept t.turn.after) (sym same) t.stands) more in (
       t.turn ∷ later.0,
       later.1,
       (t.from, t.is_turn, later.2),

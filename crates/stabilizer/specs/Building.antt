@@ -10,7 +10,7 @@ use Rattle.inc_terms.specs.Within.{Given}
 use Rattle.map_nodes.specs.declared.cutoff.Cutoff.TheVariants.{Equal}
 use Rattle.necessary_graph.specs.Part.{Needed, IsInStep}
 use Rattle.node_arena.specs.Arena.{Arena, row_at, live, IsLive}
-use Rattle.node_arena.specs.Sound.{IsSound}
+use Rattle.node_arena.specs.Sound.{IsSoundArena}
 use Rattle.node_outcomes.specs.Computing.{has_part}
 use Rattle.node_outcomes.specs.declared.row.Progress.{Progress}
 use Rattle.node_outcomes.specs.declared.row.Stage.TheVariants.{Bare}
@@ -31,7 +31,7 @@ new_row = record { stage = Bare; settled = 0; outcome = None; last = None; cutof
 -- made, and no root
 pub record HasGrown (old new : Parts) (b : NodeId) : Type 0 where
   pub later : old.arena.given ≤ new.arena.given
-  pub sound : IsSound new.arena
+  pub sound : IsSoundArena new.arena
   pub nodes : (n : NodeId) → Given old.arena.given n → row_at new.arena n ≡ row_at old.arena n
   pub scope : (n : NodeId) (r : Row) → row_at new.arena n ≡ Some r → old.arena.given ≤ n.gen_ → (r.scope ≡ Some b) × Given new.arena.given n
   pub rows : (p : Point) → Given old.arena.given p.node → at new.work.rows p ≡ at old.work.rows p
@@ -125,7 +125,7 @@ NoneSince arena next = (n : NodeId) → IsLive arena n → n.gen_ < next
 
 -- nodes can be adopted whose ids were given since the count: they have no points and stand in no scope
 pub record MayAdopt (parts : Parts) (count : ℕ) : Type 0 where
-  pub sound : IsSound parts.arena
+  pub sound : IsSoundArena parts.arena
   pub step : IsInStep parts.work.graph
   pub later : count ≤ parts.arena.given
   pub no_row : (p : Point) → count ≤ p.node.gen_ → at parts.work.rows p ≡ None
@@ -158,7 +158,7 @@ pub record KeepsRest (arena : Arena) (old new : Work) : Type 0 where
 -- the nodes whose ids were given since the count can be dropped: just those that stand in the bind's scope have points, and none of these is needed.
 -- No node stands in the scope of one of them, and none waits to be given
 pub record MayDisown (parts : Parts) (b : NodeId) (count : ℕ) : Type 0 where
-  pub sound : IsSound parts.arena
+  pub sound : IsSoundArena parts.arena
   pub step : IsInStep parts.work.graph
   pub later : count ≤ parts.arena.given
   pub points : HavePoints parts.arena count (λ n. StandsIn parts.scopes n b) parts.work
@@ -208,7 +208,7 @@ pub record HaveLeft (old new : Parts) (b : NodeId) : Type 0 where
 
 -- the nodes whose ids were given since the count are dropped, one for each of these ids at most
 pub record DropsSince (old new : Arena) (count : ℕ) : Type 0 where
-  pub sound : IsSound new
+  pub sound : IsSoundArena new
   pub given : new.given ≡ old.given
   pub nodes : (n : NodeId) → n.gen_ < count → row_at new n ≡ row_at old n
   pub gone : (n : NodeId) → count ≤ n.gen_ → row_at new n ≡ None

@@ -16,7 +16,7 @@ use Rattle.height_order.specs.Levels.{level}
 use Rattle.necessary_graph.specs.Part.{Needed, IsInStep}
 use Rattle.node_arena.specs.Arena.{Arena, row_at, IsLive}
 use Rattle.necessary_graph.specs.Sweep.{IsReduced}
-use Rattle.node_arena.specs.Sound.{IsSound}
+use Rattle.node_arena.specs.Sound.{IsSoundArena}
 use Rattle.stabilize_round.specs.Invariant.{Invariant}
 use Rattle.stabilize_round.specs.Moves.{Quiet, IsLeast}
 use Rattle.stabilize_round.specs.State.{State, Start}
@@ -26,7 +26,7 @@ use Rattle.node_outcomes.specs.Row.{settled_in, with_stage, without_outcome}
 use Rattle.node_outcomes.specs.declared.row.Stage.TheVariants.{Gated}
 use Rattle.wiring.specs.Graph.{died_at, rowless}
 use Rattle.wiring.specs.Kept.{IsKept}
-use Rattle.wiring.specs.Stands.{Stands, Counts}
+use Rattle.wiring.specs.Stands.{MatchesState, Counts}
 use Rattle.wiring.specs.Scoped.{HasDetached}
 use Rattle.wiring.specs.Turning.{IsAttached}
 use Rattle.wiring.specs.Wiring.{IsAtGate, KeepsPlaces, OnlyLoses}
@@ -46,7 +46,7 @@ pub record TakesLeast (old taken : Work) (p : Point) : Type 0 where
 pub record StandsBefore (parts : Parts) (counts : Counts) (s : State) (n : NodeId) : Type 0 where
   pub work : Work
   pub taken : TakesLeast work parts.work (change n)
-  pub stands : Stands parts.arena work counts None s
+  pub stands : MatchesState parts.arena work counts None s
 
 -- no gate of a node in the bind's scope, or in one within it, was settled
 abbrev pub GatesWait : State → NodeId → Type 0
@@ -57,7 +57,7 @@ GatesWait s b =
 -- and what was settled stay
 pub record CutsTo (F : Functions) (z : Start) (s : State) (b : NodeId) (new : Parts) (counts : Counts) (t : State) : Type 0 where
   pub prepared : Reaches (Preparing F z (change b)) s t
-  pub stands : Stands new.arena new.work counts None t
+  pub stands : MatchesState new.arena new.work counts None t
   pub least : IsLeast t (change b)
   pub quiet : Quiet t
   pub graph : t.graph ≡ s.graph
@@ -103,8 +103,8 @@ pub record LosesRight (arena : Arena) (old new : Work) (b : NodeId) : Type 0 whe
 -- from each state of a round that the parts stand for, in which the gates wait of what is to die, links are taken off
 abbrev pub Invalidates : Parts → Parts → NodeId → Type 0
 Invalidates old new b =
-    (F : Functions) (z : Start) (s : State) (counts : Counts) → Invariant F z s → GatesWait s b → Stands old.arena old.work counts None s
-    → (t : State) × Reaches (TakingOff F z) s t × Stands new.arena new.work counts None t
+    (F : Functions) (z : Start) (s : State) (counts : Counts) → Invariant F z s → GatesWait s b → MatchesState old.arena old.work counts None s
+    → (t : State) × Reaches (TakingOff F z) s t × MatchesState new.arena new.work counts None t
 
 -- of a needed point all links but those to its gate came off
 pub record KeepsGate (old new : Work) (p gate : Point) : Type 0 where
@@ -123,8 +123,8 @@ GateWaits arena s n = (r : Row) (c : NodeId) → row_at arena n ≡ Some r → r
 -- from each state that the parts stand for, in which its gate waits, links of the node's points are taken off
 abbrev pub PutsBack : Arena → Work → Work → NodeId → Type 0
 PutsBack arena old new n =
-    (F : Functions) (z : Start) (s : State) (counts : Counts) → Invariant F z s → GateWaits arena s n → Stands arena old counts None s
-    → (t : State) × Reaches (TakingOff F z) s t × Stands arena new counts None t
+    (F : Functions) (z : Start) (s : State) (counts : Counts) → Invariant F z s → GateWaits arena s n → MatchesState arena old counts None s
+    → (t : State) × Reaches (TakingOff F z) s t × MatchesState arena new counts None t
 
 -- the points of a node that stands in a scope have the links to their gate alone, for which they wait
 pub record IsPutToGate (arena : Arena) (old new : Work) (n : NodeId) : Type 0 where
@@ -195,7 +195,7 @@ IsBindOf arena n f = (r : Row) (l : NodeId) (g : FnRef) (captures : List NodeId)
 -- of what died nothing is kept but its needed points with their links
 pub record HasDied (old new : Parts) (b : NodeId) : Type 0 where
   pub given : new.arena.given ≡ old.arena.given
-  pub sound : IsSound new.arena
+  pub sound : IsSoundArena new.arena
   pub nodes : (n : NodeId) → (Inside (graph_in old) b n × (row_at new.arena n ≡ None))
       ⊎ ((Inside (graph_in old) b n → ⊥) × (row_at new.arena n ≡ row_at old.arena n))
   pub rows : (p : Point) → (Inside (graph_in old) b p.node → ⊥) → p ≢ change b → at new.work.rows p ≡ at old.work.rows p
@@ -235,7 +235,7 @@ pub record AreListed (arena : Arena) (old new : Work) (nodes : List NodeId) : Ty
 
 -- the nodes are live with their points, are listed once each, and are among those that died in the round
 pub record MayForget (arena : Arena) (work : Work) (nodes : List NodeId) : Type 0 where
-  pub sound : IsSound arena
+  pub sound : IsSoundArena arena
   pub step : IsInStep work.graph
   pub once : NoRepeats nodes
   pub live : (n : NodeId) → Among n nodes → IsLive arena n
@@ -247,7 +247,7 @@ pub record MayForget (arena : Arena) (work : Work) (nodes : List NodeId) : Type 
 -- died in the round, is in the heap, unless it was settled
 pub record AreForgotten (before arena : Arena) (old new : Work) (nodes : List NodeId) : Type 0 where
   pub given : arena.given ≡ before.given
-  pub sound : IsSound arena
+  pub sound : IsSoundArena arena
   pub dead : (n : NodeId) → Among n nodes → row_at arena n ≡ None
   pub others : (n : NodeId) → (Among n nodes → ⊥) → row_at arena n ≡ row_at before n
   pub rows : (p : Point) → (Among p.node nodes → ⊥) → at new.rows p ≡ at old.rows p

@@ -22,7 +22,7 @@ use Rattle.node_outcomes.specs.Computing.{seen}
 use Rattle.node_outcomes.specs.Meaning.{Meaning, meaning_of}
 use Rattle.node_outcomes.specs.Row.{outcome_in, IsRewritten, with_outcome}
 use Rattle.wiring.specs.Began.{IsRoundOf}
-use Rattle.wiring.specs.Stands.{Stands, Counts}
+use Rattle.wiring.specs.Stands.{MatchesState, Counts}
 use Rattle.wiring.specs.Wiring.{IsTurnedIn, KeepsGraph}
 use Rattle.wiring.specs.declared.refused.Refused.{Refused}
 use Rattle.wiring.specs.declared.refused.Refused.TheVariants.{Memory}
@@ -61,7 +61,7 @@ pub data BuildRefused (M : Meaning) (right : FnRef → RightSide) (old new : Par
       → BuildRefused M right old new n before after e
   unbuilt : {count : ℕ} → ((z : Start) (s : State) → IsRoundOf M z s → Quiet s → StandsBefore old before s n
       → (ready stopped : State) × Reaches (Preparing M.functions z (change n)) s ready × Stops M.functions z ready stopped
-      × Stands new.arena new.work after None stopped × (stopped.heap (change n) ≡ true))
+      × MatchesState new.arena new.work after None stopped × (stopped.heap (change n) ≡ true))
       → after.calls ≡ before.calls → old.arena.given ≤ count → StopsBuilding count new.arena e → GivesFew right old.arena.given new.arena
       → StopsFull right new.arena before after e → BuildRefused M right old new n before after e
 

@@ -26,7 +26,7 @@ use Rattle.wiring.specs.declared.refused.Refused.TheVariants.{Full}
 use Rattle.node_outcomes.specs.Meaning.{Meaning}
 use Rattle.wiring.specs.Began.{IsRoundOf}
 use Rattle.wiring.specs.Refusing.{TellsWhy}
-use Rattle.wiring.specs.Stands.{Stands, Counts, counts_of, Hand}
+use Rattle.wiring.specs.Stands.{MatchesState, Counts, counts_of, PointInHand}
 use Rattle.wiring.specs.declared.work.Work.{Work}
 
 -- a round of these functions may begin: they promise what the laws of graphs ask, and those of nodes are known and list given nodes; the parts
@@ -37,7 +37,7 @@ pub record IsReady (M : Meaning) (parts : Parts) : Type 0 where
   pub fit : AllCallFit M.known M.ids parts.arena
   pub start : Start
   pub state : State
-  pub stands : Stands parts.arena parts.work (counts_of state) None state
+  pub stands : MatchesState parts.arena parts.work (counts_of state) None state
   pub entry : Entry M.functions start state
   pub inside : ScopesRooted (graph_in parts)
   pub numbered : 0 < parts.work.round
@@ -117,26 +117,26 @@ pub record IsInRound (M : Meaning) (parts : Parts) (counts : Counts) : Type 0 wh
   pub start : Start
   pub state : State
   pub round : IsRoundOf M start state
-  pub stands : Stands parts.arena parts.work counts None state
+  pub stands : MatchesState parts.arena parts.work counts None state
 
 -- from each state that the parts stand for, with the count of calls, moves lead to one that they stand for then
 abbrev pub Settles : Meaning → Parts → Parts → Counts → Counts → Type 0
 Settles M old new before after =
-    (z : Start) (s : State) → IsRoundOf M z s → Stands old.arena old.work before None s
-    → (t : State) × Moves M.functions z s t × Stands new.arena new.work after None t
+    (z : Start) (s : State) → IsRoundOf M z s → MatchesState old.arena old.work before None s
+    → (t : State) × Moves M.functions z s t × MatchesState new.arena new.work after None t
 
 -- where a round stops, as the machine says: it is told why, or a build found no room for a further node
 pub record Pauses (F : Functions) (z : Start) (s : State) (new : Parts) (after : Counts) (e : Refused) : Type 0 where
   pub before : State
   pub state : State
-  pub left : Option Hand
+  pub left : Option PointInHand
   pub moves : Moves F z s before
   pub stops : Stops F z before state
-  pub stands : Stands new.arena new.work after left state
+  pub stands : MatchesState new.arena new.work after left state
   pub told : ((state ≡ called_more before after.calls) × TellsWhy F state new.work left e)
       ⊎ ((count : ℕ) × (s.given ≤ count) × StopsBuilding count new.arena e)
 
 -- from each state that the parts stood for, with the count of calls, steps stop so
 abbrev pub SettleRefused : Meaning → Parts → Parts → Counts → Counts → Refused → Type 0
 SettleRefused M old new before after e =
-    (z : Start) (s : State) → IsRoundOf M z s → Stands old.arena old.work before None s → Pauses M.functions z s new after e
+    (z : Start) (s : State) → IsRoundOf M z s → MatchesState old.arena old.work before None s → Pauses M.functions z s new after e

@@ -31,7 +31,7 @@ use Rattle.wiring.specs.Turning.{HasTurned, IsWaiting}
 use Rattle.node_outcomes.specs.Choosing.{right_in}
 use Rattle.wiring.specs.Wiring.{Wires, WireRefused, Attaches, AttachRefused, WaitsFor}
 use Rattle.node_outcomes.specs.declared.row.Stage.TheVariants.{Full}
-use Rattle.wiring.specs.Stands.{Stands, Counts, Hand}
+use Rattle.wiring.specs.Stands.{MatchesState, Counts, PointInHand}
 use Rattle.stabilizer.specs.Building.{StopsBuilding}
 use Rattle.stabilizer.specs.Dying.{TakesLeast, StandsBefore}
 use Rattle.stabilizer.specs.Giving.{GivesLive, GivesFew, StopsFull}
@@ -125,11 +125,11 @@ pub record ChangeIsSettled (M : Meaning) (old new : Parts) (n : NodeId) (before 
 
 -- or that was refused: the change is in the heap again and all else as it was; the bind couldn't be built; or a link was refused, or found no memory
 pub data ChangeIsLeft (M : Meaning) (right : FnRef → RightSide) (old new : Parts) (n : NodeId) (before after : Counts) (e : Refused) : Type 0 where
-  as_it_was : ((s : State) → StandsBefore old before s n → Stands new.arena new.work after None s) → new.arena ≡ old.arena → after ≡ before → e ≡ Memory
+  as_it_was : ((s : State) → StandsBefore old before s n → MatchesState new.arena new.work after None s) → new.arena ≡ old.arena → after ≡ before → e ≡ Memory
       → ChangeIsLeft M right old new n before after e
   unbuilt : {count : ℕ} → ((z : Start) (s : State) → IsRoundOf M z s → Quiet s → StandsBefore old before s n
       → (ready stopped : State) × Reaches (Preparing M.functions z (change n)) s ready × Stops M.functions z ready stopped
-      × Stands new.arena new.work after None stopped)
+      × MatchesState new.arena new.work after None stopped)
       → after.calls ≡ before.calls → old.arena.given ≤ count → StopsBuilding count new.arena e → GivesFew right old.arena.given new.arena
       → StopsFull right new.arena before after e → ChangeIsLeft M right old new n before after e
   unattached : {turned : Parts} → IsTurned M old turned n before after → AttachRefused turned.arena turned.work new.work n e
@@ -147,8 +147,8 @@ pub data SettlesLeast (M : Meaning) (old new : Parts) (before after : Counts) : 
 -- from each state that the parts stand for, with the counts, a step leads to one that they stand for then
 abbrev pub Steps : Meaning → Parts → Parts → Counts → Counts → Type 0
 Steps M old new before after =
-    (z : Start) (s : State) → IsRoundOf M z s → Quiet s → Stands old.arena old.work before None s
-    → (t : State) × Step M.functions z s t × Stands new.arena new.work after None t
+    (z : Start) (s : State) → IsRoundOf M z s → Quiet s → MatchesState old.arena old.work before None s
+    → (t : State) × Step M.functions z s t × MatchesState new.arena new.work after None t
 
 -- the function of a least point was due, and some of the calls were made that it takes
 pub record HasCalledDue (s : State) (before after : Counts) : Type 0 where
@@ -163,22 +163,22 @@ pub record HasCalledDue (s : State) (before after : Counts) : Type 0 where
 -- where a step stops that is refused: as it was, but for some of the calls of a least point's function, which was due; where a bind couldn't be built; or where points get
 -- their links, of which one was refused, or had no memory
 pub data StepStops (F : Functions) (z : Start) (s : State) (new : Parts) (before after : Counts) (e : Refused) : Type 0 where
-  as_it_was : Stands new.arena new.work before None s
+  as_it_was : MatchesState new.arena new.work before None s
       → (after ≡ before) ⊎ HasCalledDue s before after → e ≡ Memory → StepStops F z s new before after e
-  unbuilt : {r t : State} {count : ℕ} → Moves F z s r → Stops F z r t → Stands new.arena new.work after None t → after.calls ≡ before.calls
+  unbuilt : {r t : State} {count : ℕ} → Moves F z s r → Stops F z r t → MatchesState new.arena new.work after None t → after.calls ≡ before.calls
       → s.given ≤ count → StopsBuilding count new.arena e → StepStops F z s new before after e
-  wiring : {t : State} {left : Option Hand} → Moves F z s t → Stands new.arena new.work after left t → after.calls ≡ before.calls → TellsWhy F t new.work left e
+  wiring : {t : State} {left : Option PointInHand} → Moves F z s t → MatchesState new.arena new.work after left t → after.calls ≡ before.calls → TellsWhy F t new.work left e
       → StepStops F z s new before after e
 
 -- so it is from each state that the parts stand for
 abbrev pub StepRefused : Meaning → Parts → Parts → Counts → Counts → Refused → Type 0
 StepRefused M old new before after e =
-    (z : Start) (s : State) → IsRoundOf M z s → Quiet s → Stands old.arena old.work before None s → StepStops M.functions z s new before after e
+    (z : Start) (s : State) → IsRoundOf M z s → Quiet s → MatchesState old.arena old.work before None s → StepStops M.functions z s new before after e
 
 -- where the parts stand for some state of a round, a step stops as full only in a build that lacked room
 abbrev pub StepStopsFull : Meaning → (FnRef → RightSide) → Parts → Parts → Counts → Counts → Refused → Type 0
 StepStopsFull M right old new before after e =
-    (z : Start) (s : State) → IsRoundOf M z s → Quiet s → Stands old.arena old.work before None s → StopsFull right new.arena before after e
+    (z : Start) (s : State) → IsRoundOf M z s → Quiet s → MatchesState old.arena old.work before None s → StopsFull right new.arena before after e
 
 -- ---- what is left of a round
 
@@ -209,7 +209,7 @@ pub record CoversRows (work : Work) (points : List Point) (nodes : List NodeId) 
 -- less is left after a step, where the parts stand for some state of a round
 abbrev pub StepFalls : Meaning → Parts → Parts → Counts → Type 0
 StepFalls M old new before =
-    (z : Start) (s : State) → IsRoundOf M z s → Quiet s → Stands old.arena old.work before None s → (points : List Point) (nodes : List NodeId)
+    (z : Start) (s : State) → IsRoundOf M z s → Quiet s → MatchesState old.arena old.work before None s → (points : List Point) (nodes : List NodeId)
     → CoversRows old.work points nodes → left_to_settle new.work points nodes < left_to_settle old.work points nodes
 
 -- ---- what a step says

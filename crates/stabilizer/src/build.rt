@@ -9,7 +9,7 @@ ghost use Rattle.necessary_graph.specs.Part.{IsInStep};
 ghost use Rattle.node_arena.specs.Arena.{row_at, live, IsLive};
 ghost use Rattle.node_arena.specs.Building.{building_in};
 ghost use Rattle.node_arena.specs.RightSide.{IsRoot};
-ghost use Rattle.node_arena.specs.Sound.{IsSound};
+ghost use Rattle.node_arena.specs.Sound.{IsSoundArena};
 ghost use Rattle.stabilizer.specs.Building.{StopsBuilding, AdoptsBefore, NoneSince, MayAdopt, GetsPoints, KeepsRest, MayDisown, MayLeave, HaveLeft};
 ghost use Rattle.stabilizer.specs.Building.{HasDisowned, DropsSince};
 ghost use Rattle.stabilizer.specs.Rooted.{MayBuildFor, WasBuilt, GetsRoot, GetsNoRoot};
@@ -175,7 +175,7 @@ impl Parts {
 
 /// Drops the nodes whose ids were given since the count.
 fn drop_since(arena: &mut Arena, count: u64)
-    requires sound { IsSound arena.old }
+    requires sound { IsSoundArena arena.old }
     requires later { count ≤ arena.old.given }
     ensures drops { DropsSince arena.old arena.new count }
 {

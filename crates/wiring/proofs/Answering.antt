@@ -14,7 +14,7 @@ use Rattle.point_map.specs.Rows.{Rows, at}
 use Rattle.wiring.specs.Answers.{WireAnswers, TakenAnswers, PassesGate, GateAnswers, AsksGate, ConnectAnswers}
 use Rattle.wiring.specs.Growing.{Grows}
 use Rattle.wiring.specs.Kept.{IsKept}
-use Rattle.wiring.specs.Stands.{Hand, hand}
+use Rattle.wiring.specs.Stands.{PointInHand, hand}
 use Rattle.wiring.specs.Wiring.{Wires, WiresTaken, WireRefused, StaysInHand, KeepsPlaces}
 use Rattle.wiring.specs.declared.refused.Refused.{Refused}
 use Rattle.wiring.specs.declared.work.Work.{Work}
@@ -159,7 +159,7 @@ module _ (arena : Arena) (old mid : Work) (p q : Point) (owed : IsOwed arena old
   link_answers x false a wires = gone_answers a x refl
 
 -- what it left is this
-pub answers_at : {A : Type 0} {r : Result A Refused} (arena : Arena) (old new now : Work) (held : Option Hand) → now ≡ new
+pub answers_at : {A : Type 0} {r : Result A Refused} (arena : Arena) (old new now : Work) (held : Option PointInHand) → now ≡ new
     → WireAnswers arena old new held r → WireAnswers arena old now held r
 answers_at {A} {r} arena old new now held is a = subst (λ (w : Work). WireAnswers arena old w held r) (sym is) a
 

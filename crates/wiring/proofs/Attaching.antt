@@ -27,7 +27,7 @@ use Rattle.stabilize_round.proofs.Points.{at_same, count_append}
 use Rattle.node_outcomes.specs.Computing.{has_part}
 use Rattle.wiring.specs.Kept.{IsKept}
 use Rattle.node_outcomes.specs.Row.{IsRewritten, with_stage, settled_in, stage_in, stage_of, outcome_in}
-use Rattle.wiring.specs.Stands.{Stands, hand, Counts}
+use Rattle.wiring.specs.Stands.{MatchesState, hand, Counts}
 use Rattle.node_outcomes.specs.Choosing.{right_by, right_in}
 use Rattle.wiring.specs.Turning.{IsWaiting}
 use Rattle.wiring.specs.Wiring.{IsDue, IsTurnedIn, Attaches, AttachRefused, Connects, LosesNeed, ConnectRefused, AreUnlinked}
@@ -76,7 +76,7 @@ stays_off arena work n not rowed F z s counts t = (
   ],
 )
   where
-    on : Stands arena work counts (Some (hand (main n) [])) s
+    on : MatchesState arena work counts (Some (hand (main n) [])) s
     on = t.stands
 
     static_of : (x : Stage) → stage_of x ≡ machine.Static → x ≡ code.Static
@@ -167,7 +167,7 @@ module _ (arena : Arena) (n : NodeId) (r : Row) (old : Work) (rows : Rows Progre
       by (Some k) eq = chosen k eq k.outcome refl (ap (λ (x : Option Progress). and_then (outcome_in x) (λ o. right_of (graph_at arena old) n r.def o)) (sym eq) ∙ asked)
 
   module _ (F : Functions) (z : Start) (s : State) (counts : Counts) (t : IsTurnedIn F z s arena old counts n) where
-    abbrev on : Stands arena old counts (Some (hand (main n) [])) s
+    abbrev on : MatchesState arena old counts (Some (hand (main n) [])) s
     on = t.stands
 
     row_is : s.graph.row n ≡ Some r
@@ -217,7 +217,7 @@ module _ (arena : Arena) (n : NodeId) (r : Row) (old : Work) (rows : Rows Progre
     pub full_moves : Reaches (Wiring F z) s full
     full_moves = up_wiring old mid (main n) code.Full w (only_rows old rows) F z s arena counts owed on raise_is
 
-    pub on_full : Stands arena mid counts (Some (hand (main n) owed)) full
+    pub on_full : MatchesState arena mid counts (Some (hand (main n) owed)) full
     on_full = up_stands old mid (main n) code.Full w (only_rows old rows) F z s arena counts owed on raise_is
 
     full_inv : Invariant F z full
@@ -241,7 +241,7 @@ module _ (arena : Arena) (n : NodeId) (r : Row) (old : Work) (rows : Rows Progre
     pub right_due : (m : NodeId) → right ≡ Some m → IsDue F z full arena mid counts (main n) (main m) []
     right_due m e = record {
       holds = full_inv;
-      stands = subst (λ (x : Option NodeId). Stands arena mid counts (Some (hand (main n) (map main (at_most_one x)))) full) e on_full;
+      stands = subst (λ (x : Option NodeId). MatchesState arena mid counts (Some (hand (main n) (map main (at_most_one x)))) full) e on_full;
       depends = plan_depends F full.graph full.out full.died (main n) (main m) r row_is (t.scope r row)
           (λ part k sub. (own_done.exact r row_is).1 k sub)
           (among_right (main m) (gate_of r.scope) _ (among_right (main m) (fixed_reads full.graph n r.def Main) _ (chosen_now m e)));
@@ -259,7 +259,7 @@ module _ (arena : Arena) (n : NodeId) (r : Row) (old : Work) (rows : Rows Progre
   -- there is no right side
   pub none_attached : right ≡ None → Attaches arena old mid n
   none_attached none F z s counts t =
-      let on = subst (λ (x : Option NodeId). Stands arena mid counts (Some (hand (main n) (map main (at_most_one x)))) (full F z s counts t)) none
+      let on = subst (λ (x : Option NodeId). MatchesState arena mid counts (Some (hand (main n) (map main (at_most_one x)))) (full F z s counts t)) none
       (on_full F z s counts t) in
       let out = leaves_hand F z (full F z s counts t) arena mid counts (main n) on (full_unlinked F z s counts t) (full_finishes (full F z s counts t) arena mid counts (main n) on full_in) in
       (out.0, wired_after F z s (full F z s counts t) out.0 (plainly (full_moves F z s counts t)) out.1, out.2, out.3)

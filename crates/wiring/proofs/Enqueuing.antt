@@ -13,7 +13,7 @@ use Rattle.necessary_graph.proofs.Standing.{has_level, put_in_step}
 use Rattle.stabilize_round.proofs.Parts.{bool_cases}
 use Rattle.node_outcomes.specs.Row.{IsRewritten, settled_in, with_stage}
 use Rattle.wiring.specs.Graph.{HasLinks, died_at}
-use Rattle.wiring.specs.Wiring.{KeepsGraph, IsEnqueued, AreEnqueued, IsWoken}
+use Rattle.wiring.specs.Wiring.{KeepsGraph, IsEnqueued, AreEnqueued, IsNewlyNeeded}
 use Rattle.node_outcomes.specs.declared.row.Progress.{Progress}
 use Rattle.node_outcomes.specs.declared.row.Stage.TheVariants.{Bare}
 use Rattle.wiring.specs.declared.work.Work.{Work}
@@ -91,7 +91,7 @@ settled_bare round (Some k) = refl
 -- its stage is Bare, it was enqueued, and it is the last of the worklist
 pub woken : (old mid : Work) (todo : Vec Point Global) (rows : Rows Progress) (q : Point) → IsRewritten old.rows rows q (with_stage Bare)
     → IsEnqueued (record old { rows = rows }) mid q → mid ≡ record old { graph = mid.graph; rows = rows } → Holds old.rows q
-    → todo.items ≡ old.todo.items ++ q ∷ [] → IsWoken old (record mid { todo = todo }) q
+    → todo.items ≡ old.todo.items ++ q ∷ [] → IsNewlyNeeded old (record mid { todo = todo }) q
 woken old mid todo rows q w e rest there more =
     let settled : settled_in old.round (at rows q) ≡ settled_in old.round (at old.rows q) =
     ap (settled_in old.round) w.changed ∙ settled_bare old.round (at old.rows q) in
@@ -132,7 +132,7 @@ module _ (old : Work) (q : Point) (step_is : IsInStep old.graph) (dead : at old.
   no_row h = let none = ap is_some dead in cc
 
   woken_with : (todo : Vec Point Global) → (HasLinks old q → todo.items ≡ old.todo.items ++ q ∷ []) → (died_at old q.node ≡ None → todo.items ≡ old.todo.items)
-      → ((p : Point) → Among p old.todo.items → Among p todo.items) → IsWoken old (record old { todo = todo }) q
+      → ((p : Point) → Among p old.todo.items → Among p todo.items) → IsNewlyNeeded old (record old { todo = todo }) q
   woken_with todo pushed leaf before = record {
     graph = record { links = refl; roots = refl; heights = refl };
     others = λ p ne. refl;
@@ -151,6 +151,6 @@ module _ (old : Work) (q : Point) (step_is : IsInStep old.graph) (dead : at old.
 
   -- of one that died in this round: it is the last of the worklist
   pub ghost_woken : IsSome (died_at old q.node) → (todo : Vec Point Global) → todo.items ≡ old.todo.items ++ q ∷ []
-      → IsWoken old (record old { todo = todo }) q
+      → IsNewlyNeeded old (record old { todo = todo }) q
   ghost_woken died todo more = woken_with todo (λ h. more) (λ none. absurd (let e = ap is_some none in let d = died in cc))
       (λ p a. subst (Among p) (sym more) (among_before p q old.todo.items a))

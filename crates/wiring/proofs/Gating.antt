@@ -26,7 +26,7 @@ use Rattle.node_outcomes.specs.declared.row.Progress.{Progress}
 use Rattle.node_outcomes.specs.declared.row.Stage.{Stage}
 use Rattle.node_outcomes.specs.declared.row.Stage.TheVariants as code
 use Rattle.wiring.specs.Kept.{IsKept}
-use Rattle.wiring.specs.Stands.{Stands, hand}
+use Rattle.wiring.specs.Stands.{MatchesState, hand}
 use Rattle.wiring.specs.Wiring.{IsMarked, IsTarget, LacksLinks, GateRan, Wires, WiresTaken}
 use Rattle.wiring.specs.declared.work.Work.{Work}
 use Rattle.wiring.proofs.Lifting.{Lifts, DueAfter}
@@ -126,7 +126,7 @@ more_wires arena work p rowed need not_bare not_gated F z s counts inv on unlink
       | inr k ↦ elim k [ inl g ↦ has (s.stage p) refl (inr g) | inr none ↦ none ]
     ]
 
-    left : Stands arena work counts None s
+    left : MatchesState arena work counts None s
     left = record {
       graph = on.graph;
       out = on.out;

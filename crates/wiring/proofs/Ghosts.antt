@@ -20,7 +20,7 @@ use Rattle.stabilize_round.proofs.Points.{at_same, one_same}
 use Rattle.node_outcomes.specs.Computing.{has_part}
 use Rattle.wiring.specs.Graph.{died_at}
 use Rattle.wiring.specs.Kept.{IsKept, IsGhostLink, IsDead}
-use Rattle.wiring.specs.Stands.{Stands, hand, Counts}
+use Rattle.wiring.specs.Stands.{MatchesState, hand, Counts}
 use Rattle.wiring.specs.Wiring.{IsTarget, Wires, AreUnlinked}
 use Rattle.wiring.specs.declared.work.Work.{Work}
 use Rattle.wiring.proofs.Gating.{rowed_target, change_rowed}
@@ -59,7 +59,7 @@ module _ (arena : Arena) (work : Work) (p : Point) (dead : row_at arena p.node �
   rowless : at work.rows p ≡ None
   rowless = dead_rowless arena work p kept dead
 
-  module _ (s : State) (counts : Counts) (owed : List Point) (on : Stands arena work counts (Some (hand p owed)) s) where
+  module _ (s : State) (counts : Counts) (owed : List Point) (on : MatchesState arena work counts (Some (hand p owed)) s) where
     row_none : s.graph.row p.node ≡ None
     row_none = row_of_state s arena work counts p owed p.node on ∙ dead
 
@@ -71,7 +71,7 @@ module _ (arena : Arena) (work : Work) (p : Point) (dead : row_at arena p.node �
         ∙ ap (λ (x : Option NodeId). ghost_plan x stage) (on.died p.node)
 
   -- it leaves the worklist, unless it is to have a link
-  dead_finishes : (s : State) (counts : Counts) → Stands arena work counts (Some (hand p [])) s → (s.stage p ≡ machine.Bare → ⊥) → Finish s p
+  dead_finishes : (s : State) (counts : Counts) → MatchesState arena work counts (Some (hand p [])) s → (s.stage p ≡ machine.Bare → ⊥) → Finish s p
   dead_finishes s counts on other = record {
     owed = on.owed p ∙ at_same p [] nothing;
     bare = λ n e. other e;
@@ -93,8 +93,8 @@ module _ (arena : Arena) (work : Work) (p : Point) (dead : row_at arena p.node �
           of machine.Static = refl
           of machine.Full = refl
 
-      leaves : (t : State) → Stands arena work counts (Some (hand p [])) t → AreUnlinked (Some (hand p [])) t → (t.stage p ≡ machine.Bare → ⊥)
-          → (u : State) × Reaches (Wiring F z) t u × Stands arena work counts None u × AreUnlinked None u
+      leaves : (t : State) → MatchesState arena work counts (Some (hand p [])) t → AreUnlinked (Some (hand p [])) t → (t.stage p ≡ machine.Bare → ⊥)
+          → (u : State) × Reaches (Wiring F z) t u × MatchesState arena work counts None u × AreUnlinked None u
       leaves t on' unlinked' other = leaves_hand F z t arena work counts p on' unlinked' (dead_finishes t counts on' other)
 
       raises : s.stage p ≡ machine.Bare → Raise s p machine.Full []
@@ -108,7 +108,7 @@ module _ (arena : Arena) (work : Work) (p : Point) (dead : row_at arena p.node �
       }
 
       by : (x : machine.Stage) → s.stage p ≡ x
-          → (t : State) × Wired F z s t × Stands arena work counts None t × AreUnlinked None t
+          → (t : State) × Wired F z s t × MatchesState arena work counts None t × AreUnlinked None t
       by machine.Bare e =
           let out = leaves (raised s p machine.Full []) (rowless_stands F z s arena work counts p machine.Full [] on rowless)
           (raised_unlinked s p machine.Full [] unlinked) (λ b. let f = at_same p machine.Full s.stage in cc) in
@@ -124,7 +124,7 @@ module _ (arena : Arena) (work : Work) (p : Point) (dead : row_at arena p.node �
     ghost_link = record { scope = bind; died = died; gate = refl }
 
     -- what its links are at each stage
-    plans : (s : State) (counts : Counts) (owed : List Point) → Stands arena work counts (Some (hand p owed)) s → (stage : machine.Stage)
+    plans : (s : State) (counts : Counts) (owed : List Point) → MatchesState arena work counts (Some (hand p owed)) s → (stage : machine.Stage)
         → plan_at s.graph s.out s.died p (s.graph.row p.node) stage ≡ ghost_plan (Some bind) stage
     plans s counts owed on stage = planned_dead s counts owed on stage ∙ ap (λ (x : Option NodeId). ghost_plan x stage) died
 

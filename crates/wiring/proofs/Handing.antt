@@ -25,7 +25,7 @@ use Rattle.wiring.specs.Answers.{WireAnswers, ConnectAnswers}
 use Rattle.wiring.specs.Growing.{Grows}
 use Rattle.wiring.specs.Kept.{IsKept}
 use Rattle.node_outcomes.specs.Row.{stage_in, IsRewritten, with_stage}
-use Rattle.wiring.specs.Stands.{Stands, hand, Counts}
+use Rattle.wiring.specs.Stands.{MatchesState, hand, Counts}
 use Rattle.wiring.specs.Wiring.{IsDue, WireRefused, KeepsPlaces, GateRan, AreUnlinked, LacksLinks, IsMarked, Wires}
 use Rattle.wiring.specs.declared.refused.Refused.{Refused}
 use Rattle.node_outcomes.specs.declared.row.Stage.TheVariants as code
@@ -77,8 +77,8 @@ main_reads arena p r row part one =
 
 -- moves lead from where the point is owed all to where it is owed these
 pub record IsHanded (arena : Arena) (old new : Work) (p : Point) (all owed : List Point) : Type 0 where
-  pub hands : (F : Functions) (z : Start) (s : State) (counts : Counts) → Invariant F z s → Stands arena old counts (Some (hand p all)) s
-      → AreUnlinked (Some (hand p [])) s → (t : State) × Wired F z s t × Stands arena new counts (Some (hand p owed)) t × AreUnlinked (Some (hand p [])) t
+  pub hands : (F : Functions) (z : Start) (s : State) (counts : Counts) → Invariant F z s → MatchesState arena old counts (Some (hand p all)) s
+      → AreUnlinked (Some (hand p [])) s → (t : State) × Wired F z s t × MatchesState arena new counts (Some (hand p owed)) t × AreUnlinked (Some (hand p [])) t
   pub row : at new.rows p ≡ at old.rows p
   pub needed : Needed new.graph p
   pub kept : IsKept arena new
@@ -101,7 +101,7 @@ module _ (arena : Arena) (p : Point) (is_main : p.part ≡ Main) (r : Row) (row 
     reads : Reads p r (map main (kids r.def))
     reads = main_reads arena p r row is_main one
 
-    kid_due : (F : Functions) (z : Start) (s : State) (counts : Counts) → Invariant F z s → Stands arena old counts (Some (hand p all)) s
+    kid_due : (F : Functions) (z : Start) (s : State) (counts : Counts) → Invariant F z s → MatchesState arena old counts (Some (hand p all)) s
         → AreUnlinked (Some (hand p [])) s → (t : State) × Wired F z s t × IsDue F z t arena mid counts p q rest
     kid_due F z s counts inv on unlinked =
         let a = so.hands F z s counts inv on unlinked in (

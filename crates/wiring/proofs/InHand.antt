@@ -14,7 +14,7 @@ use Rattle.node_outcomes.specs.Row.{with_stage, settled_in, stage_in}
 use Rattle.node_outcomes.specs.declared.row.Progress.{Progress}
 use Rattle.node_outcomes.specs.declared.row.Stage.TheVariants as code
 use Rattle.wiring.specs.Deciding.{is_needed}
-use Rattle.wiring.specs.Stands.{Hand, hand, IsInHand}
+use Rattle.wiring.specs.Stands.{PointInHand, hand, IsInHand}
 use Rattle.wiring.specs.Wiring.{HasMore, IsSpared, HandIsSpared, is_gated, is_still, hand_now}
 use Rattle.wiring.specs.declared.work.Work.{Work}
 use Rattle.wiring.proofs.Deciding.{decides_needed}
@@ -63,7 +63,7 @@ nothing_at p a = elim (same_or_other p a) [
 ]
 
 -- a point in hand stays in hand
-pub in_hand_now : (old new : Work) (held : Option Hand) (a : Point) → IsInHand held a → IsInHand (hand_now old new held) a
+pub in_hand_now : (old new : Work) (held : Option PointInHand) (a : Point) → IsInHand held a → IsInHand (hand_now old new held) a
 in_hand_now old new None a h = h
 in_hand_now old new (Some x) a h = by (is_still old new x.point) h
   where
@@ -135,7 +135,7 @@ module _ (arena : Arena) (old mid : Work) (keeps : KeepsSpared arena old mid) (r
     | inr fell ↦ absurd (gated_none (at old.rows p) (inr (ap stage_in (sym fell) ∙ full)))
   ]
 
-  pub hand_spared : IsInStep mid.graph → (held : Option Hand) → HandIsSpared arena old held → HandIsSpared arena mid (hand_now old mid held)
+  pub hand_spared : IsInStep mid.graph → (held : Option PointInHand) → HandIsSpared arena old held → HandIsSpared arena mid (hand_now old mid held)
   hand_spared in_step None h = tt
   hand_spared in_step (Some x) h = by (is_still old mid x.point) refl
     where
@@ -193,7 +193,7 @@ module _ (arena : Arena) (old mid : Work) (keeps : KeepsSpared arena old mid) (r
     not_gated false false true e g = absurd (cc)
     not_gated nm false false e g = absurd (cc)
 
-    pub same_hand : (held : Option Hand) → HandIsSpared arena old held → hand_now mid new (hand_now old mid held) ≡ hand_now old new held
+    pub same_hand : (held : Option PointInHand) → HandIsSpared arena old held → hand_now mid new (hand_now old mid held) ≡ hand_now old new held
     same_hand None h = refl
     same_hand (Some x) h = by (is_still old mid x.point) refl
       where

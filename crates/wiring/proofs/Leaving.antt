@@ -13,8 +13,8 @@ use Rattle.stabilize_round.proofs.Points.{at_same}
 use Rattle.stabilize_round.proofs.Steps.{wired_moves}
 use Rattle.wiring.specs.Growing.{left_to_wire, Grows}
 use Rattle.wiring.specs.Kept.{IsKept}
-use Rattle.wiring.specs.Stands.{Stands, hand, Counts}
-use Rattle.wiring.specs.Wiring.{Looks, Wires, WiresTaken, WireRefused, KeepsPlaces, AreUnlinked}
+use Rattle.wiring.specs.Stands.{MatchesState, hand, Counts}
+use Rattle.wiring.specs.Wiring.{ShowsSame, Wires, WiresTaken, WireRefused, KeepsPlaces, AreUnlinked}
 use Rattle.wiring.specs.declared.refused.Refused.{Refused}
 use Rattle.wiring.specs.declared.work.Work.{Work}
 use Rattle.wiring.proofs.Growing.{link_points, links_are_listed}
@@ -27,8 +27,8 @@ use Rattle.wiring.proofs.Wiring.{taken_stands, looks_stands}
 -- ---- a point that isn't needed leaves the worklist
 
 pub unneeded_leaves : (F : Functions) (z : Start) (s : State) (arena : Arena) (work : Work) (counts : Counts) (p : Point)
-    → Stands arena work counts (Some (hand p [])) s → AreUnlinked None s → (Needed work.graph p → ⊥)
-    → (t : State) × Reaches (Wiring F z) s t × Stands arena work counts None t × AreUnlinked None t
+    → MatchesState arena work counts (Some (hand p [])) s → AreUnlinked None s → (Needed work.graph p → ⊥)
+    → (t : State) × Reaches (Wiring F z) s t × MatchesState arena work counts None t × AreUnlinked None t
 unneeded_leaves F z s arena work counts p on unlinked unneeded = leaves_hand F z s arena work counts p on (held_unlinked s p unlinked) (record {
   owed = on.owed p ∙ at_same p [] nothing;
   bare = λ n e. unneeded ((on.needed p).0 n);
@@ -68,8 +68,8 @@ module _ (arena : Arena) (old mid : Work) (todo : Vec Point Global) (p : Point) 
   abbrev popped : Work
   popped = record mid { todo = todo }
 
-  so_far : (F : Functions) (z : Start) (s : State) (counts : Counts) → Invariant F z s → Stands arena old counts None s → AreUnlinked None s
-      → (t : State) × Wired F z s t × Invariant F z t × Stands arena popped counts (Some (hand p [])) t × AreUnlinked None t
+  so_far : (F : Functions) (z : Start) (s : State) (counts : Counts) → Invariant F z s → MatchesState arena old counts None s → AreUnlinked None s
+      → (t : State) × Wired F z s t × Invariant F z t × MatchesState arena popped counts (Some (hand p [])) t × AreUnlinked None t
   so_far F z s counts inv on unlinked =
       let a = so.wires F z s counts inv on unlinked in
       let in_hand = taken_stands a.0 arena mid popped counts p a.2 refl refl
@@ -128,12 +128,12 @@ module _ (arena : Arena) (old mid : Work) (todo : Vec Point Global) (p : Point) 
       omega (arith, less, more)
 
 -- the worklist is empty
-pub wiring_last : (arena : Arena) (old mid new : Work) → IsWiring arena old mid → Looks mid new → Wires arena old new None
+pub wiring_last : (arena : Arena) (old mid new : Work) → IsWiring arena old mid → ShowsSame mid new → Wires arena old new None
 wiring_last arena old mid new so same F z s counts inv on unlinked =
     let a = so.wires F z s counts inv on unlinked in
     (a.0, a.1, looks_stands a.0 arena mid new counts None same a.2, a.3)
 
-pub looks_empty : (work : Work) (todo : Vec Point Global) → work.todo.items ≡ todo.items → Looks work (record work { todo = todo })
+pub looks_empty : (work : Work) (todo : Vec Point Global) → work.todo.items ≡ todo.items → ShowsSame work (record work { todo = todo })
 looks_empty work todo items = record {
   rows = λ p. refl;
   links = λ p q. refl;

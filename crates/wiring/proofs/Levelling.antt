@@ -15,14 +15,14 @@ use Rattle.stabilize_round.specs.Steps.{Wiring, Wired, plainly}
 use Rattle.stabilize_round.specs.Wire.{IsConfirmed, levelled}
 use Rattle.wiring.specs.Refusing.{RefusedBy, TellsWhy, by_link}
 use Rattle.node_outcomes.specs.Row.{settled_in}
-use Rattle.wiring.specs.Stands.{Stands, Hand, hand, IsInHand, Counts}
+use Rattle.wiring.specs.Stands.{MatchesState, PointInHand, hand, IsInHand, Counts}
 use Rattle.wiring.specs.Wiring.{IsDue, IsLevelled}
 use Rattle.wiring.specs.declared.refused.Refused.{Refused}
 use Rattle.wiring.specs.declared.work.Work.{Work}
 use Rattle.wiring.proofs.Holding.{graph_rows, died_same}
 
-module _ (F : Functions) (z : Start) (s : State) (arena : Arena) (old new : Work) (counts : Counts) (held : Option Hand)
-    (st : Stands arena old counts held s) (l : IsLevelled old new) where
+module _ (F : Functions) (z : Start) (s : State) (arena : Arena) (old new : Work) (counts : Counts) (held : Option PointInHand)
+    (st : MatchesState arena old counts held s) (l : IsLevelled old new) where
   abbrev pub low : State
   low = levelled s (level new.graph.heights)
 
@@ -41,7 +41,7 @@ module _ (F : Functions) (z : Start) (s : State) (arena : Arena) (old new : Work
     tt,
   ) here
 
-  pub low_stands : Stands arena new counts held low
+  pub low_stands : MatchesState arena new counts held low
   low_stands = record {
     graph = st.graph ∙ sym (graph_rows arena old new l.rows l.round.roots);
     out = λ p k e. st.out p k (sym (l.rows p) ∙ e);
@@ -71,7 +71,7 @@ low_confirmed s height' p q confirmed = record { gate = confirmed.gate; right = 
 -- a refusal that is final stops here
 pub refused_at_once : (F : Functions) (z : Start) (s : State) (arena : Arena) (old new : Work) (counts : Counts) (p q : Point) (rest : List Point)
     → IsDue F z s arena old counts p q rest → IsLevelled old new → Needed old.graph p → (e : Refused) → RefusedBy new p q e
-    → (t : State) × Wired F z s t × Stands arena new counts (Some (hand p (q ∷ rest))) t × TellsWhy F t new (Some (hand p (q ∷ rest))) e
+    → (t : State) × Wired F z s t × MatchesState arena new counts (Some (hand p (q ∷ rest))) t × TellsWhy F t new (Some (hand p (q ∷ rest))) e
 refused_at_once F z s arena old new counts p q rest due l need e why = (
   low F z s arena old new counts (Some (hand p (q ∷ rest))) due.stands l,
   plainly (low_wiring F z s arena old new counts (Some (hand p (q ∷ rest))) due.stands l),

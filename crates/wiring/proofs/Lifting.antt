@@ -20,7 +20,7 @@ use Rattle.stabilize_round.proofs.Points.{at_same}
 use Rattle.stabilize_round.proofs.Steps.{wiring_moves, wired_moves}
 use Rattle.node_outcomes.specs.Row.{stage_in}
 use Rattle.node_outcomes.specs.declared.row.Stage.TheVariants as code
-use Rattle.wiring.specs.Stands.{Stands, hand, Counts}
+use Rattle.wiring.specs.Stands.{MatchesState, hand, Counts}
 use Rattle.wiring.specs.Wiring.{IsDue, Connects, LosesNeed, ConnectRefused, Wires, WiresTaken, WireRefused, StaysInHand, GateRan, AreUnlinked}
 use Rattle.wiring.specs.declared.refused.Refused.{Refused}
 use Rattle.wiring.specs.declared.work.Work.{Work}
@@ -30,15 +30,15 @@ use Rattle.wiring.proofs.Unlinked.{held_unlinked}
 -- moves lead from where the point in hand is owed nothing to where it is owed these links
 abbrev pub Lifts : Arena → Work → Work → Point → List Point → Type 0
 Lifts arena old mid p links =
-    (F : Functions) (z : Start) (s : State) (counts : Counts) → Invariant F z s → Stands arena old counts (Some (hand p [])) s
+    (F : Functions) (z : Start) (s : State) (counts : Counts) → Invariant F z s → MatchesState arena old counts (Some (hand p [])) s
     → AreUnlinked (Some (hand p [])) s
-    → (t : State) × Reaches (Wiring F z) s t × Stands arena mid counts (Some (hand p links)) t × AreUnlinked (Some (hand p [])) t
+    → (t : State) × Reaches (Wiring F z) s t × MatchesState arena mid counts (Some (hand p links)) t × AreUnlinked (Some (hand p [])) t
 
 -- where it is owed one link, that may be put on
 abbrev pub DueAfter : Arena → Work → Work → Point → Point → Type 0
 DueAfter arena old mid p q =
-    (F : Functions) (z : Start) (s t : State) (counts : Counts) → Stands arena old counts (Some (hand p [])) s → t.settled ≡ s.settled → Invariant F z t
-    → Stands arena mid counts (Some (hand p (q ∷ []))) t → AreUnlinked (Some (hand p [])) t → IsDue F z t arena mid counts p q []
+    (F : Functions) (z : Start) (s t : State) (counts : Counts) → MatchesState arena old counts (Some (hand p [])) s → t.settled ≡ s.settled → Invariant F z t
+    → MatchesState arena mid counts (Some (hand p (q ∷ []))) t → AreUnlinked (Some (hand p [])) t → IsDue F z t arena mid counts p q []
 
 -- then it gets them
 module _ (arena : Arena) (old mid : Work) (p : Point) (links : List Point) (lifts : Lifts arena old mid p links) (new : Work) where
@@ -56,7 +56,7 @@ module _ (arena : Arena) (old mid : Work) (p : Point) (links : List Point) (lift
 
 -- or the one that it is owed
 module _ (arena : Arena) (old mid : Work) (p q : Point) (lifts : Lifts arena old mid p (q ∷ [])) (due : DueAfter arena old mid p q) (new : Work) where
-  one_due : (F : Functions) (z : Start) (s : State) (counts : Counts) → Invariant F z s → Stands arena old counts (Some (hand p [])) s
+  one_due : (F : Functions) (z : Start) (s : State) (counts : Counts) → Invariant F z s → MatchesState arena old counts (Some (hand p [])) s
       → AreUnlinked (Some (hand p [])) s → (t : State) × Reaches (Wiring F z) s t × IsDue F z t arena mid counts p q []
   one_due F z s counts inv on unlinked =
       let a = lifts F z s counts inv on unlinked in
@@ -105,14 +105,14 @@ wires_taken arena old new p wires F z s counts inv on unlinked = wires F z s cou
 -- ---- it leaves the worklist
 
 pub done_wires : (arena : Arena) (work : Work) (p : Point)
-    → ((F : Functions) (z : Start) (s : State) (counts : Counts) → Invariant F z s → Stands arena work counts (Some (hand p [])) s → Finish s p)
+    → ((F : Functions) (z : Start) (s : State) (counts : Counts) → Invariant F z s → MatchesState arena work counts (Some (hand p [])) s → Finish s p)
     → Wires arena work work (Some (hand p []))
 done_wires arena work p finishes F z s counts inv on unlinked =
     let a = leaves_hand F z s arena work counts p on unlinked (finishes F z s counts inv on) in
     (a.0, plainly a.1, a.2, a.3)
 
 -- with all its links
-pub full_finishes : (s : State) (arena : Arena) (work : Work) (counts : Counts) (p : Point) → Stands arena work counts (Some (hand p [])) s
+pub full_finishes : (s : State) (arena : Arena) (work : Work) (counts : Counts) (p : Point) → MatchesState arena work counts (Some (hand p [])) s
     → stage_in (at work.rows p) ≡ Some code.Full → Finish s p
 full_finishes s arena work counts p on full =
     let is_full = stage_is s arena work counts p [] code.Full on full in
@@ -133,7 +133,7 @@ pub fixed_due : (F : Functions) (z : Start) (s : State) (arena : Arena) (work : 
     → row_at arena p.node ≡ Some r → Among q (fixed_reads s.graph p.node r.def p.part)
     → ((b : NodeId) → r.scope ≡ Some b → s.settled (change b) ≡ true)
     → (p.part ≡ Main → Among q (targets s.graph p.node r.def (s.out (change p.node))) → ⊥) → Invariant F z s
-    → Stands arena work counts (Some (hand p (q ∷ rest))) s → AreUnlinked (Some (hand p [])) s → IsDue F z s arena work counts p q rest
+    → MatchesState arena work counts (Some (hand p (q ∷ rest))) s → AreUnlinked (Some (hand p [])) s → IsDue F z s arena work counts p q rest
 fixed_due F z s arena work counts p q rest r row among gates never inv on unlinked = record {
   holds = inv;
   stands = on;
@@ -155,7 +155,7 @@ fixed_due F z s arena work counts p q rest r row among gates never inv on unlink
 
 -- a gate that ran before the point was given links is settled still
 pub gates_after : (s t : State) (arena : Arena) (old : Work) (counts : Counts) (p : Point) (owed : List Point) (r : Row) → row_at arena p.node ≡ Some r
-    → GateRan arena old p → Stands arena old counts (Some (hand p owed)) s → t.settled ≡ s.settled
+    → GateRan arena old p → MatchesState arena old counts (Some (hand p owed)) s → t.settled ≡ s.settled
     → (b : NodeId) → r.scope ≡ Some b → t.settled (change b) ≡ true
 gates_after s t arena old counts p owed r row ran on same b scope =
     ap (λ (f : Point → Bool). f (change b)) same ∙ (on.settled (change b) ∙ ran r b row scope)

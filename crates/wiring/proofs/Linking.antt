@@ -24,9 +24,9 @@ use Rattle.stabilize_round.specs.Wire.{linked, newly, IsIt, Link, IsConfirmed, r
 use Rattle.stabilize_round.proofs.Parts.{bool_cases}
 use Rattle.stabilize_round.proofs.Points.{same_or_other, at_same, at_other}
 use Rattle.node_outcomes.specs.Row.{IsRewritten, with_stage, settled_in, stage_of, is_never}
-use Rattle.wiring.specs.Stands.{Stands, StandsWith, Hand, hand, owed_in, IsInHand, Counts}
+use Rattle.wiring.specs.Stands.{MatchesState, StandsWith, PointInHand, hand, owed_in, IsInHand, Counts}
 use Rattle.wiring.specs.Graph.{HasLinks, died_at}
-use Rattle.wiring.specs.Wiring.{IsReached, IsWoken, AreUnlinked}
+use Rattle.wiring.specs.Wiring.{IsReached, IsNewlyNeeded, AreUnlinked}
 use Rattle.node_outcomes.specs.declared.row.Progress.{Progress}
 use Rattle.node_outcomes.specs.declared.row.Stage.{Stage}
 use Rattle.node_outcomes.specs.declared.row.Stage.TheVariants as code
@@ -116,7 +116,7 @@ module _ (old new : Rows Progress) (q : Point) (st : Stage) (w : IsRewritten old
 -- ---- a link
 
 module _ (F : Functions) (z : Start) (s : State) (arena : Arena) (old : Work) (g : NecessaryPart) (counts : Counts) (p q : Point) (rest : List Point)
-    (st : Stands arena old counts (Some (hand p (q ∷ rest))) s)
+    (st : MatchesState arena old counts (Some (hand p (q ∷ rest))) s)
     (reached : IsReached old.graph g q) (more : OneLinkMore old.graph.links g.links p q) (roots : KeepsRoots old.graph.roots g.roots)
     (need : Needed old.graph p) (dep : Depends F s.graph s.died p q) (conf : IsConfirmed s p q) where
   abbrev heights : Point → ℕ
@@ -172,7 +172,7 @@ module _ (F : Functions) (z : Start) (s : State) (arena : Arena) (old : Work) (g
 
   -- what was needed before
   pub linked_stands : Needed old.graph q → AreUnlinked (Some (hand p [])) s
-      → (t : State) × Reaches (Wiring F z) s t × Stands arena (record old { graph = g }) counts (Some (hand p rest)) t × AreUnlinked (Some (hand p [])) t
+      → (t : State) × Reaches (Wiring F z) s t × MatchesState arena (record old { graph = g }) counts (Some (hand p rest)) t × AreUnlinked (Some (hand p [])) t
   linked_stands there unlinked = (
     after,
     step (move.link is_link ((st.needed q).1 there) refl, tt) here,
@@ -188,10 +188,10 @@ module _ (F : Functions) (z : Start) (s : State) (arena : Arena) (old : Work) (g
 
 -- ---- what is newly needed
 
-module _ (F : Functions) (z : Start) (s : State) (arena : Arena) (mid new : Work) (counts : Counts) (held : Option Hand) (q : Point) (N : Point → Type 0)
+module _ (F : Functions) (z : Start) (s : State) (arena : Arena) (mid new : Work) (counts : Counts) (held : Option PointInHand) (q : Point) (N : Point → Type 0)
     (st : StandsWith N arena mid counts held s) (fresh : N q → ⊥) (now : (a : Point) → Needed new.graph a ↔ (N a ⊎ (a ≡ q)))
     (high : s.height q ≡ level mid.graph.heights q) (idle : owed_in held q ≡ [])
-    (w : IsWoken mid new q) (same : is_some (at mid.rows q) ≡ is_some (s.graph.row q.node)) where
+    (w : IsNewlyNeeded mid new q) (same : is_some (at mid.rows q) ≡ is_some (s.graph.row q.node)) where
   abbrev heap' : Point → Bool
   heap' a = is_some (at new.graph.heap a)
 
@@ -251,7 +251,7 @@ module _ (F : Functions) (z : Start) (s : State) (arena : Arena) (mid new : Work
       → ((a : Point) → todo a ≡ true → Among a new.todo.items ⊎ IsInHand held a)
       → ((a : Point) (k : Progress) → at new.rows a ≡ Some k → stage a ≡ stage_of k.stage)
       → ((a : Point) → owed a ≡ owed_in held a)
-      → Stands arena new counts held (record woken { todo = todo; stage = stage; owed = owed })
+      → MatchesState arena new counts held (record woken { todo = todo; stage = stage; owed = owed })
   woken_with todo stage owed todo_is stage_is owed_is = record {
     graph = st.graph ∙ sym (graph_staged arena mid new q code.Bare w.rows w.round.roots);
     out = λ a k e. let b = row_before mid.rows new.rows q code.Bare w.rows a k e in st.out a b.row b.was ∙ sym b.outcome;
@@ -285,7 +285,7 @@ module _ (F : Functions) (z : Start) (s : State) (arena : Arena) (mid new : Work
   listed a h = elim (st.todo a h) [ inl k ↦ inl (w.todo a k) | inr k ↦ inr k ]
 
   -- a live node's point, or one of a node that died in this round
-  woken_live : HasLinks mid q → Stands arena new counts held woken
+  woken_live : HasLinks mid q → MatchesState arena new counts held woken
   woken_live h = woken_with woken.todo woken.stage woken.owed
       (λ a t. elim (same_or_other q a) [
         | inl e ↦ inl (subst (λ (x : Point). Among x new.todo.items) e (w.listed h))
@@ -339,7 +339,7 @@ module _ (F : Functions) (z : Start) (s : State) (arena : Arena) (mid new : Work
     no_new_row : (k : Progress) → at new.rows q ≡ Some k → ⊥
     no_new_row k e = let b = row_before mid.rows new.rows q code.Bare w.rows q k e in let d = dead in let was = b.was in cc
 
-    rested_stands : Stands arena new counts held rested
+    rested_stands : MatchesState arena new counts held rested
     rested_stands = woken_with rested.todo rested.stage rested.owed
         (λ a t. elim (same_or_other q a) [
           | inl e ↦ absurd (let f = at_same q false woken.todo in let t' : rested.todo q ≡ true = subst (λ (x : Point). rested.todo x ≡ true) (sym e) t in cc)
@@ -355,7 +355,7 @@ module _ (F : Functions) (z : Start) (s : State) (arena : Arena) (mid new : Work
         ])
 
   -- from the state in which the point is newly needed
-  pub woken_stands : AreUnlinked held s → (t : State) × Reaches (Wiring F z) woken t × Stands arena new counts held t × AreUnlinked held t
+  pub woken_stands : AreUnlinked held s → (t : State) × Reaches (Wiring F z) woken t × MatchesState arena new counts held t × AreUnlinked held t
   woken_stands unlinked = elim (some_or_none (at mid.rows q)) [
     | inl k ↦ (woken, here, woken_live (inl (ap is_some k.1)), newly_unlinked s q heap' held unlinked)
     | inr dead ↦ elim (some_or_none (died_at mid q.node)) [
@@ -372,10 +372,10 @@ module _ (F : Functions) (z : Start) (s : State) (arena : Arena) (mid new : Work
 -- ---- a link to what wasn't needed
 
 module _ (F : Functions) (z : Start) (s : State) (arena : Arena) (old new : Work) (g : NecessaryPart) (counts : Counts) (p q : Point) (rest : List Point)
-    (st : Stands arena old counts (Some (hand p (q ∷ rest))) s)
+    (st : MatchesState arena old counts (Some (hand p (q ∷ rest))) s)
     (reached : IsReached old.graph g q) (more : OneLinkMore old.graph.links g.links p q) (roots : KeepsRoots old.graph.roots g.roots)
     (need : Needed old.graph p) (dep : Depends F s.graph s.died p q) (conf : IsConfirmed s p q)
-    (fresh : Needed old.graph q → ⊥) (w : IsWoken (record old { graph = g }) new q)
+    (fresh : Needed old.graph q → ⊥) (w : IsNewlyNeeded (record old { graph = g }) new q)
     (woken_needs : (a : Point) → Needed new.graph a ↔ Needed g a)
     (same : is_some (at old.rows q) ≡ is_some (s.graph.row q.node)) where
   abbrev linked_state : State
@@ -397,7 +397,7 @@ module _ (F : Functions) (z : Start) (s : State) (arena : Arena) (old new : Work
   idle = at_other p rest (λ (y : Point). []) q other
 
   pub linked_new_stands : AreUnlinked (Some (hand p [])) s
-      → (t : State) × Reaches (Wiring F z) s t × Stands arena new counts (Some (hand p rest)) t × AreUnlinked (Some (hand p [])) t
+      → (t : State) × Reaches (Wiring F z) s t × MatchesState arena new counts (Some (hand p rest)) t × AreUnlinked (Some (hand p [])) t
   linked_new_stands unlinked =
       let e = enqueues F z linked_state arena mid new counts (Some (hand p rest)) q (Needed old.graph) with_old fresh now refl idle w same in
       let u = unneeded F z linked_state arena mid new counts (Some (hand p rest)) q (Needed old.graph) with_old fresh now refl idle w same in

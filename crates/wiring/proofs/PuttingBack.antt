@@ -30,7 +30,7 @@ use Rattle.node_outcomes.specs.declared.row.Stage.{Stage}
 use Rattle.node_outcomes.specs.declared.row.Stage.TheVariants as code
 use Rattle.wiring.specs.Graph.{rowless}
 use Rattle.wiring.specs.Kept.{IsKept}
-use Rattle.wiring.specs.Stands.{Stands, Hand, owed_in, Counts}
+use Rattle.wiring.specs.Stands.{MatchesState, PointInHand, owed_in, Counts}
 use Rattle.wiring.specs.Wiring.{IsMarked, IsEnqueued, HasMore, IsAtGate, GoesBack, HandIsSpared, IsSparedHand, TakesOne, is_gated}
 use Rattle.wiring.specs.declared.work.Work.{Work}
 use Rattle.wiring.proofs.GoingBack.{IsLowered, lowered, fewer_links}
@@ -161,8 +161,8 @@ module _ (arena : Arena) (old new : Work) (p : Point) (bind : NodeId) (r : Row) 
   module _ (gone : (b : Point) → (b ≡ change bind → ⊥) → times links p b ≡ 0)
       (stays : times links p (change bind) ≡ times old.graph.links p (change bind))
       (unsettled : settled_in old.round (at old.rows (change bind)) ≡ false)
-      (F : Functions) (z : Start) (s : State) (counts : Counts) (held : Option Hand) (inv : Invariant F z s)
-      (spared : HandIsSpared arena old held) (st : Stands arena old counts held s) where
+      (F : Functions) (z : Start) (s : State) (counts : Counts) (held : Option PointInHand) (inv : Invariant F z s)
+      (spared : HandIsSpared arena old held) (st : MatchesState arena old counts held s) where
     s_row : s.graph.row p.node ≡ Some r
     s_row = ap (λ (G : Graph). G.row p.node) st.graph ∙ row
 
@@ -203,7 +203,7 @@ module _ (arena : Arena) (old new : Work) (p : Point) (bind : NodeId) (r : Row) 
     owes_no_gate : count gate (s.owed p) ≡ 0
     owes_no_gate = ap (count gate) (st.owed p) ∙ by_hand held refl
       where
-        by_hand : (x : Option Hand) → held ≡ x → count gate (owed_in x p) ≡ 0
+        by_hand : (x : Option PointInHand) → held ≡ x → count gate (owed_in x p) ≡ 0
         by_hand None e = refl
         by_hand (Some h) e = elim (same_or_other h.point p) [
           | inl same ↦ ap (count gate) (subst (λ (y : Point). owed_in (Some h) y ≡ h.owed) same (at_same h.point h.owed nothing))
@@ -213,7 +213,7 @@ module _ (arena : Arena) (old new : Work) (p : Point) (bind : NodeId) (r : Row) 
           where
             not_owed : h.point ≡ p → Among gate h.owed → ⊥
             not_owed same among =
-                let sp : IsSparedHand arena old h = subst (λ (y : Option Hand). HandIsSpared arena old y) e spared in
+                let sp : IsSparedHand arena old h = subst (λ (y : Option PointInHand). HandIsSpared arena old y) e spared in
                 let settled = sp.gate r bind (subst (λ (y : Point). row_at arena y.node ≡ Some r) (sym same) row) scope among
                 (subst (λ (y : Point). HasMore (stage_in (at old.rows y))) (sym same) more) in
                 cc

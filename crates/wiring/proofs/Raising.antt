@@ -30,7 +30,7 @@ use Rattle.stabilize_round.proofs.Steps.{joined}
 use Rattle.wiring.specs.Growing.{Grows, left_to_wire}
 use Rattle.wiring.specs.Kept.{IsKept}
 use Rattle.node_outcomes.specs.Row.{IsRewritten, with_stage, settled_in, stage_in, outcome_in, stage_of, is_never}
-use Rattle.wiring.specs.Stands.{Stands, hand, Counts}
+use Rattle.wiring.specs.Stands.{MatchesState, hand, Counts}
 use Rattle.wiring.specs.Wiring.{KeepsRound, KeepsLists, KeepsPlaces, LacksLinks, GateRan, AreUnlinked}
 use Rattle.node_outcomes.specs.declared.row.Progress.{Progress}
 use Rattle.node_outcomes.specs.declared.row.Stage.{Stage}
@@ -244,7 +244,7 @@ module _ (old new : Work) (p : Point) (st : Stage) (w : IsRewritten old.rows new
     scoped = λ n r row some. scoped_same old new same.lists n (k.scoped n r row some);
   }
 
-  module _ (F : Functions) (z : Start) (s : State) (arena : Arena) (counts : Counts) (links : List Point) (on : Stands arena old counts (Some (hand p [])) s)
+  module _ (F : Functions) (z : Start) (s : State) (arena : Arena) (counts : Counts) (links : List Point) (on : MatchesState arena old counts (Some (hand p [])) s)
       (raises : Raise s p (stage_of st) links) where
     abbrev up : State
     up = raised s p (stage_of st) links
@@ -252,7 +252,7 @@ module _ (old new : Work) (p : Point) (st : Stage) (w : IsRewritten old.rows new
     pub up_wiring : Reaches (Wiring F z) s up
     up_wiring = step (move.raise raises refl, tt) here
 
-    pub up_stands : Stands arena new counts (Some (hand p links)) up
+    pub up_stands : MatchesState arena new counts (Some (hand p links)) up
     up_stands = record {
       graph = on.graph ∙ sym (graph_staged arena old new p st w same.round.roots);
       out = λ a k e. let b = row_before old.rows new.rows p st w a k e in on.out a b.row b.was ∙ sym b.outcome;
@@ -280,8 +280,8 @@ module _ (old new : Work) (p : Point) (st : Stage) (w : IsRewritten old.rows new
 
 -- a point without a row is raised: nothing is kept of that
 module _ (F : Functions) (z : Start) (s : State) (arena : Arena) (work : Work) (counts : Counts) (p : Point) (st : machine.Stage) (links : List Point)
-    (on : Stands arena work counts (Some (hand p [])) s) (rowless : at work.rows p ≡ None) where
-  pub rowless_stands : Stands arena work counts (Some (hand p links)) (raised s p st links)
+    (on : MatchesState arena work counts (Some (hand p [])) s) (rowless : at work.rows p ≡ None) where
+  pub rowless_stands : MatchesState arena work counts (Some (hand p links)) (raised s p st links)
   rowless_stands = record {
     graph = on.graph;
     out = on.out;
@@ -308,8 +308,8 @@ module _ (F : Functions) (z : Start) (s : State) (arena : Arena) (work : Work) (
   }
 
 -- the point in hand is owed nothing, and leaves the worklist
-pub leaves_hand : (F : Functions) (z : Start) (s : State) (arena : Arena) (work : Work) (counts : Counts) (p : Point) → Stands arena work counts (Some (hand p [])) s
-    → AreUnlinked (Some (hand p [])) s → Finish s p → (t : State) × Reaches (Wiring F z) s t × Stands arena work counts None t × AreUnlinked None t
+pub leaves_hand : (F : Functions) (z : Start) (s : State) (arena : Arena) (work : Work) (counts : Counts) (p : Point) → MatchesState arena work counts (Some (hand p [])) s
+    → AreUnlinked (Some (hand p [])) s → Finish s p → (t : State) × Reaches (Wiring F z) s t × MatchesState arena work counts None t × AreUnlinked None t
 leaves_hand F z s arena work counts p on unlinked finishes = (
   finished s p,
   step (move.finish finishes refl, tt) here,
@@ -381,17 +381,17 @@ one_row arena n r r' e e' = some_row (sym e' ∙ e)
 
 -- the state's row is the arena's
 pub row_of_state : (s : State) (arena : Arena) (work : Work) (counts : Counts) (p : Point) (owed : List Point) (n : NodeId)
-    → Stands arena work counts (Some (hand p owed)) s → s.graph.row n ≡ row_at arena n
+    → MatchesState arena work counts (Some (hand p owed)) s → s.graph.row n ≡ row_at arena n
 row_of_state s arena work counts p owed n on = ap (λ (G : Graph). G.row n) on.graph
 
 -- its stage is the one in its row
 pub stage_is : (s : State) (arena : Arena) (work : Work) (counts : Counts) (p : Point) (owed : List Point) (st : Stage)
-    → Stands arena work counts (Some (hand p owed)) s → stage_in (at work.rows p) ≡ Some st → s.stage p ≡ stage_of st
+    → MatchesState arena work counts (Some (hand p owed)) s → stage_in (at work.rows p) ≡ Some st → s.stage p ≡ stage_of st
 stage_is s arena work counts p owed st on e = let k = staged_row (at work.rows p) st e in on.stage p k.0 k.1 ∙ ap stage_of k.2
 
 module _ (arena : Arena) (p : Point) (r : Row) (row : row_at arena p.node ≡ Some r) (old : Work) (need : Needed old.graph p) (lacks : LacksLinks arena old p)
     (ran : GateRan arena old p) (F : Functions) (z : Start) (s : State) (counts : Counts) (inv : Invariant F z s)
-    (on : Stands arena old counts (Some (hand p [])) s) where
+    (on : MatchesState arena old counts (Some (hand p [])) s) where
   row_is : s.graph.row p.node ≡ Some r
   row_is = row_of_state s arena old counts p [] p.node on ∙ row
 

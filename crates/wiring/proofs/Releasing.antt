@@ -15,7 +15,7 @@ use Rattle.necessary_graph.specs.Sweep.{Sweep, DropsLeaves, IsUnlinked}
 use Rattle.necessary_graph.proofs.Sweeping.{link_cases}
 use Rattle.necessary_graph.proofs.Composing.{with_links, swept_alone, drops_none, IsThinner, sweeps_compose, drops_compose, one_off, off_thinner}
 use Rattle.necessary_graph.proofs.Reaching.{needed_more}
-use Rattle.node_lists.specs.Deaths.{Deaths, IsTold}
+use Rattle.node_lists.specs.Deaths.{Deaths, AreDeaths}
 use Rattle.node_outcomes.specs.declared.row.Progress.{Progress}
 use Rattle.stabilize_round.proofs.Points.{node_or_other}
 use Rattle.wiring.specs.Graph.{died_at, rowless}
@@ -205,7 +205,7 @@ releasing_more old now new n b mid so died popped rows first step second last =
     }
 
 -- all let go
-module _ (old new : Work) (so : IsReleasing old new) (nodes : new.deaths.nodes ≡ []) (told : IsTold new.deaths.nodes new.deaths.scopes) where
+module _ (old new : Work) (so : IsReleasing old new) (nodes : new.deaths.nodes ≡ []) (told : AreDeaths new.deaths.nodes new.deaths.scopes) where
   none_of : (x : Option NodeId) → (is_some x ≡ true → ⊥) → x ≡ None
   none_of None h = refl
   none_of (Some y) h = absurd (h refl)
@@ -295,7 +295,7 @@ module _ (old now mid new : Work) (d : Deaths) (so : IsReleasing old now) (besid
       (subst (λ (leaf : Point → Bool). IsOffAt leaf mid.graph new.graph (change n) (change b)) (rowless_same old mid (mid_rows ∙ so.rows)) two) last
 
 -- none is left to take up
-pub release_last : (old now : Work) (d : Deaths) → IsReleasing old now → d ≡ now.deaths → now.deaths.nodes ≡ [] → IsTold d.nodes d.scopes
+pub release_last : (old now : Work) (d : Deaths) → IsReleasing old now → d ≡ now.deaths → now.deaths.nodes ≡ [] → AreDeaths d.nodes d.scopes
     → IsReleased old (record now { deaths = d })
 release_last old now d so same none told =
     released old (record now { deaths = d }) (subst (λ (x : Deaths). IsReleasing old (record now { deaths = x })) (sym same) so)

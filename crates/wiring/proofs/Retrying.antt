@@ -40,7 +40,7 @@ use Rattle.node_outcomes.specs.declared.row.Progress.{Progress}
 use Rattle.node_outcomes.specs.declared.row.Stage.{Stage}
 use Rattle.node_outcomes.specs.declared.row.Stage.TheVariants as code
 use Rattle.wiring.specs.TakingOff.{RowsSpared, TakesMore}
-use Rattle.wiring.specs.Stands.{Stands, Hand, hand, Counts}
+use Rattle.wiring.specs.Stands.{MatchesState, PointInHand, hand, Counts}
 use Rattle.wiring.specs.Wiring.{IsDue, IsLevelled, IsSpared, IsPutBack, HasMore, IsTarget, MayRead, KeepsPlaces, TakesOff, Links, is_gated, is_still, hand_now, AreUnlinked}
 use Rattle.wiring.specs.declared.refused.Refused.{Refused}
 use Rattle.wiring.specs.declared.work.Work.{Work}
@@ -175,13 +175,13 @@ module _ (F : Functions) (z : Start) (s : State) (arena : Arena) (old mid new : 
     (due : IsDue F z s arena old counts p q rest) (l : IsLevelled old mid) (some : 0 < old.retries) (need : Needed mid.graph p)
     (spared : IsSpared arena mid p) (off : TakesOff arena mid new) (in_step : IsInStep new.graph) (rows : RowsSpared arena mid new)
     (round : new.round ≡ mid.round) where
-  abbrev pub held : Option Hand
+  abbrev pub held : Option PointInHand
   held = Some (hand p (q ∷ rest))
 
   abbrev pub first : State
   first = levelled s (level mid.graph.heights)
 
-  first_stands : Stands arena mid counts held first
+  first_stands : MatchesState arena mid counts held first
   first_stands = low_stands F z s arena old mid counts held due.stands l
 
   first_wiring : Reaches (Wiring F z) s first
@@ -196,7 +196,7 @@ module _ (F : Functions) (z : Start) (s : State) (arena : Arena) (old mid new : 
       ∙ (ap (settled_in old.round) (l.rows (change b))
       ∙ due.gate r b row scope among (subst (λ (x : Option Progress). HasMore (stage_in x)) (l.rows p) more))
 
-  pub was : (t u : State) × Reaches (TakingOff F z) first t × ((m : Move F z t u) × Spends m) × Stands arena new counts (hand_now mid new held) u
+  pub was : (t u : State) × Reaches (TakingOff F z) first t × ((m : Move F z t u) × Spends m) × MatchesState arena new counts (hand_now mid new held) u
   was = off F z first counts held first_inv (subst (λ (i : ℕ). 0 < i) (sym due.stands.retries) some)
       (record { spared = spared; needed = inr need; gate = gate_ran }) first_stands
 
@@ -227,7 +227,7 @@ module _ (F : Functions) (z : Start) (s : State) (arena : Arena) (old mid new : 
     pub due_again : IsDue F z then arena new counts p q rest
     due_again = record {
       holds = then_inv;
-      stands = subst (λ (h : Option Hand). Stands arena new counts h then) held_still was.4;
+      stands = subst (λ (h : Option PointInHand). MatchesState arena new counts h then) held_still was.4;
       depends = still_depends F s then p q keeps due.depends;
       confirmed = still_confirmed s then p q keeps due.confirmed;
       gate = λ r b row scope among more. settled_still b
@@ -241,13 +241,13 @@ module _ (F : Functions) (z : Start) (s : State) (arena : Arena) (old mid new : 
 
   -- it isn't needed any more, or waits for its gate, and leaves the worklist
   module _ (gone : is_still mid new p ≡ false) where
-    at_hand : Stands arena new counts (Some (hand p [])) then
-    at_hand = subst (λ (b : Bool). Stands arena new counts (cond b held (Some (hand p []))) then) gone was.4
+    at_hand : MatchesState arena new counts (Some (hand p [])) then
+    at_hand = subst (λ (b : Bool). MatchesState arena new counts (cond b held (Some (hand p []))) then) gone was.4
 
     owes_nothing : then.owed p ≡ []
     owes_nothing = at_hand.owed p ∙ at_same p [] nothing
 
-    left : Finish then p → (t : State) × Wired F z s t × Stands arena new counts None t × AreUnlinked None t
+    left : Finish then p → (t : State) × Wired F z s t × MatchesState arena new counts None t × AreUnlinked None t
     left leaves = (
       finished then p,
       wired_on (finished then p) (step (finish leaves refl, tt) here),
@@ -281,7 +281,7 @@ module _ (F : Functions) (z : Start) (s : State) (arena : Arena) (old mid new : 
       finished_unlinked then p unlinked,
     )
 
-  pub lost_need : (Needed new.graph p → ⊥) → (t : State) × Wired F z s t × Stands arena new counts None t × AreUnlinked None t
+  pub lost_need : (Needed new.graph p → ⊥) → (t : State) × Wired F z s t × MatchesState arena new counts None t × AreUnlinked None t
   lost_need lost = left gone (record {
     owed = owes_nothing gone;
     bare = λ n e. lost (need_now n);
@@ -298,7 +298,7 @@ module _ (F : Functions) (z : Start) (s : State) (arena : Arena) (old mid new : 
       need_now : then.needed p ≡ true → Needed new.graph p
       need_now n = (was.4.needed p).0 n
 
-  pub put_back : (back : IsPutBack arena mid new p) → (t : State) × Wired F z s t × Stands arena new counts None t × AreUnlinked None t
+  pub put_back : (back : IsPutBack arena mid new p) → (t : State) × Wired F z s t × MatchesState arena new counts None t × AreUnlinked None t
   put_back back = left gone (record {
     owed = owes_nothing gone;
     bare = λ n e. let g = stage_is in cc;
@@ -345,7 +345,7 @@ module _ (F : Functions) (z : Start) (s : State) (arena : Arena) (old mid new : 
       in_heap r row n = was.4.heap (change back.bind) ∙ back.back.waits ((was.4.needed p).0 n) (reads r row n)
 
   -- one way or the other
-  pub left_hand : (IsStill mid new p → ⊥) → (t : State) × Wired F z s t × Stands arena new counts None t × AreUnlinked None t
+  pub left_hand : (IsStill mid new p → ⊥) → (t : State) × Wired F z s t × MatchesState arena new counts None t × AreUnlinked None t
   left_hand lost = elim (rows p spared) [
     | inl e ↦ lost_need (λ n. lost (n, λ g. ap stage_in (sym e) ∙ g))
     | inr b ↦ put_back b

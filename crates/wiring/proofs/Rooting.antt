@@ -18,8 +18,8 @@ use Rattle.stabilize_round.specs.Moves.{Enqueues}
 use Rattle.stabilize_round.specs.Wire.{rooted, newly, IsIt}
 use Rattle.stabilize_round.proofs.Steps.{wiring_moves, joined, wired_moves}
 use Rattle.stabilize_round.proofs.Points.{same_or_other, at_same, at_other}
-use Rattle.wiring.specs.Stands.{Stands, StandsWith, Counts}
-use Rattle.wiring.specs.Wiring.{IsWoken, AreUnlinked, Looks, IsLevelled, IsTarget, Wires, WireRefused, PutsRoots, RootRefused}
+use Rattle.wiring.specs.Stands.{MatchesState, StandsWith, Counts}
+use Rattle.wiring.specs.Wiring.{IsNewlyNeeded, AreUnlinked, ShowsSame, IsLevelled, IsTarget, Wires, WireRefused, PutsRoots, RootRefused}
 use Rattle.wiring.specs.declared.work.Work.{Work}
 use Rattle.wiring.proofs.Linking.{enqueues, woken_stands, unneeded}
 use Rattle.inc_terms.specs.Graph.{Graph}
@@ -45,7 +45,7 @@ roots_more root old new p same more a = elim (same_or_other p a) [
 ]
 
 module _ (F : Functions) (z : Start) (s : State) (arena : Arena) (old : Work) (g : NecessaryPart) (counts : Counts) (p : Point)
-    (st : Stands arena old counts None s) (also : AlsoNeeded old.graph g p) (more : OneRootMore old.graph.roots g.roots p)
+    (st : MatchesState arena old counts None s) (also : AlsoNeeded old.graph g p) (more : OneRootMore old.graph.roots g.roots p)
     (links : KeepsLinks old.graph.links g.links) (heights : g.heights ≡ old.graph.heights) (heap : g.heap ≡ old.graph.heap)
     (level_is : (a : Point) → s.height a ≡ level old.graph.heights a) where
   high : (a : Point) → s.height a ≡ level g.heights a
@@ -75,7 +75,7 @@ module _ (F : Functions) (z : Start) (s : State) (arena : Arena) (old : Work) (g
   }
 
   pub rooted_stands : Needed old.graph p → AreUnlinked None s
-      → (t : State) × Moves F z s t × Stands arena (record old { graph = g }) counts None t × AreUnlinked None t
+      → (t : State) × Moves F z s t × MatchesState arena (record old { graph = g }) counts None t × AreUnlinked None t
   rooted_stands there unlinked = (
     rooted s p,
     step (move.root ((st.needed p).1 there) refl) here,
@@ -89,12 +89,12 @@ module _ (F : Functions) (z : Start) (s : State) (arena : Arena) (old : Work) (g
     unlinked,
   )
 
-  module _ (new : Work) (given : Given arena.given p.node) (fresh : Needed old.graph p → ⊥) (w : IsWoken (record old { graph = g }) new p)
+  module _ (new : Work) (given : Given arena.given p.node) (fresh : Needed old.graph p → ⊥) (w : IsNewlyNeeded (record old { graph = g }) new p)
       (woken_needs : (a : Point) → Needed new.graph a ↔ Needed g a) (same : is_some (at old.rows p) ≡ is_some (s.graph.row p.node)) where
     now : (a : Point) → Needed new.graph a ↔ (Needed old.graph a ⊎ (a ≡ p))
     now a = (λ n. (also a).0 ((woken_needs a).0 n), λ h. (woken_needs a).1 ((also a).1 h))
 
-    pub rooted_new_stands : AreUnlinked None s → (t : State) × Moves F z s t × Stands arena new counts None t × AreUnlinked None t
+    pub rooted_new_stands : AreUnlinked None s → (t : State) × Moves F z s t × MatchesState arena new counts None t × AreUnlinked None t
     rooted_new_stands unlinked =
         let base = rooted_with (Needed old.graph) st.needed in
         let e = enqueues F z (rooted s p) arena (record old { graph = g }) new counts None p (Needed old.graph) base fresh now (high p) refl w same in
@@ -108,10 +108,10 @@ pub on_ok : {A E P : Type 0} (r : Result A E) → P → OnOk r P
 on_ok (Ok x) h = h
 on_ok (Err x) h = tt
 
-module _ (old mid new : Work) (g : NecessaryPart) (p : Point) (newly : Bool) (looks : Looks old mid) (also : AlsoNeeded mid.graph g p)
+module _ (old mid new : Work) (g : NecessaryPart) (p : Point) (newly : Bool) (looks : ShowsSame old mid) (also : AlsoNeeded mid.graph g p)
     (more : OneRootMore mid.graph.roots g.roots p) (links : KeepsLinks mid.graph.links g.links) (heights : g.heights ≡ mid.graph.heights)
     (heap : g.heap ≡ mid.graph.heap) (newly_is : IsFalse newly ↔ Needed mid.graph p)
-    (woken : IsTrue newly → IsWoken (record mid { graph = g }) new p) (same : IsFalse newly → new ≡ record mid { graph = g })
+    (woken : IsTrue newly → IsNewlyNeeded (record mid { graph = g }) new p) (same : IsFalse newly → new ≡ record mid { graph = g })
     (mid_step : IsInStep mid.graph) where
   root_grown : ((a : Point) → a ≢ p → at mid.graph.heights a ≡ at old.graph.heights a) → IsInStep new.graph → IsGrown old new p
   root_grown others step_is = grown old mid new g p newly looks others (λ a. ap (λ (h : Rows ℕ). is_some (at h a)) heights) also
@@ -147,8 +147,8 @@ module _ (old mid new : Work) (g : NecessaryPart) (p : Point) (newly : Bool) (lo
   }
 
   root_follows_low : (arena : Arena) → IsKept arena old → IsTarget arena old p → (F : Functions) (z : Start) (s : State) (counts : Counts)
-      → Stands arena mid counts None s → ((a : Point) → s.height a ≡ level mid.graph.heights a) → AreUnlinked None s
-      → (t : State) × Moves F z s t × Stands arena new counts None t × AreUnlinked None t
+      → MatchesState arena mid counts None s → ((a : Point) → s.height a ≡ level mid.graph.heights a) → AreUnlinked None s
+      → (t : State) × Moves F z s t × MatchesState arena new counts None t × AreUnlinked None t
   root_follows_low arena kept target F z s counts at_mid high unlinked =
       let row : is_some (at mid.rows p) ≡ is_some (s.graph.row p.node) =
       ap is_some (looks.rows p) ∙ (target_row arena old p kept target ∙ sym (ap (λ (G : Graph). is_some (G.row p.node)) at_mid.graph)) in
@@ -156,7 +156,7 @@ module _ (old mid new : Work) (g : NecessaryPart) (p : Point) (newly : Bool) (lo
         | inl t ↦ rooted_new_stands F z s arena mid g counts p at_mid also more links heights heap high new target.given (fresh t) (woken t)
             (same_need g new.graph (λ a. ap (λ (r : Roots). root_times r a) (woken t).graph.roots)
             (λ a b. ap (λ (l : Links). times l a b) (woken t).graph.links)) row unlinked
-        | inr f ↦ subst (λ (x : Work). (t : State) × Moves F z s t × Stands arena x counts None t × AreUnlinked None t) (sym (same f))
+        | inr f ↦ subst (λ (x : Work). (t : State) × Moves F z s t × MatchesState arena x counts None t × AreUnlinked None t) (sym (same f))
             (rooted_stands F z s arena mid g counts p at_mid also more links heights heap high (newly_is.0 f) unlinked)
       ]
 

@@ -21,7 +21,7 @@ use Rattle.node_outcomes.specs.declared.row.Progress.{Progress}
 use Rattle.wiring.specs.Graph.{graph_at}
 use Rattle.wiring.specs.Growing.{Grows}
 use Rattle.wiring.specs.Kept.{IsKept}
-use Rattle.wiring.specs.Stands.{Stands, Hand, IsInHand, Counts}
+use Rattle.wiring.specs.Stands.{MatchesState, PointInHand, IsInHand, Counts}
 use Rattle.wiring.specs.Wiring.{IsMarked, KeepsPlaces, KeepsLists}
 use Rattle.wiring.specs.declared.work.Work.{Work}
 use Rattle.wiring.proofs.Growing.{no_more_unneeded}
@@ -93,7 +93,7 @@ module _ (q : Point) (old new : Work) (marked : IsMarked old.graph new.graph q) 
       scoped = λ i x at_row some. scoped_same old new same_lists i (k.scoped i x at_row some);
     }
 
-  module _ (s : State) (arena : Arena) (counts : Counts) (held : Option Hand) (on : Stands arena old counts held s) where
+  module _ (s : State) (arena : Arena) (counts : Counts) (held : Option PointInHand) (on : MatchesState arena old counts held s) where
     abbrev heap' : Point → Bool
     heap' a = is_some (at new.graph.heap a)
 
@@ -101,7 +101,7 @@ module _ (q : Point) (old new : Work) (marked : IsMarked old.graph new.graph q) 
     abbrev pub put_in : State
     put_in = heaped s heap'
 
-    pub put_stands : Stands arena new counts held put_in
+    pub put_stands : MatchesState arena new counts held put_in
     put_stands = record {
       graph = on.graph ∙ sym (same_graph arena);
       out = λ a k e. on.out a k (sym (row_as a) ∙ e);

@@ -33,7 +33,7 @@ use Rattle.stabilize_round.specs.Calling.{Reason, other, made_stale}
 use Rattle.node_outcomes.specs.Computing.{ReasonIn, IsSeenDue, CallsSeen, last_in, KeepsAnswers, LooksAtSeen, seen, seen_of, seen_together, has_part}
 use Rattle.wiring.specs.Kept.{IsKept}
 use Rattle.node_outcomes.specs.Row.{never_in, settled_in, outcome_in}
-use Rattle.wiring.specs.Stands.{Stands, Counts}
+use Rattle.wiring.specs.Stands.{MatchesState, Counts}
 use Rattle.node_outcomes.specs.declared.row.Progress.{Progress}
 use Rattle.wiring.specs.declared.work.Work.{Work}
 
@@ -101,7 +101,7 @@ some_row a b e = cc
 some_outcome : (a b : Outcome) → ◌≡◌ {A = Option Outcome} (Some a) (Some b) → a ≡ b
 some_outcome a b e = cc
 
-module _ (s : State) (arena : Arena) (work : Work) (counts : Counts) (kept : IsKept arena work) (st : Stands arena work counts None s) where
+module _ (s : State) (arena : Arena) (work : Work) (counts : Counts) (kept : IsKept arena work) (st : MatchesState arena work counts None s) where
   pub row_is : (n : NodeId) → s.graph.row n ≡ row_at arena n
   row_is n = ap (λ (G : Graph). G.row n) st.graph
 

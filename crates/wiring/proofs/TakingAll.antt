@@ -30,7 +30,7 @@ use Rattle.node_outcomes.specs.declared.row.Progress.{Progress}
 use Rattle.node_outcomes.specs.declared.row.Stage.{Stage}
 use Rattle.node_outcomes.specs.declared.row.Stage.TheVariants as code
 use Rattle.wiring.specs.Kept.{IsKept}
-use Rattle.wiring.specs.Stands.{Stands, Hand, Counts}
+use Rattle.wiring.specs.Stands.{MatchesState, PointInHand, Counts}
 use Rattle.wiring.specs.TakingOff.{LosesLinks, RowsSpared, TakesSome, TakesMore}
 use Rattle.wiring.specs.Wiring.{OnlyLoses, GoesBack, IsPutBack, IsBehindGate, HasMore, TakesOne, TakesOff, IsConfirmedAt, KeepsPlaces, hand_now}
 use Rattle.wiring.specs.declared.work.Work.{Work}
@@ -50,7 +50,7 @@ takes_then arena old mid new keeps round then mid_step new_step less first next 
     (hand_spared arena old mid keeps round mid_step held spared) a.2 in (
       b.0,
       joined (TakingOff F z) s a.0 b.0 a.1 b.1,
-      subst (λ (h : Option Hand). Stands arena new counts h b.0) (same_hand arena old mid keeps round new then mid_step new_step less held spared) b.2,
+      subst (λ (h : Option PointInHand). MatchesState arena new counts h b.0) (same_hand arena old mid keeps round new then mid_step new_step less held spared) b.2,
     )
 
 pub loses_none : (g : NecessaryPart) → OnlyLoses g g
@@ -209,11 +209,11 @@ module _ (arena : Arena) (old mid new : Work) (gates changes : ℕ) (so : AreTak
 
 module _ (arena : Arena) (old last new : Work) (left : ℕ) (taken : TakesOne arena old last) (same : last.retries ≡ old.retries)
     (fewer : 0 < old.retries → left < old.retries) (only : new ≡ record last { retries = left })
-    (strict : (counts : Counts) (held : Option Hand) (t : State) → Stands arena last counts held t → Strict (spent t left)) where
+    (strict : (counts : Counts) (held : Option PointInHand) (t : State) → MatchesState arena last counts held t → Strict (spent t left)) where
   abbrev spending : Work
   spending = record last { retries = left }
 
-  spent_stands : (counts : Counts) (held : Option Hand) (t : State) → Stands arena last counts held t → Stands arena spending counts held (spent t left)
+  spent_stands : (counts : Counts) (held : Option PointInHand) (t : State) → MatchesState arena last counts held t → MatchesState arena spending counts held (spent t left)
   spent_stands counts held t k = record {
     graph = k.graph;
     out = k.out;
@@ -245,7 +245,7 @@ module _ (arena : Arena) (old last new : Work) (left : ℕ) (taken : TakesOne ar
         spent a.0 left,
         a.1,
         (move.spend less (strict counts (hand_now old last held) a.0 a.2) refl, tt),
-        subst (λ (w : Work). Stands arena w counts (hand_now old w held) (spent a.0 left)) (sym only)
+        subst (λ (w : Work). MatchesState arena w counts (hand_now old w held) (spent a.0 left)) (sym only)
             (spent_stands counts (hand_now old last held) a.0 a.2),
       )
 
@@ -287,7 +287,7 @@ stage_full code.Full e = refl
 
 module _ (arena : Arena) (old last new : Work) (gates changes : ℕ) (so : AreTaken arena old last gates changes) (all_gates : gates ≡ length old.scoped.nodes)
     (all_changes : changes ≡ length old.pairs.nodes) (kept : IsKept arena old) (only : new ≡ record last { retries = 0 }) where
-  module _ (counts : Counts) (held : Option Hand) (t : State) (k : Stands arena last counts held t) where
+  module _ (counts : Counts) (held : Option PointInHand) (t : State) (k : MatchesState arena last counts held t) where
     node_row : (n : NodeId) (r : Row) → t.graph.row n ≡ Some r → row_at arena n ≡ Some r
     node_row n r e = sym (ap (λ (G : Graph). G.row n) k.graph) ∙ e
 
@@ -421,7 +421,7 @@ module _ (arena : Arena) (old mid new : Work) (so : TakesSome arena old mid) (ne
         b.1,
         joined (TakingOff F z) s a.0 b.0 a.1 b.2,
         b.3,
-        subst (λ (h : Option Hand). Stands arena new counts h b.1)
+        subst (λ (h : Option PointInHand). MatchesState arena new counts h b.1)
             (same_hand arena old mid spared_some so.stays.places.round new (rows_keep arena mid new next.rows) so.stays.kept.step next.kept.step loses.less
             held spared) b.4,
       )

@@ -22,7 +22,7 @@ use Rattle.stabilize_round.proofs.Points.{same_or_other, at_same, at_other}
 use Rattle.node_outcomes.specs.Row.{stage_of, is_never}
 use Rattle.node_outcomes.specs.declared.row.Stage.{Stage}
 use Rattle.wiring.specs.Deciding.{is_needed}
-use Rattle.wiring.specs.Stands.{Stands, Hand, hand, owed_in, Counts}
+use Rattle.wiring.specs.Stands.{MatchesState, PointInHand, hand, owed_in, Counts}
 use Rattle.wiring.specs.Wiring.{is_still, hand_now}
 use Rattle.wiring.specs.declared.work.Work.{Work}
 use Rattle.wiring.proofs.Deciding.{decides_needed}
@@ -40,7 +40,7 @@ abbrev pub row_at_stage : State → Point → Row → Stage → Point → ℕ
 row_at_stage s p r to b = count b (live_plan s.graph s.out p r (stage_of to))
 
 -- the point's links are those of its stage, and the machine may drop the others; a point in hand that is put back is owed nothing
-pub record MayLower (s : State) (old new : Work) (held : Option Hand) (p waited : Point) (to : Stage) (links : Links) (r : Row)
+pub record MayLower (s : State) (old new : Work) (held : Option PointInHand) (p waited : Point) (to : Stage) (links : Links) (r : Row)
     (l : IsLowered old new p waited to links) : Type 0 where
   pub need : s.needed p ≡ true
   pub row : s.graph.row p.node ≡ Some r
@@ -49,10 +49,10 @@ pub record MayLower (s : State) (old new : Work) (held : Option Hand) (p waited 
   pub unsettled : s.settled waited ≡ false
   pub linked : (b : Point) → times links p b ≡ row_at_stage s p r to b
   pub drops : Drop (scheduled s l.mid) p r (stage_of to) (row_at_stage s p r to)
-  pub back : (h : Hand) → held ≡ Some h → h.point ≡ p → is_still old new p ≡ false
+  pub back : (h : PointInHand) → held ≡ Some h → h.point ≡ p → is_still old new p ≡ false
 
-module _ (F : Functions) (z : Start) (s : State) (arena : Arena) (old new : Work) (counts : Counts) (held : Option Hand)
-    (st : Stands arena old counts held s) (p waited : Point) (to : Stage) (links : Links) (r : Row)
+module _ (F : Functions) (z : Start) (s : State) (arena : Arena) (old new : Work) (counts : Counts) (held : Option PointInHand)
+    (st : MatchesState arena old counts held s) (p waited : Point) (to : Stage) (links : Links) (r : Row)
     (l : IsLowered old new p waited to links)
     (may : MayLower s old new held p waited to links r l) where
   abbrev first : State
@@ -185,12 +185,12 @@ module _ (F : Functions) (z : Start) (s : State) (arena : Arena) (old new : Work
   owed_now : (a : Point) → owed' a ≡ owed_in (hand_now old new held) a
   owed_now a = by_hand held refl
     where
-      by_hand : (x : Option Hand) → held ≡ x → owed' a ≡ owed_in (hand_now old new x) a
-      by_hand None e = owed_out a (inr (st.owed a ∙ ap (λ (y : Option Hand). owed_in y a) e))
+      by_hand : (x : Option PointInHand) → held ≡ x → owed' a ≡ owed_in (hand_now old new x) a
+      by_hand None e = owed_out a (inr (st.owed a ∙ ap (λ (y : Option PointInHand). owed_in y a) e))
       by_hand (Some h) e = by (is_still old new h.point) refl
         where
           owes : (b : Point) → s.owed b ≡ at_point h.point h.owed nothing b
-          owes b = st.owed b ∙ ap (λ (y : Option Hand). owed_in y b) e
+          owes b = st.owed b ∙ ap (λ (y : Option PointInHand). owed_in y b) e
 
           other : (h.point ≡ a → ⊥) → owed' a ≡ []
           other ne = owed_out a (inr (owes a ∙ at_other h.point h.owed nothing a ne))
@@ -225,7 +225,7 @@ module _ (F : Functions) (z : Start) (s : State) (arena : Arena) (old new : Work
   height_now a n = st.height a (need_before arena old new p waited to links l a n)
       ∙ ap (λ (x : Option ℕ). or_zero x) (sym (height_same arena old new p waited to links l a n))
 
-  pub stands_off : Stands arena new counts (hand_now old new held) last
+  pub stands_off : MatchesState arena new counts (hand_now old new held) last
   stands_off = record {
     graph = st.graph ∙ sym (graph_same arena old new p waited to links l);
     out = λ a x e. let b = row_before old.rows new.rows p to l.rows a x e in st.out a b.row b.was ∙ sym b.outcome;

@@ -30,7 +30,7 @@ use Rattle.node_outcomes.specs.Choosing.{right_in}
 use Rattle.node_outcomes.specs.declared.row.Progress.{Progress}
 use Rattle.node_outcomes.specs.declared.row.Stage.TheVariants as code
 use Rattle.wiring.specs.Graph.{rowless}
-use Rattle.wiring.specs.Stands.{Stands, Hand, hand, owed_in, Counts}
+use Rattle.wiring.specs.Stands.{MatchesState, PointInHand, hand, owed_in, Counts}
 use Rattle.wiring.specs.Turning.{IsDetached, IsAttached, IsOff}
 use Rattle.wiring.specs.Wiring.{IsMarked, IsSpared, TakesOne, HandIsSpared, is_still, hand_now}
 use Rattle.wiring.specs.declared.work.Work.{Work}
@@ -44,12 +44,12 @@ use Rattle.wiring.proofs.TakingOff.{MayLower, scheduled, row_at_stage, takes, st
 pub nothing_taken : (arena : Arena) (work : Work) → IsInStep work.graph → TakesOne arena work work
 nothing_taken arena work in_step F z s counts held inv spared st = (s, here, by_hand held refl)
   where
-    by_hand : (x : Option Hand) → held ≡ x → Stands arena work counts (hand_now work work x) s
-    by_hand None e = subst (λ (y : Option Hand). Stands arena work counts y s) e st
+    by_hand : (x : Option PointInHand) → held ≡ x → MatchesState arena work counts (hand_now work work x) s
+    by_hand None e = subst (λ (y : Option PointInHand). MatchesState arena work counts y s) e st
     by_hand (Some h) e = by (is_still work work h.point) refl
       where
-        stands : Stands arena work counts (Some h) s
-        stands = subst (λ (y : Option Hand). Stands arena work counts y s) e st
+        stands : MatchesState arena work counts (Some h) s
+        stands = subst (λ (y : Option PointInHand). MatchesState arena work counts y s) e st
 
         unneeded : is_still work work h.point ≡ false → Needed work.graph h.point → ⊥
         unneeded f n =
@@ -58,12 +58,12 @@ nothing_taken arena work in_step F z s counts held inv spared st = (s, here, by_
             cc
 
         owes_none : is_still work work h.point ≡ false → h.owed ≡ []
-        owes_none f = let sp = subst (λ (y : Option Hand). HandIsSpared arena work y) e spared in
+        owes_none f = let sp = subst (λ (y : Option PointInHand). HandIsSpared arena work y) e spared in
             elim sp.needed [ inl none ↦ none | inr n ↦ absurd (unneeded f n) ]
 
-        by : (b : Bool) → is_still work work h.point ≡ b → Stands arena work counts (cond b (Some h) (Some (hand h.point []))) s
+        by : (b : Bool) → is_still work work h.point ≡ b → MatchesState arena work counts (cond b (Some h) (Some (hand h.point []))) s
         by true t = stands
-        by false f = subst (λ (xs : List Point). Stands arena work counts (Some (hand h.point xs)) s) (owes_none f) stands
+        by false f = subst (λ (xs : List Point). MatchesState arena work counts (Some (hand h.point xs)) s) (owes_none f) stands
 
 -- ---- the main goes back to wait for its change
 
@@ -114,8 +114,8 @@ module _ (arena : Arena) (old first new : Work) (n : NodeId) (r : Row) (s_id m :
   links_mid : loose.mid.graph.links ≡ old.graph.links
   links_mid = loose.enqueued.graph.links ∙ marked.graph.links
 
-  module _ (F : Functions) (z : Start) (s : State) (counts : Counts) (held : Option Hand) (inv : Invariant F z s)
-      (spared : HandIsSpared arena old held) (st : Stands arena old counts held s) where
+  module _ (F : Functions) (z : Start) (s : State) (counts : Counts) (held : Option PointInHand) (inv : Invariant F z s)
+      (spared : HandIsSpared arena old held) (st : MatchesState arena old counts held s) where
     s_row : s.graph.row n ≡ Some r
     s_row = ap (λ (G : Graph). G.row n) st.graph ∙ row
 
@@ -132,9 +132,9 @@ module _ (arena : Arena) (old first new : Work) (n : NodeId) (r : Row) (s_id m :
     full : s.stage (main n) ≡ machine.Full
     full = by_stage (at old.rows (main n)) refl attached.stage
 
-    other : (h : Hand) → held ≡ Some h → h.point ≡ main n → ⊥
+    other : (h : PointInHand) → held ≡ Some h → h.point ≡ main n → ⊥
     other h e is =
-        let sp = subst (λ (y : Option Hand). HandIsSpared arena old y) e spared in
+        let sp = subst (λ (y : Option PointInHand). HandIsSpared arena old y) e spared in
         let settled : settled_in old.round (at old.rows (change n)) ≡ true =
         subst (λ (x : Point). settled_in old.round (at old.rows (change x.node)) ≡ true) is
         (sp.spared (ap (λ (x : Point). x.part) is) (subst (λ (x : Point). stage_in (at old.rows x) ≡ Some code.Full) (sym is) attached.stage) r
@@ -156,7 +156,7 @@ module _ (arena : Arena) (old first new : Work) (n : NodeId) (r : Row) (s_id m :
     owes_nothing : s.owed (main n) ≡ []
     owes_nothing = st.owed (main n) ∙ by_hand held refl
       where
-        by_hand : (x : Option Hand) → held ≡ x → owed_in x (main n) ≡ []
+        by_hand : (x : Option PointInHand) → held ≡ x → owed_in x (main n) ≡ []
         by_hand None e = refl
         by_hand (Some h) e = at_other h.point h.owed nothing (main n) (other h e)
 

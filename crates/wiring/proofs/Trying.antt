@@ -26,8 +26,8 @@ use Rattle.wiring.specs.Kept.{IsKept}
 use Rattle.node_outcomes.specs.Row.{IsRewritten, with_stage, outcome_in}
 use Rattle.height_order.specs.declared.heights.LinkFault.{LinkFault}
 use Rattle.wiring.specs.Refusing.{TellsFault}
-use Rattle.wiring.specs.Stands.{Stands, hand}
-use Rattle.wiring.specs.Wiring.{IsWoken, IsReached, Looks, Links as PutsOn, IsLevelled, IsTarget, KeepsLists, AreUnlinked, MayRead}
+use Rattle.wiring.specs.Stands.{MatchesState, hand}
+use Rattle.wiring.specs.Wiring.{IsNewlyNeeded, IsReached, ShowsSame, Links as PutsOn, IsLevelled, IsTarget, KeepsLists, AreUnlinked, MayRead}
 use Rattle.node_outcomes.specs.declared.row.Progress.{Progress}
 use Rattle.node_outcomes.specs.declared.row.Stage.TheVariants as code
 use Rattle.wiring.specs.declared.work.Work.{Work}
@@ -92,7 +92,7 @@ module _ (old new : Work) (l : IsLevelled old new) where
   }
 
 -- there was no room
-pub levelled_room : (old new : Work) → Looks old new → KeepsRows old.graph.heights new.graph.heights → IsInStep new.graph → IsLevelled old new
+pub levelled_room : (old new : Work) → ShowsSame old new → KeepsRows old.graph.heights new.graph.heights → IsInStep new.graph → IsLevelled old new
 levelled_room old new looks heights step_is = record {
   rows = looks.rows;
   links = looks.links;
@@ -106,7 +106,7 @@ levelled_room old new looks heights step_is = record {
 }
 
 -- a point that wasn't there was added, and is dropped again
-module _ (old mid closed : Work) (g : NecessaryPart) (q : Point) (opened : Bool) (looks : Looks old mid)
+module _ (old mid closed : Work) (g : NecessaryPart) (q : Point) (opened : Bool) (looks : ShowsSame old mid)
     (there : Holds mid.graph.heights q) (opened_is : IsTrue opened ↔ (at old.graph.heights q ≡ None))
     (others : (a : Point) → a ≢ q → at mid.graph.heights a ≡ at old.graph.heights a)
     (links : KeepsLinks mid.graph.links g.links) (roots : KeepsRoots mid.graph.roots g.roots)
@@ -249,11 +249,11 @@ module _ (old new : Work) (q : Point) (grown : IsGrown old new q) (arena : Arena
     scoped = λ n r row some. scoped_same old new grown.lists n (k.scoped n r row some);
   }
 
-module _ (old mid new : Work) (g : NecessaryPart) (q : Point) (newly : Bool) (looks : Looks old mid)
+module _ (old mid new : Work) (g : NecessaryPart) (q : Point) (newly : Bool) (looks : ShowsSame old mid)
     (others : (a : Point) → a ≢ q → at mid.graph.heights a ≡ at old.graph.heights a) (points : KeepsPoints mid.graph.heights g.heights)
     (also : AlsoNeeded mid.graph g q) (heap : KeepsPoints mid.graph.heap g.heap)
     (links : (a b : Point) → Reads g.links a b → Reads old.graph.links a b ⊎ MayRead old a b)
-    (woken : IsTrue newly → IsWoken (record mid { graph = g }) new q) (same : IsFalse newly → new ≡ record mid { graph = g })
+    (woken : IsTrue newly → IsNewlyNeeded (record mid { graph = g }) new q) (same : IsFalse newly → new ≡ record mid { graph = g })
     (step_is : IsInStep new.graph) where
   -- the graph has grown
   abbrev part : Work
@@ -284,7 +284,7 @@ module _ (old mid new : Work) (g : NecessaryPart) (q : Point) (newly : Bool) (lo
     lists = record { pairs = looks.lists.pairs; scoped = looks.lists.scoped };
   }
 
-  module _ (w : IsWoken part new q) where
+  module _ (w : IsNewlyNeeded part new q) where
     pub woken_need : (a : Point) → Needed new.graph a ↔ Needed g a
     woken_need = same_need g new.graph (λ a. ap (λ (r : Roots). root_times r a) w.graph.roots) (λ a b. ap (λ (l : Links). times l a b) w.graph.links)
 
@@ -327,11 +327,11 @@ module _ (old mid new : Work) (g : NecessaryPart) (q : Point) (newly : Bool) (lo
 
 -- ---- a link was put on
 
-module _ (old mid new : Work) (g : NecessaryPart) (p q : Point) (newly : Bool) (looks : Looks old mid)
+module _ (old mid new : Work) (g : NecessaryPart) (p q : Point) (newly : Bool) (looks : ShowsSame old mid)
     (others : (a : Point) → a ≢ q → at mid.graph.heights a ≡ at old.graph.heights a) (points : KeepsPoints mid.graph.heights g.heights)
     (reached : IsReached mid.graph g q) (more : OneLinkMore mid.graph.links g.links p q) (roots : KeepsRoots mid.graph.roots g.roots)
     (newly_is : IsFalse newly ↔ Needed mid.graph q) (may : MayRead old p q)
-    (woken : IsTrue newly → IsWoken (record mid { graph = g }) new q) (same : IsFalse newly → new ≡ record mid { graph = g })
+    (woken : IsTrue newly → IsNewlyNeeded (record mid { graph = g }) new q) (same : IsFalse newly → new ≡ record mid { graph = g })
     (step_is : IsInStep new.graph) where
   fresh : IsTrue newly → Needed mid.graph q → ⊥
   fresh t n = let f = newly_is.1 n in let e = t in cc
@@ -356,7 +356,7 @@ module _ (old mid new : Work) (g : NecessaryPart) (p q : Point) (newly : Bool) (
         | inl t ↦ linked_new_stands F z s arena mid new g counts p q rest at_mid reached more roots need due.depends due.confirmed (fresh t) (woken t)
             (same_need g new.graph (λ a. ap (λ (r : Roots). root_times r a) (woken t).graph.roots)
             (λ a b. ap (λ (l : Links). times l a b) (woken t).graph.links)) row due.unlinked
-        | inr f ↦ subst (λ (x : Work). (t : State) × Reaches (Wiring F z) s t × Stands arena x counts (Some (hand p rest)) t × AreUnlinked (Some (hand p [])) t) (sym (same f))
+        | inr f ↦ subst (λ (x : Work). (t : State) × Reaches (Wiring F z) s t × MatchesState arena x counts (Some (hand p rest)) t × AreUnlinked (Some (hand p [])) t) (sym (same f))
             (linked_stands F z s arena mid g counts p q rest at_mid reached more roots need due.depends due.confirmed (newly_is.0 f) due.unlinked)
       ]
 

@@ -11,12 +11,12 @@ use Rattle.stabilize_round.specs.State.{State, Start, at_point}
 use Rattle.stabilize_round.specs.Steps.{TakesOff as OffMove, TakingOff, Spends}
 use Rattle.stabilize_round.specs.Wire.{newly, raised, finished}
 use Rattle.stabilize_round.proofs.Points.{same_or_other, at_same, at_other}
-use Rattle.wiring.specs.Stands.{Stands, Hand, hand, IsInHand}
+use Rattle.wiring.specs.Stands.{MatchesState, PointInHand, hand, IsInHand}
 use Rattle.wiring.specs.Wiring.{AreUnlinked}
 use Rattle.wiring.specs.declared.work.Work.{Work}
 
 -- so it is where the worklist is empty
-pub empty_unlinked : (arena : Arena) (work : Work) (counts : _) (s : State) → work.todo.items ≡ [] → Stands arena work counts None s → AreUnlinked None s
+pub empty_unlinked : (arena : Arena) (work : Work) (counts : _) (s : State) → work.todo.items ≡ [] → MatchesState arena work counts None s → AreUnlinked None s
 empty_unlinked arena work counts s empty on a todo need = elim (on.todo a todo) [
   | inl k ↦ absurd (nowhere (subst (λ (xs : List Point). Among a xs) empty k))
   | inr k ↦ absurd k
@@ -33,7 +33,7 @@ held_unlinked s p un a todo need = elim (un a todo need) [
 ]
 
 -- a point is newly needed
-pub newly_unlinked : (s : State) (q : Point) (heap' : Point → Bool) (held : Option Hand) → AreUnlinked held s → AreUnlinked held (newly s q heap')
+pub newly_unlinked : (s : State) (q : Point) (heap' : Point → Bool) (held : Option PointInHand) → AreUnlinked held s → AreUnlinked held (newly s q heap')
 newly_unlinked s q heap' held un a todo need = elim (same_or_other q a) [
   | inl e ↦ inl (subst (λ (x : Point). at_point q machine.Bare s.stage x ≡ machine.Bare) e (at_same q machine.Bare s.stage))
   | inr ne ↦ subst (λ (x : machine.Stage). (x ≡ machine.Bare) ⊎ (x ≡ machine.Gated) ⊎ IsInHand held a) (sym (at_other q machine.Bare s.stage a ne))
@@ -62,7 +62,7 @@ finished_unlinked s p un a todo need = elim (same_or_other p a) [
 ]
 
 -- a point that is newly needed leaves it at once
-pub rested_unlinked : (s : State) (q : Point) (heap' : Point → Bool) (held : Option Hand) → AreUnlinked held s
+pub rested_unlinked : (s : State) (q : Point) (heap' : Point → Bool) (held : Option PointInHand) → AreUnlinked held s
     → AreUnlinked held (finished (raised (newly s q heap') q machine.Full []) q)
 rested_unlinked s q heap' held un a todo need = elim (same_or_other q a) [
   | inl e ↦ absurd (
@@ -88,7 +88,7 @@ module _ (x : machine.Stage) where
     | inr f ↦ elim low [ inl b ↦ cc | inr g ↦ cc ]
   ])
 
-module _ (F : Functions) (z : Start) (held : Option Hand) where
+module _ (F : Functions) (z : Start) (held : Option PointInHand) where
   off_one : (s t : State) (m : Move F z s t) → OffMove m → AreUnlinked held s → AreUnlinked held t
   off_one s t (move.schedule x e) h un = subst (λ (u : State). AreUnlinked held u) (sym e) un
   off_one s t (move.cut {p = p} {st = st} d w e) h un = subst (λ (u : State). AreUnlinked held u) (sym e) (λ a todo need.

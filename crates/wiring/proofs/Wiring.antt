@@ -13,8 +13,8 @@ use Rattle.node_arena.specs.Arena.{Arena}
 use Rattle.stabilize_round.specs.State.{State, at_point}
 use Rattle.stabilize_round.proofs.Points.{same_or_other, at_same, at_other}
 use Rattle.node_outcomes.specs.Row.{settled_in}
-use Rattle.wiring.specs.Stands.{Stands, Hand, hand, IsInHand, Counts}
-use Rattle.wiring.specs.Wiring.{KeepsRound, Looks}
+use Rattle.wiring.specs.Stands.{MatchesState, PointInHand, hand, IsInHand, Counts}
+use Rattle.wiring.specs.Wiring.{KeepsRound, ShowsSame}
 use Rattle.node_outcomes.specs.declared.row.Progress.{Progress}
 use Rattle.wiring.specs.declared.work.Work.{Work}
 use Rattle.wiring.proofs.Holding.{graph_rows, died_same}
@@ -25,10 +25,10 @@ nothing p = []
 
 -- ---- a point is taken in hand
 
-pub taken_stands : (s : State) (arena : Arena) (old new : Work) (counts : Counts) (p : Point) → Stands arena old counts None s
+pub taken_stands : (s : State) (arena : Arena) (old new : Work) (counts : Counts) (p : Point) → MatchesState arena old counts None s
     → (new.graph ≡ old.graph) → (new.rows ≡ old.rows) → KeepsRound old new
     → ((a : Point) → Among a old.todo.items → Among a new.todo.items ⊎ (a ≡ p))
-    → Stands arena new counts (Some (hand p [])) s
+    → MatchesState arena new counts (Some (hand p [])) s
 taken_stands s arena old new counts p st graph rows round listed = record {
   graph = st.graph ∙ sym (graph_rows arena old new (λ a. ap (λ (m : Rows Progress). at m a) rows) round.roots);
   out = λ a k e. st.out a k (ap (λ (m : Rows Progress). at m a) (sym rows) ∙ e);
@@ -61,8 +61,8 @@ taken_stands s arena old new counts p st graph rows round listed = record {
 
 -- ---- what a state can't tell
 
-pub looks_stands : (s : State) (arena : Arena) (old new : Work) (counts : Counts) (held : Option Hand) → Looks old new → Stands arena old counts held s
-    → Stands arena new counts held s
+pub looks_stands : (s : State) (arena : Arena) (old new : Work) (counts : Counts) (held : Option PointInHand) → ShowsSame old new → MatchesState arena old counts held s
+    → MatchesState arena new counts held s
 looks_stands s arena old new counts held same st = record {
   graph = st.graph ∙ sym (graph_rows arena old new same.rows same.round.roots);
   out = λ a k e. st.out a k (sym (same.rows a) ∙ e);

@@ -12,7 +12,7 @@ use Rattle.node_outcomes.specs.Row.{settled_in}
 use Rattle.wiring.specs.Growing.{Grows}
 use Rattle.wiring.specs.Kept.{IsKept}
 use Rattle.wiring.specs.Refusing.{IsBarred, TellsFault}
-use Rattle.wiring.specs.Stands.{Hand, hand}
+use Rattle.wiring.specs.Stands.{PointInHand, hand}
 use Rattle.wiring.specs.Wiring.{Links, IsLevelled, Connects, LosesNeed, ConnectRefused, Wires, WiresTaken, WireRefused, StaysInHand, LacksLinks, GateRan, KeepsPlaces}
 use Rattle.wiring.specs.declared.refused.Refused.{Refused}
 use Rattle.wiring.specs.declared.work.Work.{Work}
@@ -26,7 +26,7 @@ pub record EndsWired {A : Type 0} (wires : Type 0) (refuses : Refused → Type 0
   pub pushed : OnOk result (Grows old new)
 
 -- the point in hand, and those of the worklist
-abbrev pub WireAnswers : {A : Type 0} → Arena → Work → Work → Option Hand → Result A Refused → Type 0
+abbrev pub WireAnswers : {A : Type 0} → Arena → Work → Work → Option PointInHand → Result A Refused → Type 0
 WireAnswers arena old new held result = EndsWired (Wires arena old new held) (WireRefused arena old new held) arena old new result
 
 -- a point that was taken from the worklist

@@ -15,7 +15,7 @@ use Rattle.point_map.specs.Rows.{at, Holds}
 use Rattle.link_table.specs.Links.{Reads}
 use Rattle.necessary_graph.specs.Part.{IsInStep, Needed}
 use Rattle.node_arena.specs.Arena.{Arena, row_at}
-use Rattle.node_arena.specs.Sound.{IsSound}
+use Rattle.node_arena.specs.Sound.{IsSoundArena}
 use Rattle.node_arena.specs.Typing.{Fits}
 use Rattle.stabilize_round.specs.State.{Call}
 use Rattle.node_outcomes.specs.Computing.{has_part, IsOfType}
@@ -54,7 +54,7 @@ pub record IsKept (arena : Arena) (work : Work) : Type 0 where
   pub links : (p q : Point) → Reads work.graph.links p q → Holds work.rows p ⊎ IsGhostLink work p q
   pub heap : (p : Point) → Holds work.graph.heap p → Holds work.rows p
   pub dead : (n b : NodeId) → died_at work n ≡ Some b → IsDead arena n b
-  pub sound : IsSound arena
+  pub sound : IsSoundArena arena
   pub scopes : Scoped (graph_at arena work)
   pub older : (n b : NodeId) (r : Row) → row_at arena n ≡ Some r → r.scope ≡ Some b → b.gen_ < n.gen_
   pub outcomes : (n : NodeId) (r : Row) (k : Progress) (v : Value) → row_at arena n ≡ Some r → at work.rows (main n) ≡ Some k

@@ -9,7 +9,7 @@ use Rattle.height_order.specs.declared.heights.LinkFault.{LinkFault}
 use Rattle.height_order.specs.declared.heights.LinkFault.TheVariants as fault
 use Rattle.stabilize_round.specs.State.{State}
 use Rattle.stabilize_round.specs.Wire.{IsConfirmed}
-use Rattle.wiring.specs.Stands.{Hand, hand}
+use Rattle.wiring.specs.Stands.{PointInHand, hand}
 use Rattle.wiring.specs.declared.refused.Refused.{Refused}
 use Rattle.wiring.specs.declared.refused.Refused.TheVariants.{Height, Cycle, Full, Memory}
 use Rattle.wiring.specs.declared.work.Work.{Work}
@@ -67,7 +67,7 @@ RefusedBy work p q Full = ⊥
 RefusedBy work p q Memory = Unit {0}
 
 -- there was no memory, or the link was refused that the point in hand is owed first, which it depends on and may have now
-pub data TellsWhy (F : Functions) (s : State) (work : Work) : Option Hand → Refused → Type 0 where
-  no_memory : {held : Option Hand} → TellsWhy F s work held Memory
+pub data TellsWhy (F : Functions) (s : State) (work : Work) : Option PointInHand → Refused → Type 0 where
+  no_memory : {held : Option PointInHand} → TellsWhy F s work held Memory
   by_link : {p q : Point} {rest : List Point} {e : Refused} → s.needed p ≡ true → Depends F s.graph s.died p q → IsConfirmed s p q
       → RefusedBy work p q e → TellsWhy F s work (Some (hand p (q ∷ rest))) e

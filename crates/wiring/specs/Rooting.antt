@@ -7,7 +7,7 @@ use Rattle.node_arena.specs.Arena.{Arena}
 use Rattle.stabilize_round.specs.Machine.{Moves}
 use Rattle.stabilize_round.specs.State.{State, Start}
 use Rattle.wiring.specs.Kept.{IsKept}
-use Rattle.wiring.specs.Stands.{Stands, Counts}
+use Rattle.wiring.specs.Stands.{MatchesState, Counts}
 use Rattle.wiring.specs.Wiring.{AreUnlinked, IsTarget}
 use Rattle.wiring.specs.declared.work.Work.{Work}
 
@@ -15,8 +15,8 @@ use Rattle.wiring.specs.declared.work.Work.{Work}
 -- that it stands for then
 abbrev pub Follows : Arena → Work → Work → Type 0
 Follows arena old new =
-    (F : Functions) (z : Start) (s : State) (counts : Counts) → Stands arena old counts None s → AreUnlinked None s
-    → (t : State) × Moves F z s t × Stands arena new counts None t × AreUnlinked None t
+    (F : Functions) (z : Start) (s : State) (counts : Counts) → MatchesState arena old counts None s → AreUnlinked None s
+    → (t : State) × Moves F z s t × MatchesState arena new counts None t × AreUnlinked None t
 
 -- a root came on at the point, which is in the worklist if it is newly needed
 pub record HasRootOn (arena : Arena) (old new : Work) (p : Point) : Type 0 where

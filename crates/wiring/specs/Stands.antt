@@ -17,17 +17,17 @@ use Rattle.wiring.specs.Graph.{graph_at, died_at}
 use Rattle.wiring.specs.declared.work.Work.{Work}
 
 -- a point that is being given its links, and those that are yet to come
-pub record Hand : Type 0 where
+pub record PointInHand : Type 0 where
   pub point : Point
   pub owed : List Point
 
 -- the links that a point is owed: those of the point in hand
-abbrev pub owed_in : Option Hand → Point → List Point
+abbrev pub owed_in : Option PointInHand → Point → List Point
 owed_in None = λ (p : Point). []
 owed_in (Some h) = at_point h.point h.owed (λ (p : Point). [])
 
 -- the point is the one in hand
-abbrev pub IsInHand : Option Hand → Point → Type 0
+abbrev pub IsInHand : Option PointInHand → Point → Type 0
 IsInHand None p = ⊥
 IsInHand (Some h) p = p ≡ h.point
 
@@ -42,7 +42,7 @@ abbrev pub counts_of : State → Counts
 counts_of s = record { calls = s.calls; builds = s.builds; adds = s.adds }
 
 -- the arena, what is kept beside it, the counts and the point in hand are the state's, where just these points are needed. Heights are told of what is needed
-pub record StandsWith (IsNeeded : Point → Type 0) (arena : Arena) (work : Work) (tally : Counts) (hand : Option Hand) (s : State) : Type 0 where
+pub record StandsWith (IsNeeded : Point → Type 0) (arena : Arena) (work : Work) (tally : Counts) (hand : Option PointInHand) (s : State) : Type 0 where
   pub graph : s.graph ≡ graph_at arena work
   pub out : (p : Point) (k : Progress) → at work.rows p ≡ Some k → s.out p ≡ k.outcome
   pub last : (n : NodeId) (k : Progress) → at work.rows (main n) ≡ Some k → s.last n ≡ k.last
@@ -64,9 +64,9 @@ pub record StandsWith (IsNeeded : Point → Type 0) (arena : Arena) (work : Work
   pub given : s.given ≡ arena.given
 
 -- they are the state's
-abbrev pub Stands : Arena → Work → Counts → Option Hand → State → Type 0
-Stands arena work counts hand s = StandsWith (Needed work.graph) arena work counts hand s
+abbrev pub MatchesState : Arena → Work → Counts → Option PointInHand → State → Type 0
+MatchesState arena work counts hand s = StandsWith (Needed work.graph) arena work counts hand s
 
 -- a point in hand
-abbrev pub hand : Point → List Point → Hand
+abbrev pub hand : Point → List Point → PointInHand
 hand p owed = record { point = p; owed = owed }

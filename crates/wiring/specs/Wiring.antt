@@ -25,7 +25,7 @@ use Rattle.stabilize_round.specs.State.{State, Start}
 use Rattle.stabilize_round.specs.Wire.{IsConfirmed}
 use Rattle.wiring.specs.Graph.{graph_at, HasLinks, died_at}
 use Rattle.wiring.specs.Kept.{IsGhostLink}
-use Rattle.wiring.specs.Stands.{Stands, Counts, Hand, hand, IsInHand}
+use Rattle.wiring.specs.Stands.{MatchesState, Counts, PointInHand, hand, IsInHand}
 use Rattle.wiring.specs.Deciding.{is_needed}
 use Rattle.wiring.specs.Refusing.{TellsWhy}
 use Rattle.node_outcomes.specs.Row.{IsRewritten, with_stage, stage_in, settled_in, outcome_in, IsStopped}
@@ -92,7 +92,7 @@ Stops work p o = (k : Progress) × (at work.rows p ≡ Some k) × IsStopped k o
 
 -- where a point's outcome is another, or its cutoff Never, the points that read it are in the heap, unless they were settled; but the point itself was settled now.
 -- Where it stops there none comes in
-pub record IsTold (old new : Work) (p : Point) (o : Outcome) : Type 0 where
+pub record TellsReaders (old new : Work) (p : Point) (o : Outcome) : Type 0 where
   pub kept : (r : Point) → Holds old.graph.heap r → Holds new.graph.heap r
   pub told : (Stops old p o → ⊥) → (r : Point) → Reads old.graph.links r p → Holds new.graph.heap r ⊎ (settled_in new.round (at new.rows r) ≡ true)
   pub only : (r : Point) → Holds new.graph.heap r
@@ -101,7 +101,7 @@ pub record IsTold (old new : Work) (p : Point) (o : Outcome) : Type 0 where
 
 -- a point that wasn't needed before: one of a live node has no links yet, is in the worklist, and in the heap unless it was settled; one of a node that
 -- died in this round is in the worklist
-pub record IsWoken (old new : Work) (q : Point) : Type 0 where
+pub record IsNewlyNeeded (old new : Work) (q : Point) : Type 0 where
   pub graph : KeepsGraph old.graph new.graph
   pub others : (p : Point) → p ≢ q → at new.graph.heap p ≡ at old.graph.heap p
   pub kept : Holds old.graph.heap q → Holds new.graph.heap q
@@ -123,7 +123,7 @@ pub record IsReached (old new : NecessaryPart) (q : Point) : Type 0 where
   pub step : IsInStep new
 
 -- what a state can tell stays
-pub record Looks (old new : Work) : Type 0 where
+pub record ShowsSame (old new : Work) : Type 0 where
   pub rows : KeepsRows old.rows new.rows
   pub links : KeepsLinks old.graph.links new.graph.links
   pub roots : KeepsRoots old.graph.roots new.graph.roots
@@ -201,28 +201,28 @@ abbrev pub is_still : Work → Work → Point → Bool
 is_still old new p = is_needed new.graph p && not (is_gated (stage_in (at new.rows p)) && not (is_gated (stage_in (at old.rows p))))
 
 -- what is in hand, where a point in hand that isn't needed any more, or was put back, is owed nothing
-abbrev pub hand_now : Work → Work → Option Hand → Option Hand
+abbrev pub hand_now : Work → Work → Option PointInHand → Option PointInHand
 hand_now old new None = None
 hand_now old new (Some h) = cond (is_still old new h.point) (Some h) (Some (hand h.point []))
 
 -- a point in hand isn't put back for its own change; it is needed or owed nothing; and it isn't owed its gate's link behind others, unless the gate ran
-pub record IsSparedHand (arena : Arena) (work : Work) (h : Hand) : Type 0 where
+pub record IsSparedHand (arena : Arena) (work : Work) (h : PointInHand) : Type 0 where
   pub spared : IsSpared arena work h.point
   pub needed : (h.owed ≡ []) ⊎ Needed work.graph h.point
   pub gate : (r : Row) (b : NodeId) → row_at arena h.point.node ≡ Some r → r.scope ≡ Some b → Among (change b) h.owed
       → HasMore (stage_in (at work.rows h.point)) → settled_in work.round (at work.rows (change b)) ≡ true
 
 -- so it is of what is in hand
-abbrev pub HandIsSpared : Arena → Work → Option Hand → Type 0
+abbrev pub HandIsSpared : Arena → Work → Option PointInHand → Type 0
 HandIsSpared arena work None = Unit {0}
 HandIsSpared arena work (Some h) = IsSparedHand arena work h
 
 -- links of a point were taken off, where they had to be
 abbrev pub TakesOne : Arena → Work → Work → Type 0
 TakesOne arena old new =
-    (F : Functions) (z : Start) (s : State) (counts : Counts) (held : Option Hand) → Invariant F z s → HandIsSpared arena old held
-    → Stands arena old counts held s
-    → (t : State) × Reaches (TakingOff F z) s t × Stands arena new counts (hand_now old new held) t
+    (F : Functions) (z : Start) (s : State) (counts : Counts) (held : Option PointInHand) → Invariant F z s → HandIsSpared arena old held
+    → MatchesState arena old counts held s
+    → (t : State) × Reaches (TakingOff F z) s t × MatchesState arena new counts (hand_now old new held) t
 
 -- a node's main that has its right side has it by a change that was settled
 abbrev pub IsConfirmedAt : Arena → Work → NodeId → Type 0
@@ -233,12 +233,12 @@ IsConfirmedAt arena work n =
 -- some of what wasn't confirmed, or all, was taken off as moves, and fewer links may be tried again
 abbrev pub TakesOff : Arena → Work → Work → Type 0
 TakesOff arena old new =
-    (F : Functions) (z : Start) (s : State) (counts : Counts) (held : Option Hand) → Invariant F z s → 0 < s.retries → HandIsSpared arena old held
-    → Stands arena old counts held s
-    → (t u : State) × Reaches (TakingOff F z) s t × ((m : Move F z t u) × Spends m) × Stands arena new counts (hand_now old new held) u
+    (F : Functions) (z : Start) (s : State) (counts : Counts) (held : Option PointInHand) → Invariant F z s → 0 < s.retries → HandIsSpared arena old held
+    → MatchesState arena old counts held s
+    → (t u : State) × Reaches (TakingOff F z) s t × ((m : Move F z t u) × Spends m) × MatchesState arena new counts (hand_now old new held) u
 
 -- each needed point of the worklist, but for the one in hand, has no link yet, or its gate's alone
-abbrev pub AreUnlinked : Option Hand → State → Type 0
+abbrev pub AreUnlinked : Option PointInHand → State → Type 0
 AreUnlinked held s =
     (a : Point) → s.todo a ≡ true → s.needed a ≡ true → (s.stage a ≡ machine.Bare) ⊎ (s.stage a ≡ machine.Gated) ⊎ IsInHand held a
 
@@ -254,7 +254,7 @@ MayRead work p q = Holds work.rows p ⊎ IsGhostLink work p q
 -- a point in hand is owed a link first, which it depends on and may have now; it isn't owed its gate's behind others, unless the gate ran
 pub record IsDue (F : Functions) (z : Start) (s : State) (arena : Arena) (work : Work) (counts : Counts) (p q : Point) (rest : List Point) : Type 0 where
   pub holds : Invariant F z s
-  pub stands : Stands arena work counts (Some (hand p (q ∷ rest))) s
+  pub stands : MatchesState arena work counts (Some (hand p (q ∷ rest))) s
   pub depends : Depends F s.graph s.died p q
   pub confirmed : IsConfirmed s p q
   pub gate : (r : Row) (b : NodeId) → row_at arena p.node ≡ Some r → r.scope ≡ Some b → Among (change b) (q ∷ rest)
@@ -265,61 +265,61 @@ pub record IsDue (F : Functions) (z : Start) (s : State) (arena : Arena) (work :
 abbrev pub Links : Arena → Work → Work → Point → Point → Type 0
 Links arena old new p q =
     (F : Functions) (z : Start) (s : State) (counts : Counts) (rest : List Point) → IsDue F z s arena old counts p q rest
-    → (t : State) × Reaches (Wiring F z) s t × Stands arena new counts (Some (hand p rest)) t × AreUnlinked (Some (hand p [])) t
+    → (t : State) × Reaches (Wiring F z) s t × MatchesState arena new counts (Some (hand p rest)) t × AreUnlinked (Some (hand p [])) t
 
 -- the link was put on
 abbrev pub Connects : Arena → Work → Work → Point → Point → Type 0
 Connects arena old new p q =
     (F : Functions) (z : Start) (s : State) (counts : Counts) (rest : List Point) → IsDue F z s arena old counts p q rest
-    → (t : State) × Wired F z s t × Stands arena new counts (Some (hand p rest)) t × AreUnlinked (Some (hand p [])) t
+    → (t : State) × Wired F z s t × MatchesState arena new counts (Some (hand p rest)) t × AreUnlinked (Some (hand p [])) t
 
 -- the point in hand isn't needed any more, or waits for its gate, and leaves the worklist
 abbrev pub LosesNeed : Arena → Work → Work → Point → Point → Type 0
 LosesNeed arena old new p q =
     (F : Functions) (z : Start) (s : State) (counts : Counts) (rest : List Point) → IsDue F z s arena old counts p q rest
-    → (t : State) × Wired F z s t × Stands arena new counts None t × AreUnlinked None t
+    → (t : State) × Wired F z s t × MatchesState arena new counts None t × AreUnlinked None t
 
 -- the link was refused: the point in hand is owed it still
 abbrev pub ConnectRefused : Arena → Work → Work → Point → Point → Refused → Type 0
 ConnectRefused arena old new p q e =
     (F : Functions) (z : Start) (s : State) (counts : Counts) (rest : List Point) → IsDue F z s arena old counts p q rest
-    → (t : State) × Wired F z s t × Stands arena new counts (Some (hand p (q ∷ rest))) t × TellsWhy F t new (Some (hand p (q ∷ rest))) e
+    → (t : State) × Wired F z s t × MatchesState arena new counts (Some (hand p (q ∷ rest))) t × TellsWhy F t new (Some (hand p (q ∷ rest))) e
 
 -- the points in the worklist, and the one in hand, were given their links, or wait
-abbrev pub Wires : Arena → Work → Work → Option Hand → Type 0
+abbrev pub Wires : Arena → Work → Work → Option PointInHand → Type 0
 Wires arena old new held =
-    (F : Functions) (z : Start) (s : State) (counts : Counts) → Invariant F z s → Stands arena old counts held s → AreUnlinked held s
-    → (t : State) × Wired F z s t × Stands arena new counts None t × AreUnlinked None t
+    (F : Functions) (z : Start) (s : State) (counts : Counts) → Invariant F z s → MatchesState arena old counts held s → AreUnlinked held s
+    → (t : State) × Wired F z s t × MatchesState arena new counts None t × AreUnlinked None t
 
 -- a point that was taken from the worklist was given its links, or waits
 abbrev pub WiresTaken : Arena → Work → Work → Point → Type 0
 WiresTaken arena old new p =
-    (F : Functions) (z : Start) (s : State) (counts : Counts) → Invariant F z s → Stands arena old counts (Some (hand p [])) s → AreUnlinked None s
-    → (t : State) × Wired F z s t × Stands arena new counts None t × AreUnlinked None t
+    (F : Functions) (z : Start) (s : State) (counts : Counts) → Invariant F z s → MatchesState arena old counts (Some (hand p [])) s → AreUnlinked None s
+    → (t : State) × Wired F z s t × MatchesState arena new counts None t × AreUnlinked None t
 
 -- the point in hand is still in hand, and is owed nothing
 abbrev pub StaysInHand : Arena → Work → Work → Point → Type 0
 StaysInHand arena old new p =
-    (F : Functions) (z : Start) (s : State) (counts : Counts) → Invariant F z s → Stands arena old counts (Some (hand p [])) s
+    (F : Functions) (z : Start) (s : State) (counts : Counts) → Invariant F z s → MatchesState arena old counts (Some (hand p [])) s
     → AreUnlinked (Some (hand p [])) s
-    → (t : State) × Wired F z s t × Stands arena new counts (Some (hand p [])) t × AreUnlinked (Some (hand p [])) t
+    → (t : State) × Wired F z s t × MatchesState arena new counts (Some (hand p [])) t × AreUnlinked (Some (hand p [])) t
 
 -- some were, and one may be in hand whose link was refused
-abbrev pub WireRefused : Arena → Work → Work → Option Hand → Refused → Type 0
+abbrev pub WireRefused : Arena → Work → Work → Option PointInHand → Refused → Type 0
 WireRefused arena old new held e =
-    (F : Functions) (z : Start) (s : State) (counts : Counts) → Invariant F z s → Stands arena old counts held s → AreUnlinked held s
-    → (t : State) × (left : Option Hand) × Wired F z s t × Stands arena new counts left t × TellsWhy F t new left e
+    (F : Functions) (z : Start) (s : State) (counts : Counts) → Invariant F z s → MatchesState arena old counts held s → AreUnlinked held s
+    → (t : State) × (left : Option PointInHand) × Wired F z s t × MatchesState arena new counts left t × TellsWhy F t new left e
 
 -- roots were put on, and what is newly needed was given its links, or it was refused
 abbrev pub PutsRoots : Arena → Work → Work → Type 0
 PutsRoots arena old new =
-    (F : Functions) (z : Start) (s : State) (counts : Counts) → Invariant F z s → Stands arena old counts None s
-    → (t : State) × Moves F z s t × Stands arena new counts None t
+    (F : Functions) (z : Start) (s : State) (counts : Counts) → Invariant F z s → MatchesState arena old counts None s
+    → (t : State) × Moves F z s t × MatchesState arena new counts None t
 
 abbrev pub RootRefused : Arena → Work → Work → Refused → Type 0
 RootRefused arena old new e =
-    (F : Functions) (z : Start) (s : State) (counts : Counts) → Invariant F z s → Stands arena old counts None s
-    → (t : State) × (left : Option Hand) × Moves F z s t × Stands arena new counts left t × TellsWhy F t new left e
+    (F : Functions) (z : Start) (s : State) (counts : Counts) → Invariant F z s → MatchesState arena old counts None s
+    → (t : State) × (left : Option PointInHand) × Moves F z s t × MatchesState arena new counts left t × TellsWhy F t new left e
 
 -- rows stay where they are, and so do roots, the nodes that died in the round, and its number
 pub record KeepsPlaces (old new : Work) : Type 0 where
@@ -346,7 +346,7 @@ pub record IsTurnedIn (F : Functions) (z : Start) (s : State) (arena : Arena) (w
   pub holds : Invariant F z s
   pub taken : s.taken ≡ Some (change n)
   pub scope : (r : Row) → row_at arena n ≡ Some r → ScopeStands F s.graph r.scope
-  pub stands : Stands arena work counts (Some (hand (main n) [])) s
+  pub stands : MatchesState arena work counts (Some (hand (main n) [])) s
   pub only : s.todo (main n) ≡ true → (s.needed (main n) ≡ true) × (s.stage (main n) ≡ machine.Static)
   pub wakes : s.needed (main n) ≡ true → s.stage (main n) ≡ machine.Static → s.todo (main n) ≡ true
   pub unlinked : AreUnlinked (Some (hand (main n) [])) s
@@ -354,9 +354,9 @@ pub record IsTurnedIn (F : Functions) (z : Start) (s : State) (arena : Arena) (w
 abbrev pub Attaches : Arena → Work → Work → NodeId → Type 0
 Attaches arena old new n =
     (F : Functions) (z : Start) (s : State) (counts : Counts) → IsTurnedIn F z s arena old counts n
-    → (t : State) × Wired F z s t × Stands arena new counts None t × AreUnlinked None t
+    → (t : State) × Wired F z s t × MatchesState arena new counts None t × AreUnlinked None t
 
 abbrev pub AttachRefused : Arena → Work → Work → NodeId → Refused → Type 0
 AttachRefused arena old new n e =
     (F : Functions) (z : Start) (s : State) (counts : Counts) → IsTurnedIn F z s arena old counts n
-    → (t : State) × (left : Option Hand) × Wired F z s t × Stands arena new counts left t × TellsWhy F t new left e
+    → (t : State) × (left : Option PointInHand) × Wired F z s t × MatchesState arena new counts left t × TellsWhy F t new left e

@@ -8,7 +8,7 @@ ghost use Rattle.necessary_graph.specs.Part.{IsInStep};
 ghost use Rattle.node_outcomes.specs.Choosing.{right_in};
 ghost use Rattle.node_outcomes.specs.Row.{IsRewritten, with_outcome, without_outcome};
 ghost use Rattle.wiring.specs.Turning.{HasTurned};
-ghost use Rattle.wiring.specs.Wiring.{KeepsGraph, KeepsRound, IsTold};
+ghost use Rattle.wiring.specs.Wiring.{KeepsGraph, KeepsRound, TellsReaders};
 
 use crate::work::Work;
 use inc_terms::Def;
@@ -23,7 +23,7 @@ impl Work {
         requires step { IsInStep self.old.graph }
         ensures row { IsRewritten self.old.rows self.new.rows p (with_outcome outcome self.old.round) }
         ensures graph { KeepsGraph self.old.graph self.new.graph }
-        ensures told { IsTold self.old self.new p outcome }
+        ensures told { TellsReaders self.old self.new p outcome }
         ensures step { IsInStep self.new.graph }
         ensures rest { self.new ≡ record self.old { graph = self.new.graph; rows = self.new.rows } }
         ensures round { KeepsRound self.old self.new }

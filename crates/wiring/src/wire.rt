@@ -19,7 +19,7 @@ ghost use Rattle.wiring.specs.Answers.{WireAnswers, TakenAnswers, GateAnswers, A
 ghost use Rattle.wiring.specs.Kept.{IsKept};
 ghost use Rattle.wiring.specs.Rooting.{PutsRootOn};
 ghost use Rattle.wiring.specs.Stands.{hand};
-ghost use Rattle.wiring.specs.Wiring.{GateRan, LacksLinks, Wires, WireRefused, IsWoken, Looks, PutsRoots, RootRefused, KeepsPlaces, IsLevelled};
+ghost use Rattle.wiring.specs.Wiring.{GateRan, LacksLinks, Wires, WireRefused, IsNewlyNeeded, ShowsSame, PutsRoots, RootRefused, KeepsPlaces, IsLevelled};
 ghost use Rattle.wiring.specs.Wiring.{WaitsFor};
 
 use crate::refused::Refused;
@@ -266,7 +266,7 @@ impl Work {
         requires needed { Needed self.old.graph p }
         requires room { vec_len self.old.todo < vec_capacity self.old.todo }
         requires step { IsInStep self.old.graph }
-        ensures { IsWoken self.old self.new p }
+        ensures { IsNewlyNeeded self.old self.new p }
     {
         if self.rows.holds(p) {
             set_stage(&mut self.rows, p, Stage::Bare);
@@ -282,7 +282,7 @@ impl Work {
         requires needed { Needed self.old.graph p }
         requires room { vec_len self.old.todo < vec_capacity self.old.todo }
         requires step { IsInStep self.old.graph }
-        ensures woken { IsTrue newly → IsWoken self.old self.new p }
+        ensures woken { IsTrue newly → IsNewlyNeeded self.old self.new p }
         ensures unchanged { IsFalse newly → self.new ≡ self.old }
         ensures step { IsInStep self.new.graph }
     {
@@ -299,7 +299,7 @@ impl Work {
         ensures opened { IfOk result (λ opened. IsTrue opened ↔ (at self.old.graph.heights p ≡ None)) }
         ensures unneeded { IfOk result (λ opened. IsTrue opened → Needed self.old.graph p → ⊥) }
         ensures room { OnOk result (vec_len self.new.todo < vec_capacity self.new.todo) }
-        ensures looks { Looks self.old self.new }
+        ensures looks { ShowsSame self.old self.new }
         ensures others { (q : Point) → q ≢ p → at self.new.graph.heights q ≡ at self.old.graph.heights q }
         ensures err { OnErr result (KeepsRows self.old.graph.heights self.new.graph.heights) }
         ensures rows { self.new.rows ≡ self.old.rows }

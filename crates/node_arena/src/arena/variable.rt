@@ -2,7 +2,7 @@
 ghost use Rattle.std.specs.Prelude.{◌≡◌, ◌↔◌, IfSome, IfNone, OnOk, OnErr, IsErrOf};
 ghost use Rattle.inc_terms.specs.Within.{Given, ValueWithin};
 ghost use Rattle.node_arena.specs.Arena.{live, IsVariable, IsSet};
-ghost use Rattle.node_arena.specs.Sound.{IsSound};
+ghost use Rattle.node_arena.specs.Sound.{IsSoundArena};
 ghost use Rattle.node_arena.specs.Typing.{Fits, FitsNode};
 
 use super::Arena;
@@ -32,7 +32,7 @@ impl Arena {
         ensures set { OnOk result (IsSet self.old self.new id value) }
         ensures live { live self.new ≡ live self.old }
         ensures given { self.new.given ≡ self.old.given }
-        ensures sound { IsSound self.new }
+        ensures sound { IsSoundArena self.new }
         ensures unknown { IsErrOf result SetFault.Unknown
             ↔ ¬ (Given self.old.given id × ValueWithin (Given self.old.given) value) }
         ensures not_var { IsErrOf result SetFault.NotVar
@@ -74,7 +74,7 @@ impl Arena {
         ensures set { IsSet self.old self.new id value }
         ensures live { live self.new ≡ live self.old }
         ensures given { self.new.given ≡ self.old.given }
-        ensures sound { IsSound self.new }
+        ensures sound { IsSoundArena self.new }
     {
         let entry = self.nodes.get_mut(id.slot).unwrap();
         entry.row.def = Def::Var(value);

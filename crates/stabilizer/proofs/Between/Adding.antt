@@ -22,7 +22,7 @@ use Rattle.stabilizer.specs.Between.{Stays, KeepsWork, out_of}
 use Rattle.stabilizer.specs.Kept.{PartsKept}
 use Rattle.stabilizer.specs.Round.{IsReady}
 use Rattle.stabilizer.specs.declared.parts.Parts.{Parts}
-use Rattle.node_arena.specs.Sound.{IsSound}
+use Rattle.node_arena.specs.Sound.{IsSoundArena}
 use Rattle.node_arena.specs.Graph.{CallsFit}
 use Rattle.wiring.specs.Kept.{IsKept, IsDead}
 use Rattle.wiring.specs.Places.{ChangesNode, for_parts, pairs_with}
@@ -76,7 +76,7 @@ live_below arena work kept n live = elim (some_or_none (row_at arena n)) [
 ]
 
 module _ (before arena : Arena) (old work : Work) (id : NodeId) (row : Row) (heights : Part → ℕ) (kept : IsKept before old) (gen : id.gen_ ≡ before.given)
-    (added : nodes.Changes before arena id (Some row)) (top : row.scope ≡ None) (sound : IsSound arena)
+    (added : nodes.Changes before arena id (Some row)) (top : row.scope ≡ None) (sound : IsSoundArena arena)
     (given : arena.given ≡ before.given + 1)
     (rows : ChangesNode old.rows work.rows id (for_parts row.def (λ part. unsettled)))
     (points : ChangesNode old.graph.heights work.graph.heights id (for_parts row.def heights))
@@ -355,7 +355,7 @@ module _ (old new : Parts) (kept : PartsKept old) (same : KeepsWork old.work new
 
 -- a node was added in no scope
 module _ (old new : Parts) (id : NodeId) (row : Row) (heights : Part → ℕ) (kept : PartsKept old) (gen : id.gen_ ≡ old.arena.given)
-    (added : nodes.Changes old.arena new.arena id (Some row)) (top : row.scope ≡ None) (sound : IsSound new.arena)
+    (added : nodes.Changes old.arena new.arena id (Some row)) (top : row.scope ≡ None) (sound : IsSoundArena new.arena)
     (given : new.arena.given ≡ old.arena.given + 1)
     (rows : ChangesNode old.work.rows new.work.rows id (for_parts row.def (λ part. unsettled)))
     (points : ChangesNode old.work.graph.heights new.work.graph.heights id (for_parts row.def heights))

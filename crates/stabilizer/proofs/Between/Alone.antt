@@ -47,7 +47,7 @@ use Rattle.stabilizer.specs.Kept.{PartsKept}
 use Rattle.stabilizer.specs.Look.{last_of, last_call}
 use Rattle.stabilizer.specs.Round.{IsReady}
 use Rattle.stabilizer.specs.declared.parts.Parts.{Parts}
-use Rattle.wiring.specs.Stands.{Stands}
+use Rattle.wiring.specs.Stands.{MatchesState}
 use Rattle.node_outcomes.specs.declared.row.Progress.{Progress}
 use Rattle.node_outcomes.specs.declared.row.Stage.{Stage}
 use Rattle.node_outcomes.specs.declared.row.Stage.TheVariants as code
@@ -318,7 +318,7 @@ module _ (M : Meaning) (arena : Arena) (work : Work) (b : IsBetween M.functions 
         ∙ ap (λ (x : machine.Stage). plan_at now.graph now.out now.died p None x) (stage_then p is)))
   ]
 
-  stands_then : Stands arena work (record { calls = 0; builds = 0; adds = 0 }) None now
+  stands_then : MatchesState arena work (record { calls = 0; builds = 0; adds = 0 }) None now
   stands_then = record {
     graph = refl;
     out = λ p k e. ap outcome_in e;

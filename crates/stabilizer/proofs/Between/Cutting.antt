@@ -22,7 +22,7 @@ use Rattle.stabilizer.specs.Look.{never_at, cutoff_at}
 use Rattle.stabilizer.specs.Round.{IsReady}
 use Rattle.stabilizer.specs.declared.parts.Parts.{Parts}
 use Rattle.node_outcomes.specs.Row.{IsRewritten, with_cutoff, settled_in, stage_of, never_in, cutoff_in}
-use Rattle.wiring.specs.Stands.{Stands, counts_of}
+use Rattle.wiring.specs.Stands.{MatchesState, counts_of}
 use Rattle.node_outcomes.specs.declared.row.Progress.{Progress}
 use Rattle.wiring.specs.declared.work.Work.{Work}
 use Rattle.stabilizer.proofs.Between.Keeping.{kept_rewritten}
@@ -103,7 +103,7 @@ module _ (old new : Parts) (id : NodeId) (c : Cutoff) (kept : PartsKept old) (w 
     abbrev start : Start
     start = record ready.start { never = never_at work }
 
-    stands : Stands arena work (counts_of state) None state
+    stands : MatchesState arena work (counts_of state) None state
     stands = record {
       graph = ready.stands.graph ∙ sym (graph_rewritten arena old.work work (main id) (with_cutoff c) w (λ k is. refl) refl);
       out = λ p k e. let b = was p k e in ready.stands.out p b.row b.was ∙ sym b.outcome;

@@ -18,7 +18,7 @@ use Rattle.node_outcomes.specs.Computing.{has_part}
 use Rattle.node_outcomes.specs.Row.{cutoff_in, outcome_in}
 use Rattle.stabilize_round.proofs.Points.{node_or_other}
 use Rattle.stabilizer.specs.Between.{Stays, HasDropped, IsTakenBack}
-use Rattle.node_arena.specs.Sound.{IsSound, IsFirstSince}
+use Rattle.node_arena.specs.Sound.{IsSoundArena, IsFirstSince}
 use Rattle.node_outcomes.specs.Meaning.{Meaning}
 use Rattle.wiring.specs.Kept.{IsKept, IsDead}
 use Rattle.stabilizer.specs.Kept.{PartsKept}
@@ -48,7 +48,7 @@ module _ (before arena : Arena) (old work : Work) (id : NodeId) (kept : IsKept b
     (rows : ChangesNode old.rows work.rows id (λ part. None)) (points : ChangesNode old.graph.heights work.graph.heights id (λ part. None))
     (rights : ChangesNode old.roots work.roots id (λ part. None))
     (links : work.graph.links ≡ old.graph.links) (roots : work.graph.roots ≡ old.graph.roots) (heap : work.graph.heap ≡ old.graph.heap)
-    (step : IsInStep work.graph) (sound : IsSound arena)
+    (step : IsInStep work.graph) (sound : IsSoundArena arena)
     (rest : work ≡ record old { graph = work.graph; rows = work.rows; roots = work.roots }) where
   deaths : work.deaths ≡ old.deaths
   deaths = ap (λ (x : Work). x.deaths) rest
@@ -200,7 +200,7 @@ module _ (old new : Parts) (id : NodeId) (kept : PartsKept old) (unneeded : (p :
     (points : ChangesNode old.work.graph.heights new.work.graph.heights id (λ part. None))
     (rights : ChangesNode old.work.roots new.work.roots id (λ part. None))
     (links : new.work.graph.links ≡ old.work.graph.links) (roots : new.work.graph.roots ≡ old.work.graph.roots)
-    (heap : new.work.graph.heap ≡ old.work.graph.heap) (step : IsInStep new.work.graph) (sound : IsSound new.arena)
+    (heap : new.work.graph.heap ≡ old.work.graph.heap) (step : IsInStep new.work.graph) (sound : IsSoundArena new.arena)
     (rest : new.work ≡ record old.work { graph = new.work.graph; rows = new.work.rows; roots = new.work.roots })
     (scopes : new.scopes ≡ old.scopes) (dying : new.dying.items ≡ old.dying.items) where
   stays : Stays old.arena new.arena old.work new.work
@@ -267,7 +267,7 @@ pub record AreWalked (a : Arena) (count next : ℕ) : Type 0 where
 
 module _ (a : Arena) (count next : ℕ) (walked : AreWalked a count next) where
   -- the first one since the next is dropped
-  pub walk_goes_on : (new : Arena) (id : NodeId) → IsSound a → IsFirstSince a next id → nodes.Changes a new id None
+  pub walk_goes_on : (new : Arena) (id : NodeId) → IsSoundArena a → IsFirstSince a next id → nodes.Changes a new id None
       → AreWalked new count (id.gen_ + 1)
   walk_goes_on new id sound first dropped = record {
     low = let s = first.since in let l = walked.low in omega (arith, s, l);
@@ -293,7 +293,7 @@ module _ (a : Arena) (count next : ℕ) (walked : AreWalked a count next) where
   ]
 
 -- a live node's number isn't the last
-pub next_fits : (a : Arena) (id : NodeId) → IsSound a → IsLive a id → id.gen_ + 1 < 2 ^ 64
+pub next_fits : (a : Arena) (id : NodeId) → IsSoundArena a → IsLive a id → id.gen_ + 1 < 2 ^ 64
 next_fits a id sound live = let g = sound.given id live in let f = sound.count in omega (arith, g, f)
 
 -- ---- nodes since a count are listed no more

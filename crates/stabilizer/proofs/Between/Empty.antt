@@ -12,7 +12,7 @@ use Rattle.necessary_graph.specs.Part.{IsInStep}
 use Rattle.inc_terms.specs.Depend.{change}
 use Rattle.inc_terms.specs.Within.{FunctionLaws}
 use Rattle.node_arena.specs.Arena.{Arena, row_at}
-use Rattle.node_arena.specs.Sound.{IsSound}
+use Rattle.node_arena.specs.Sound.{IsSoundArena}
 use Rattle.node_outcomes.specs.Meaning.{Meaning}
 use Rattle.node_outcomes.specs.Computing.{has_part}
 use Rattle.stabilizer.specs.Between.{IsBetween}
@@ -28,7 +28,7 @@ use Rattle.stabilizer.specs.declared.parts.Parts.{Parts}
 use Rattle.wiring.specs.Graph.{died_at}
 use Rattle.stabilize_round.specs.State.{all_retries}
 
-module _ (arena : Arena) (work : Work) (sound : IsSound arena) (step : IsInStep work.graph) (nodes : (n : NodeId) → row_at arena n ≡ None)
+module _ (arena : Arena) (work : Work) (sound : IsSoundArena arena) (step : IsInStep work.graph) (nodes : (n : NodeId) → row_at arena n ≡ None)
     (rows : (p : Point) → at work.rows p ≡ None) (points : (p : Point) → at work.graph.heights p ≡ None)
     (links : (p q : Point) → times work.graph.links p q ≡ 0) (heap : (p : Point) → at work.graph.heap p ≡ None)
     (rights : (p : Point) → at work.roots p ≡ None) (undied : (n : NodeId) → died_at work n ≡ None) where

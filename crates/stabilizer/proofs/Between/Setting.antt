@@ -22,7 +22,7 @@ use Rattle.point_map.proofs.Places.{point_cases}
 use Rattle.link_table.specs.Links.{Links, times, Reads}
 use Rattle.necessary_graph.specs.Part.{Needed, IsInStep}
 use Rattle.node_arena.specs.Arena.{Arena, row_at, IsSet, IsVariable, with_value}
-use Rattle.node_arena.specs.Sound.{IsSound}
+use Rattle.node_arena.specs.Sound.{IsSoundArena}
 use Rattle.node_arena.specs.Typing.{Fits}
 use Rattle.node_outcomes.specs.Computing.{has_part, IsOfType}
 use Rattle.stabilize_round.proofs.Points.{node_or_other}
@@ -76,7 +76,7 @@ record Before (before : Arena) (id n : NodeId) (v : Value) (r : Row) : Type 0 wh
 module _ (before arena : Arena) (old work : Work) (id : NodeId) (v : Value) (kept : IsKept before old) (set : IsSet before arena id v)
     (not_other : (IsVariable before id → ⊥) → ⊥) (given : arena.given ≡ before.given) (rows : work.rows ≡ old.rows)
     (marked : IsMarked old.graph work.graph (main id)) (step : IsInStep work.graph) (round : KeepsRound old work)
-    (todo : work.todo.items ≡ old.todo.items) (lists : KeepsLists old work) (sound : IsSound arena) where
+    (todo : work.todo.items ≡ old.todo.items) (lists : KeepsLists old work) (sound : IsSoundArena arena) where
   row_was : (n : NodeId) (r : Row) → row_at arena n ≡ Some r → Before before id n v r
   row_was n r e = elim (node_or_other n id) [
     | inl is ↦
@@ -285,7 +285,7 @@ module _ (before arena : Arena) (old work : Work) (id : NodeId) (v : Value) (kep
 -- parts are kept, and a round may begin with them
 module _ (old new : Parts) (id : NodeId) (v : Value) (kept : PartsKept old) (set : IsSet old.arena new.arena id v)
     (not_other : (IsVariable old.arena id → ⊥) → ⊥) (given : new.arena.given ≡ old.arena.given)
-    (marked : IsMarked old.work.graph new.work.graph (main id)) (step : IsInStep new.work.graph) (sound : IsSound new.arena)
+    (marked : IsMarked old.work.graph new.work.graph (main id)) (step : IsInStep new.work.graph) (sound : IsSoundArena new.arena)
     (rest : new ≡ record old { arena = new.arena; work = record old.work { graph = new.work.graph } }) where
   abbrev work : Work
   work = record old.work { graph = new.work.graph }

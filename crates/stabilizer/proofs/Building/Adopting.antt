@@ -11,7 +11,7 @@ use Rattle.inc_terms.specs.Depend.{subject_of}
 use Rattle.inc_terms.specs.Graph.{Row}
 use Rattle.necessary_graph.specs.Part.{IsInStep}
 use Rattle.node_arena.specs.Arena.{Arena, row_at, IsLive}
-use Rattle.node_arena.specs.Sound.{IsSound, IsFirstSince}
+use Rattle.node_arena.specs.Sound.{IsSoundArena, IsFirstSince}
 use Rattle.node_outcomes.specs.Computing.{has_part}
 use Rattle.point_map.specs.Rows.{Rows, at, KeepsRows}
 use Rattle.scopes.specs.Scopes.{Scopes, IsApart, Enters}
@@ -83,7 +83,7 @@ module _ (parts : Parts) (b : NodeId) (count : ℕ) (may : MayAdopt parts count)
 
 -- ---- a node that is next
 
-module _ (a : Arena) (node : NodeId) (count next : ℕ) (sound : IsSound a) (low : count ≤ next) (first : IsFirstSince a next node) where
+module _ (a : Arena) (node : NodeId) (count next : ℕ) (sound : IsSoundArena a) (low : count ≤ next) (first : IsFirstSince a next node) where
   pub new_since : count ≤ node.gen_
   new_since = let s = first.since in omega (arith, s, low)
 

@@ -41,7 +41,7 @@ use Rattle.node_outcomes.specs.Choosing.{built_by, built_in}
 use Rattle.node_outcomes.specs.Row.{IsRewritten, with_outcome, outcome_in}
 use Rattle.node_outcomes.specs.declared.row.Progress.{Progress}
 use Rattle.wiring.specs.Graph.{held_at, graph_at}
-use Rattle.wiring.specs.Stands.{Stands, Counts, hand}
+use Rattle.wiring.specs.Stands.{MatchesState, Counts, hand}
 use Rattle.wiring.specs.Wiring.{KeepsGraph, IsTurnedIn}
 use Rattle.wiring.specs.declared.work.Work.{Work}
 use Rattle.stabilizer.specs.declared.parts.Parts.{Parts}
@@ -109,7 +109,7 @@ built_alike arena old new n given root run c ne =
 
 -- ---- the state after it
 
-module _ (s : State) (arena : Arena) (old new : Work) (counts : Counts) (st : Stands arena old counts None s) (n : NodeId) (given : Outcome)
+module _ (s : State) (arena : Arena) (old new : Work) (counts : Counts) (st : MatchesState arena old counts None s) (n : NodeId) (given : Outcome)
     (root : Option NodeId) (there : Holds old.rows (change n)) (run : IsRebuilt old new n given root) where
   -- the main goes to the worklist where it waits
   abbrev pub todo' : Point → Bool
@@ -120,7 +120,7 @@ module _ (s : State) (arena : Arena) (old new : Work) (counts : Counts) (st : St
   next = changed (record s { graph = graph_at arena new }) n given todo'
 
   -- the parts stand for it, with the main in hand
-  pub run_stands : Stands arena new counts (Some (hand (main n) [])) next
+  pub run_stands : MatchesState arena new counts (Some (hand (main n) [])) next
   run_stands =
       let settles : LeavesSettled old new n given = record {
         rows = run.rows;
@@ -171,7 +171,7 @@ module _ (F : Functions) (z : Start) (t : State) (b : NodeId) (now : Outcome) (c
   abbrev pub low : State
   low = bare_state F z t b now cut died grown counts a after calls adds
 
-  pub low_stands : Stands grown.arena grown.work after None low
+  pub low_stands : MatchesState grown.arena grown.work after None low
   low_stands = bare_stands F z t b now cut died grown counts a after calls adds
 
   -- what binds are built for once the change is settled

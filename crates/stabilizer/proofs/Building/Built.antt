@@ -18,7 +18,7 @@ use Rattle.node_arena.specs.Building.{building_in, Grows}
 use Rattle.node_arena.specs.Meanings.{SameKnown}
 use Rattle.node_arena.specs.RightSide.{RightSide, IsEmpty, SidesHold, SameMeaning, SameSides, AreFit, Tally, one_built}
 use Rattle.node_arena.specs.RightSideLaws.{AllFit, IsFitIn}
-use Rattle.node_arena.specs.Sound.{IsSound}
+use Rattle.node_arena.specs.Sound.{IsSoundArena}
 use Rattle.node_arena.specs.declared.functions.Functions.{Ghosts}
 use Rattle.node_arena.specs.declared.stored.BuildFault.{BuildFault}
 use Rattle.node_arena.specs.declared.stored.BuildFault.TheVariants as fault
@@ -78,7 +78,7 @@ stops_by before arena fault.Memory e full memory room = subst (StopsBuilding bef
 
 module _ (old mid : Parts) (b : NodeId) (side : RightSide) (kept : PartsKept old)
     (bind : IsBindNode old.arena b) (empty : IsEmpty old.arena b)
-    (sound : IsSound mid.arena) (grows : Grows side.uses (building_in b old.arena) (building_in b mid.arena) side.size)
+    (sound : IsSoundArena mid.arena) (grows : Grows side.uses (building_in b old.arena) (building_in b mid.arena) side.size)
     (work : mid.work ≡ old.work) (scopes : mid.scopes ≡ old.scopes) (dying : mid.dying.items ≡ old.dying.items) (ran : mid.ran ≡ old.ran) where
   -- ---- what is new
 
@@ -154,7 +154,7 @@ module _ (old mid : Parts) (b : NodeId) (side : RightSide) (kept : PartsKept old
       pub has_grown : HasGrown old new b
       has_grown = record {
         later = subst (λ (x : Arena). old.arena.given ≤ x.given) (sym so.arena) grows.later;
-        sound = subst IsSound (sym so.arena) sound;
+        sound = subst IsSoundArena (sym so.arena) sound;
         nodes = λ n g. ap (λ (x : Arena). row_at x n) so.arena ∙ grows.keeps n g;
         scope = λ n r e s. subst (λ (x : Arena). (r.scope ≡ Some b) × Given x.given n) (sym so.arena)
             (new_scope n r (sym (ap (λ (x : Arena). row_at x n) so.arena) ∙ e) s);
@@ -176,7 +176,7 @@ module _ (old mid : Parts) (b : NodeId) (side : RightSide) (kept : PartsKept old
 
     pub may_disown : MayDisown new b old.arena.given
     may_disown = record {
-      sound = subst IsSound (sym so.arena) sound;
+      sound = subst IsSoundArena (sym so.arena) sound;
       step = so.work.step;
       later = subst (λ (x : Arena). old.arena.given ≤ x.given) (sym so.arena) grows.later;
       points = record {
@@ -310,7 +310,7 @@ pub record HasBuiltNodes {K More : Type 0} (keeper : Ghosts K More) (fs fs' : K)
   pub may : MayBuildFor keeper fs old b f captures left
   pub holds : SidesHold (keeper.known fs) (keeper.right fs)
   pub sound : keeper.is_sound fs'
-  pub arena : IsSound mid.arena
+  pub arena : IsSoundArena mid.arena
   pub grows : Grows (keeper.right fs f).uses (building_in b old.arena) (building_in b mid.arena) (keeper.right fs f).size
   pub same : SameMeaning (keeper.named fs) (keeper.named fs') (keeper.known fs) (keeper.known fs') (keeper.value fs) (keeper.value fs')
       (keeper.right fs) (keeper.right fs')

@@ -11,7 +11,7 @@ use Rattle.inc_terms.specs.Graph.{Row}
 use Rattle.necessary_graph.specs.Part.{Needed, IsInStep}
 use Rattle.node_arena.specs.Arena as nodes
 use Rattle.node_arena.specs.Arena.{Arena, row_at, live, IsLive}
-use Rattle.node_arena.specs.Sound.{IsSound, IsFirstSince}
+use Rattle.node_arena.specs.Sound.{IsSoundArena, IsFirstSince}
 use Rattle.node_lists.specs.Listed.{Listed}
 use Rattle.node_outcomes.specs.Computing.{has_part}
 use Rattle.point_map.specs.Rows.{Rows, at, Holds}
@@ -191,7 +191,7 @@ module _ (old now : Parts) (b : NodeId) (so : AreLeaving old now b) (none : (n :
 
 -- the nodes are dropped whose ids were given since the count and before the next
 pub record AreDropping (old now : Arena) (count next : ℕ) : Type 0 where
-  pub sound : IsSound now
+  pub sound : IsSoundArena now
   pub given : now.given ≡ old.given
   pub nodes : (n : NodeId) → n.gen_ < count → row_at now n ≡ row_at old n
   pub gone : (n : NodeId) → count ≤ n.gen_ → n.gen_ < next → row_at now n ≡ None
@@ -199,7 +199,7 @@ pub record AreDropping (old now : Arena) (count next : ℕ) : Type 0 where
   pub low : count ≤ next
   pub high : next ≤ old.given
 
-pub dropping_begins : (a : Arena) (count : ℕ) → IsSound a → count ≤ a.given → AreDropping a a count count
+pub dropping_begins : (a : Arena) (count : ℕ) → IsSoundArena a → count ≤ a.given → AreDropping a a count count
 dropping_begins a count sound later = record {
   sound = sound;
   given = refl;
@@ -217,7 +217,7 @@ module _ (old now : Arena) (count next : ℕ) (so : AreDropping old now count ne
     dropping_given = let g = so.sound.given id first.live in let e = so.given in omega (arith, g, e)
 
     module _ (new : Arena) (dropped : nodes.Changes now new id None) (fewer : live new + 1 ≡ live now) (given : new.given ≡ now.given)
-        (sound : IsSound new) where
+        (sound : IsSoundArena new) where
       older : (n : NodeId) → n.gen_ < count → n ≢ id
       older n h is =
           let e : n.gen_ ≡ id.gen_ = ap (λ (x : NodeId). x.gen_) is in

@@ -34,7 +34,7 @@ use Rattle.node_outcomes.specs.Meaning.{Meaning, meaning_of}
 use Rattle.node_outcomes.specs.Row.{IsRewritten, with_outcome, without_outcome, settled_in}
 use Rattle.node_outcomes.specs.declared.row.Progress.{Progress}
 use Rattle.wiring.specs.Began.{IsRoundOf}
-use Rattle.wiring.specs.Stands.{Stands, Counts}
+use Rattle.wiring.specs.Stands.{MatchesState, Counts}
 use Rattle.wiring.specs.Wiring.{KeepsGraph}
 use Rattle.wiring.specs.declared.refused.Refused.{Refused}
 use Rattle.wiring.specs.declared.refused.Refused.TheVariants.{Height, Cycle, Full, Memory}
@@ -121,7 +121,7 @@ left_roomy M right old deaths roots same_deaths same_roots dying same_dying b co
 abbrev pub StopsThere : Meaning → NodeId → Parts → Counts → Start → State → Type 0
 StopsThere M b last after z s =
     (ready stopped : State) × Reaches (Preparing M.functions z (change b)) s ready × Stops M.functions z ready stopped
-    × Stands last.arena last.work after None stopped × (stopped.heap (change b) ≡ true)
+    × MatchesState last.arena last.work after None stopped × (stopped.heap (change b) ≡ true)
 
 -- then it is settled
 pub settled_on : (mid new : Work) (b : NodeId) (given : Outcome) → IsSettledOn mid new b given → Holds mid.rows (change b)

@@ -11,7 +11,7 @@ use Rattle.inc_terms.specs.Local.{Scoped}
 use Rattle.link_table.specs.Links.{Links, Reads}
 use Rattle.necessary_graph.specs.Part.{Needed}
 use Rattle.node_arena.specs.Arena.{Arena, row_at, IsLive}
-use Rattle.node_arena.specs.Sound.{IsSound}
+use Rattle.node_arena.specs.Sound.{IsSoundArena}
 use Rattle.node_outcomes.specs.Computing.{has_part}
 use Rattle.node_outcomes.specs.Row.{outcome_in}
 use Rattle.node_outcomes.specs.declared.row.Progress.{Progress}
@@ -45,7 +45,7 @@ no_part : (x : Option Row) (p : Point) → x ≡ None → has_part x p.part ≡ 
 no_part x p e = ap (λ (y : Option Row). has_part y p.part) e
 
 module _ (before arena : Arena) (old work : Work) (b : NodeId) (These : NodeId → Type 0) (kept : IsKept before old) (bind : IsBindNode before b)
-    (more : before.given ≤ arena.given) (sound : IsSound arena)
+    (more : before.given ≤ arena.given) (sound : IsSoundArena arena)
     (nodes : (n : NodeId) → n.gen_ < before.given → row_at arena n ≡ row_at before n)
     (scope : (n : NodeId) (r : Row) → row_at arena n ≡ Some r → before.given ≤ n.gen_ → r.scope ≡ Some b)
     (adopted : HasAdopted arena before.given These old work)

@@ -35,7 +35,7 @@ use Rattle.node_outcomes.specs.declared.row.Progress.{Progress}
 use Rattle.node_outcomes.proofs.Held.{same_held}
 use Rattle.wiring.specs.Graph.{held_at, graph_at}
 use Rattle.wiring.specs.Kept.{IsKept, IsBind, IsGhostLink}
-use Rattle.wiring.specs.Stands.{Stands, Counts}
+use Rattle.wiring.specs.Stands.{MatchesState, Counts}
 use Rattle.wiring.specs.declared.work.Work.{Work}
 use Rattle.wiring.proofs.Deciding.{need_same}
 use Rattle.wiring.proofs.Holding.{ghost_same, right_as}
@@ -217,7 +217,7 @@ module _ (arena : Arena) (old : Work) (deaths : Deaths) (roots : Rows NodeId) (s
   }
 
   -- and they stand for the same states
-  pub reserved_stands : (counts : Counts) (s : State) → Stands arena old counts None s → Stands arena reserved counts None s
+  pub reserved_stands : (counts : Counts) (s : State) → MatchesState arena old counts None s → MatchesState arena reserved counts None s
   reserved_stands counts s st = record {
     graph = st.graph ∙ sym graph_reserved;
     out = st.out;

@@ -28,7 +28,7 @@ use Rattle.stabilize_round.proofs.Parts.{reaches_map}
 use Rattle.node_outcomes.specs.Meaning.{Meaning}
 use Rattle.wiring.specs.Began.{IsRoundOf}
 use Rattle.wiring.specs.Kept.{IsKept}
-use Rattle.wiring.specs.Stands.{Stands, Counts}
+use Rattle.wiring.specs.Stands.{MatchesState, Counts}
 use Rattle.wiring.specs.Wiring.{IsTurnedIn}
 use Rattle.wiring.specs.declared.work.Work.{Work}
 use Rattle.stabilizer.specs.Building.{HasGrown}
@@ -88,7 +88,7 @@ module _ (M : Meaning) (old cut died grown : Parts) (b : NodeId) (f : FnRef) (ca
       -- the bind is built for nothing, nobody stands in its scope, and the round stops
       stopped : IsEmpty grown.arena b → (most : RoseAtMost before.builds (builds_of now) after.builds)
           → (ready stopped : State) × Reaches (Preparing F z (change b)) s ready × Stops F z ready stopped
-          × Stands grown.arena grown.work after None stopped × (stopped.heap (change b) ≡ true)
+          × MatchesState grown.arena grown.work after None stopped × (stopped.heap (change b) ≡ true)
       stopped empty most = (
         t,
         bare_state F z t b now cut died grown before is_anew after calls adds,
@@ -134,7 +134,7 @@ module _ (M : Meaning) (old cut died grown : Parts) (b : NodeId) (f : FnRef) (ca
       → RoseAtMost before.builds (builds_of now) after.builds
       → (z : Start) (s : State) → IsRoundOf M z s → Quiet s → StandsBefore old before s b
       → (ready stopped : State) × Reaches (Preparing M.functions z (change b)) s ready × Stops M.functions z ready stopped
-      × Stands grown.arena grown.work after None stopped × (stopped.heap (change b) ≡ true)
+      × MatchesState grown.arena grown.work after None stopped × (stopped.heap (change b) ≡ true)
   stops_unbuilt empty after calls adds most z s begun quiet stands = stopped z s begun quiet stands after calls adds empty most
 
   -- where it was

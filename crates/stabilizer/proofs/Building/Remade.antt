@@ -40,7 +40,7 @@ use Rattle.node_outcomes.specs.declared.row.Progress.{Progress}
 use Rattle.node_outcomes.specs.declared.row.Stage.TheVariants as code
 use Rattle.wiring.specs.Graph.{held_at, died_at}
 use Rattle.wiring.specs.Kept.{IsKept}
-use Rattle.wiring.specs.Stands.{Stands, Counts}
+use Rattle.wiring.specs.Stands.{MatchesState, Counts}
 use Rattle.wiring.specs.Turning.{IsAttached}
 use Rattle.wiring.specs.Wiring.{IsAtGate, HasMore}
 use Rattle.wiring.proofs.Agreeing.{no_freeze}
@@ -58,7 +58,7 @@ pub record IsAnew (F : Functions) (z : Start) (t : State) (b : NodeId) (now : Ou
   pub given : AllGiven F z t
   pub quiet : Quiet t
   pub least : IsLeast t (change b)
-  pub stands : Stands cut.arena cut.work counts None t
+  pub stands : MatchesState cut.arena cut.work counts None t
   pub due : IsDue F t.graph b now
   pub own : Holds cut.work.rows (change b)
   pub kept : IsKept cut.arena cut.work

@@ -26,7 +26,7 @@ use Rattle.stabilize_round.proofs.Rebuilding.{settled_kept}
 use Rattle.node_outcomes.specs.Row.{outcome_in, settled_in, stage_of, without_outcome, is_never}
 use Rattle.node_outcomes.specs.declared.row.Progress.{Progress}
 use Rattle.wiring.specs.Graph.{held_at}
-use Rattle.wiring.specs.Stands.{Stands, Counts, counts_of}
+use Rattle.wiring.specs.Stands.{MatchesState, Counts, counts_of}
 use Rattle.wiring.proofs.Deciding.{need_same}
 use Rattle.wiring.proofs.Ghosts.{dead_rowless}
 use Rattle.wiring.proofs.Holding.{unran_unbuilt}
@@ -179,7 +179,7 @@ module _ (F : Functions) (z : Start) (t : State) (b : NodeId) (now : Outcome) (c
         (ap (λ (c : Counts). c.calls) a.stands.counts ∙ sym calls)
 
     -- the parts stand for it
-    pub bare_stands : Stands grown.arena grown.work after None bare_state
+    pub bare_stands : MatchesState grown.arena grown.work after None bare_state
     bare_stands = record {
       graph = refl;
       out = λ p k e. out_is p k (row_case p k e);

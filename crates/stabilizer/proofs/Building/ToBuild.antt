@@ -39,7 +39,7 @@ use Rattle.node_outcomes.specs.Row.{outcome_in}
 use Rattle.node_outcomes.specs.declared.row.Progress.{Progress}
 use Rattle.node_outcomes.proofs.Held.{built_live, built_parts}
 use Rattle.wiring.specs.Kept.{IsKept}
-use Rattle.wiring.specs.Stands.{Stands, Counts}
+use Rattle.wiring.specs.Stands.{MatchesState, Counts}
 use Rattle.wiring.specs.declared.work.Work.{Work}
 use Rattle.stabilizer.specs.Dying.{StandsBefore, GatesWait}
 use Rattle.stabilizer.specs.Rebuilding.{IsToBuild}
@@ -113,7 +113,7 @@ module _ (F : Functions) (z : Start) (s : State) (inv : Invariant F z s) (quiet 
   abbrev W : Work
   W = before.work
 
-  st : Stands old.arena W counts None s
+  st : MatchesState old.arena W counts None s
   st = before.stands
 
   rows_as : old.work.rows ≡ W.rows

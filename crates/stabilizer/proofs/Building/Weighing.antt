@@ -12,7 +12,7 @@ use Rattle.node_arena.specs.Arena.{Arena, row_at, IsLive}
 use Rattle.node_arena.specs.Building.{building_in, Grows, Weighed, Weighs}
 use Rattle.node_arena.specs.RightSide.{RightSide, IsEmpty, SidesHold}
 use Rattle.node_arena.specs.RightSideLaws.{AllFit, IsFitIn}
-use Rattle.node_arena.specs.Sound.{IsSound}
+use Rattle.node_arena.specs.Sound.{IsSoundArena}
 use Rattle.stabilize_round.proofs.Points.{node_or_other}
 use Rattle.stabilizer.specs.Weights.{weight_of, weight_in, weight_at, IsInScope, ScopesFit, SidesFit}
 use Rattle.stabilizer.proofs.Building.Sums.{sum_most, StandsFor, stood_for}
@@ -77,7 +77,7 @@ module _ (known : FnRef → Bool) (right : FnRef → RightSide) (hold : SidesHol
       omega (arith, size, same, most)
   weighs _ w h = h
 
-  module _ (b : NodeId) (a built : Arena) (sound : IsSound a) (live : IsLive a b) (empty : IsEmpty a b)
+  module _ (b : NodeId) (a built : Arena) (sound : IsSoundArena a) (live : IsLive a b) (empty : IsEmpty a b)
       (scopes : (n c : NodeId) (r : Row) → row_at a n ≡ Some r → r.scope ≡ Some c → IsLive a c)
       (own : (r : Row) (left g : _) (captures : List NodeId) → row_at a b ≡ Some r → r.def ≡ Bind left g captures → g ≡ f)
       (grows : Grows (right f).uses (building_in b a) (building_in b built) (right f).size) where

@@ -19,7 +19,7 @@ use Rattle.node_outcomes.specs.Meaning.{Meaning}
 use Rattle.stabilize_round.proofs.Points.{same_or_other}
 use Rattle.stabilize_round.specs.State.{State}
 use Rattle.wiring.specs.Kept.{IsKept}
-use Rattle.wiring.specs.Stands.{Stands, Counts}
+use Rattle.wiring.specs.Stands.{MatchesState, Counts}
 use Rattle.wiring.specs.Wiring.{IsMarked}
 use Rattle.wiring.specs.declared.refused.Refused.{Refused}
 use Rattle.wiring.specs.declared.refused.Refused.TheVariants.{Memory}
@@ -55,7 +55,7 @@ module _ (M : Meaning) (old mid : Parts) (n : NodeId) (before after : Counts) (w
       need_same m.work.graph mid.work.graph (ap (λ (g : NecessaryPart). g.links) m.taken.graph) (ap (λ (g : NecessaryPart). g.roots) m.taken.graph)
       (change n) then
 
-  again_stands : (s : State) → StandsBefore old before s n → StandsBefore mid after s n → Stands mid.arena work after None s
+  again_stands : (s : State) → StandsBefore old before s n → StandsBefore mid after s n → MatchesState mid.arena work after None s
   again_stands s b m = heap_stands mid.arena (with_change mid.work n) work rest
       (record { links = marked.graph.links; roots = marked.graph.roots; heights = marked.graph.heights }) same s after
       (before_stands mid.arena m.work mid.work n after s m.taken m.stands)
@@ -68,7 +68,7 @@ module _ (M : Meaning) (old mid : Parts) (n : NodeId) (before after : Counts) (w
       ]
 
   -- where it was in the heap already nothing is new there
-  in_heap_stands : (s : State) → s.heap (change n) ≡ true → Stands mid.arena mid.work after None s → Stands mid.arena work after None s
+  in_heap_stands : (s : State) → s.heap (change n) ≡ true → MatchesState mid.arena mid.work after None s → MatchesState mid.arena work after None s
   in_heap_stands s held st = heap_stands mid.arena mid.work work rest marked.graph same s after st
     where
       there : Holds mid.work.graph.heap (change n)

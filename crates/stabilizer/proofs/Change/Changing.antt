@@ -9,7 +9,7 @@ use Rattle.necessary_graph.specs.Part.{NecessaryPart, Needed}
 use Rattle.node_arena.specs.Arena.{Arena}
 use Rattle.stabilize_round.specs.State.{State}
 use Rattle.stabilize_round.proofs.Points.{same_or_other}
-use Rattle.wiring.specs.Stands.{Stands, Counts}
+use Rattle.wiring.specs.Stands.{MatchesState, Counts}
 use Rattle.wiring.specs.declared.work.Work.{Work}
 use Rattle.stabilizer.specs.Dying.{TakesLeast}
 use Rattle.stabilizer.proofs.Change.Waiting.{put_back, with_change}
@@ -30,8 +30,8 @@ module _ (arena : Arena) (old new : Work) (rest : new ≡ record old { graph = n
   need_before : (p : Point) → Needed new.graph p → Needed old.graph p
   need_before p n = need_same new.graph old.graph (sym graph.links) (sym graph.roots) p n
 
-  pub heap_stands : (s : State) (counts : Counts) → Stands arena old counts None s → Stands arena new counts None s
-  heap_stands s counts st = subst (λ (w : Work). Stands arena w counts None s) (sym rest) (record {
+  pub heap_stands : (s : State) (counts : Counts) → MatchesState arena old counts None s → MatchesState arena new counts None s
+  heap_stands s counts st = subst (λ (w : Work). MatchesState arena w counts None s) (sym rest) (record {
     graph = st.graph;
     out = st.out;
     last = st.last;
@@ -56,7 +56,7 @@ module _ (arena : Arena) (old new : Work) (rest : new ≡ record old { graph = n
 -- ---- with the change in the heap
 
 module _ (arena : Arena) (work taken : Work) (n : NodeId) (counts : Counts) (s : State) (takes : TakesLeast work taken (change n))
-    (st : Stands arena work counts None s) where
+    (st : MatchesState arena work counts None s) where
   same_graph : KeepsGraph work.graph (with_change taken n).graph
   same_graph = record {
     links = ap (λ (g : NecessaryPart). g.links) takes.graph;
@@ -72,7 +72,7 @@ module _ (arena : Arena) (work taken : Work) (n : NodeId) (counts : Counts) (s :
   ]
 
   -- the state stands for the parts whose heap holds the change
-  pub before_stands : Stands arena (with_change taken n) counts None s
+  pub before_stands : MatchesState arena (with_change taken n) counts None s
   before_stands = heap_stands arena work (with_change taken n)
       (ap (λ (w : Work). record w { graph = (with_change taken n).graph }) takes.rest) same_graph same_heap s counts st
 

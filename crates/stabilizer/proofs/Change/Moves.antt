@@ -52,7 +52,7 @@ use Rattle.wiring.proofs.Sight.{change_is, sees, reads_known, row_is}
 use Rattle.wiring.specs.Began.{IsRoundOf}
 use Rattle.wiring.specs.Graph.{graph_at}
 use Rattle.wiring.specs.Kept.{IsKept}
-use Rattle.wiring.specs.Stands.{Stands, hand, Counts}
+use Rattle.wiring.specs.Stands.{MatchesState, hand, Counts}
 use Rattle.wiring.specs.Turning.{IsDetached, HasTurned}
 use Rattle.wiring.specs.Wiring.{KeepsRound, IsTurnedIn, WaitsFor}
 use Rattle.wiring.specs.declared.work.Work.{Work}
@@ -165,10 +165,10 @@ module _ (s : State) (n : NodeId) where
 
 -- ---- the parts stand for the state in which the change is settled
 
-module _ (s : State) (arena : Arena) (old new : Work) (counts : Counts) (st : Stands arena old counts None s) (n : NodeId) (given : Outcome)
+module _ (s : State) (arena : Arena) (old new : Work) (counts : Counts) (st : MatchesState arena old counts None s) (n : NodeId) (given : Outcome)
     (there : Holds old.rows (change n)) (run : IsRunOn old new n given) (same : graph_at arena new ≡ graph_at arena old)
     (listed : (a : Point) → waits s n a ≡ true → Among a new.todo.items ⊎ (a ≡ main n)) where
-  pub run_stands : Stands arena new counts (Some (hand (main n) [])) (changed s n given (waits s n))
+  pub run_stands : MatchesState arena new counts (Some (hand (main n) [])) (changed s n given (waits s n))
   run_stands =
       let settles : LeavesSettled old new n given = record {
         rows = run.rows;
@@ -253,7 +253,7 @@ module _ (M : Meaning) (old turned : Parts) (n : NodeId) (counts : Counts) (all 
   whole_kept = back_kept arena old.work whole.graph refl (change n) kept own_need own_row
       (record { changed = put_in.changed ∙ sym (has_level (at g.heights (change n)) (kept.step.there (change n) own_need)); others = put_in.others })
 
-  st : Stands arena whole counts None s
+  st : MatchesState arena whole counts None s
   st = before_stands arena before.work old.work n counts s b before.stands
 
   whole_in : Holds whole.graph.heap (change n)

@@ -30,7 +30,7 @@ use Rattle.stabilize_round.specs.State.{State, at_point}
 use Rattle.stabilizer.proofs.Step.Carrying.{needed_now, needed_before}
 use Rattle.wiring.proofs.Holding.{died_same}
 use Rattle.wiring.proofs.InHand.{nothing}
-use Rattle.wiring.specs.Stands.{Stands, hand, Counts}
+use Rattle.wiring.specs.Stands.{MatchesState, hand, Counts}
 use Rattle.wiring.specs.Wiring.{KeepsGraph}
 
 pub some_same : {A : Type 0} (a b : A) → ◌≡◌ {A = Option A} (Some a) (Some b) → a ≡ b
@@ -102,7 +102,7 @@ run_row : (given : Outcome) (round : ℕ) (x : Option Progress) (k : Progress) �
 run_row given round None k e = absurd (none-some k e)
 run_row given round (Some j) k e = (j, refl, sym (some_same _ k e))
 
-module _ (s : State) (arena : Arena) (old new : Work) (counts : Counts) (st : Stands arena old counts None s) (n : NodeId) (given : Outcome)
+module _ (s : State) (arena : Arena) (old new : Work) (counts : Counts) (st : MatchesState arena old counts None s) (n : NodeId) (given : Outcome)
     (there : Holds old.rows (change n)) (run : LeavesSettled old new n given) (G : Graph) (told : G ≡ graph_at arena new) (woken : Point → Bool)
     (listed : (a : Point) → woken a ≡ true → Among a new.todo.items ⊎ (a ≡ main n)) where
   other_row : (a : Point) (k : Progress) → (change n ≡ a → ⊥) → at new.rows a ≡ Some k → at old.rows a ≡ Some k
@@ -115,7 +115,7 @@ module _ (s : State) (arena : Arena) (old new : Work) (counts : Counts) (st : St
       → (j : Progress) × (at old.rows (change n) ≡ Some j) × (k ≡ with_outcome given old.round j)
   before k e = run_row given old.round (at old.rows (change n)) k (sym run.rows.changed ∙ e)
 
-  pub settled_stands : Stands arena new counts (Some (hand (main n) [])) (changed (record s { graph = G }) n given woken)
+  pub settled_stands : MatchesState arena new counts (Some (hand (main n) [])) (changed (record s { graph = G }) n given woken)
   settled_stands = record {
     graph = told;
     out = λ a k e. elim (same_or_other (change n) a) [

@@ -36,7 +36,7 @@ use Rattle.node_outcomes.specs.declared.row.Stage.TheVariants as code
 use Rattle.wiring.specs.Began.{IsRoundOf}
 use Rattle.wiring.specs.Kept.{IsKept}
 use Rattle.wiring.specs.Refusing.{RefusedBy, TellsWhy, no_memory, by_link}
-use Rattle.wiring.specs.Stands.{Stands, Counts, Hand}
+use Rattle.wiring.specs.Stands.{MatchesState, Counts, PointInHand}
 use Rattle.wiring.specs.Turning.{IsWaiting}
 use Rattle.wiring.specs.Wiring.{IsTurnedIn}
 use Rattle.wiring.specs.declared.refused.Refused.{Refused}
@@ -107,7 +107,7 @@ turned_rowed arena old new n kept m =
 
 -- a bind that is to be built anew has a change that wasn't settled: what is settled agrees with what is shown of its left
 due_unsettled : (F : Functions) (z : Start) (s : State) (parts : Parts) (work : Work) (counts : Counts) (n : NodeId) (f : FnRef) (captures : List NodeId)
-    (given : Outcome) → Invariant F z s → IsKept parts.arena work → Stands parts.arena work counts None s → parts.work.rows ≡ work.rows
+    (given : Outcome) → Invariant F z s → IsKept parts.arena work → MatchesState parts.arena work counts None s → parts.work.rows ≡ work.rows
     → IsToBuild parts n f captures given → s.settled (change n) ≡ true → ⊥
 due_unsettled F z s parts work counts n f captures given inv kept st same due settled = elim due.sees [
   | inl e ↦ due.differs (ap (λ (r : Rows Progress). outcome_in (at r (change n))) same
@@ -145,13 +145,13 @@ same_stage : (a b : Stage) → ◌≡◌ {A = Option Stage} (Some a) (Some b) �
 same_stage a b h = cc
 
 -- a row at Static stands for that stage
-static_in : (s : State) (arena : Arena) (work : Work) (counts : Counts) (hand : Option Hand) (p : Point) → Stands arena work counts hand s
+static_in : (s : State) (arena : Arena) (work : Work) (counts : Counts) (hand : Option PointInHand) (p : Point) → MatchesState arena work counts hand s
     → (x : Option Progress) → at work.rows p ≡ x → is_some x ≡ true → s.stage p ≡ machine.Static → stage_in x ≡ Some code.Static
 static_in s arena work counts hand p st None e there f = absurd (cc)
 static_in s arena work counts hand p st (Some k) e there f = ap (λ (y : Stage). Some y) (static_of k.stage (sym (st.stage p k e) ∙ f))
 
 -- and so one at Full
-full_in : (s : State) (arena : Arena) (work : Work) (counts : Counts) (hand : Option Hand) (p : Point) → Stands arena work counts hand s
+full_in : (s : State) (arena : Arena) (work : Work) (counts : Counts) (hand : Option PointInHand) (p : Point) → MatchesState arena work counts hand s
     → (x : Option Progress) → at work.rows p ≡ x → stage_in x ≡ Some code.Full → s.stage p ≡ machine.Full
 full_in s arena work counts hand p st None e f = absurd (none-some code.Full f)
 full_in s arena work counts hand p st (Some k) e f = st.stage p k e ∙ ap stage_of (same_stage k.stage code.Full f)
@@ -164,7 +164,7 @@ link_full work p q (cause.Cycle points) why right a before after = tt
 link_full work p q cause.Full why right a before after = absurd why
 link_full work p q cause.Memory why right a before after = tt
 
-pub why_full : (F : Functions) (s : State) (work : Work) (held : Option Hand) (e : Refused) → TellsWhy F s work held e → (right : FnRef → RightSide)
+pub why_full : (F : Functions) (s : State) (work : Work) (held : Option PointInHand) (e : Refused) → TellsWhy F s work held e → (right : FnRef → RightSide)
     (a : Arena) (before after : Counts) → StopsFull right a before after e
 why_full F s work held e no_memory right a before after = tt
 why_full F s work held e (by_link {p} {q} need tried confirmed why) right a before after = link_full work p q e why right a before after
@@ -193,11 +193,11 @@ module _ (M : Meaning) (old : Parts) (g : NecessaryPart) (p : Point) (n : NodeId
   popped_kept : PartsKept popped
   popped_kept = record { work = taken_kept old.arena old.work g rest p kept c; scopes = all.scopes; dying = all.dying }
 
-  stands_before : (s : State) → Stands old.arena old.work before None s → StandsBefore popped before s n
+  stands_before : (s : State) → MatchesState old.arena old.work before None s → StandsBefore popped before s n
   stands_before s st = record { work = old.work; taken = takes; stands = st }
 
   module _ (turned : Parts) (after : Counts) (z : Start) (s : State) (begun : IsRoundOf M z s) (quiet : Quiet s)
-      (st : Stands old.arena old.work before None s) where
+      (st : MatchesState old.arena old.work before None s) where
     least : IsLeast s (change n)
     least = subst (IsLeast s) same (is_least s old.arena old.work before kept st p was low)
 
@@ -233,8 +233,8 @@ module _ (M : Meaning) (old : Parts) (g : NecessaryPart) (p : Point) (n : NodeId
 
       module _ (attached new : Work) (arena : Arena)
           (full : IsWaiting turned.work n → (stage_in (at attached.rows (main n)) ≡ Some code.Full) ⊎ (attached.retries < turned.work.retries))
-          (u v : State) (attaches : Wired F z k.next u) (on_u : Stands turned.arena attached after None u) (wires : Wired F z u v)
-          (on_v : Stands arena new after None v) (ends : new.todo.items ≡ []) where
+          (u v : State) (attaches : Wired F z k.next u) (on_u : MatchesState turned.arena attached after None u) (wires : Wired F z u v)
+          (on_v : MatchesState arena new after None v) (ends : new.todo.items ≡ []) where
         settles_own : s.settled (change n) ≡ true → SettlesChange F s k.next n
         settles_own settled = subst (λ (y : State). SettlesChange F y k.next n) (k.again settled) (change_settled F z k.ready k.next n k.move k.settles)
 
@@ -297,28 +297,28 @@ module _ (M : Meaning) (old : Parts) (g : NecessaryPart) (p : Point) (n : NodeId
       let v = k.wires F z u.0 after u_holds u.2 u.3 in (
         v.0,
         step_made k.turned after z s begun quiet st x k.attached new.work k.turned.arena k.full u.0 v.0 u.1 u.2 v.1 v.2 ends,
-        subst (λ (a : Arena). Stands a new.work after None v.0) (sym (ap (λ (y : Parts). y.arena) k.rest)) v.2,
+        subst (λ (a : Arena). MatchesState a new.work after None v.0) (sym (ap (λ (y : Parts). y.arena) k.rest)) v.2,
       )
 
   -- ---- a step that is refused
 
   -- points were getting their links
   wiring_stops : (turned new : Parts) (after : Counts) (e : Refused) (z : Start) (s : State) → IsRoundOf M z s → Quiet s
-      → Stands old.arena old.work before None s → IsTurned M popped turned n before after → new ≡ record turned { work = new.work }
+      → MatchesState old.arena old.work before None s → IsTurned M popped turned n before after → new ≡ record turned { work = new.work }
       → ((x : State) → IsTurnedIn F z x turned.arena turned.work after n
-      → (t : State) × (left : Option Hand) × Wired F z x t × Stands turned.arena new.work after left t × TellsWhy F t new.work left e)
+      → (t : State) × (left : Option PointInHand) × Wired F z x t × MatchesState turned.arena new.work after left t × TellsWhy F t new.work left e)
       → stepping.StepStops F z s new before after e
   wiring_stops turned new after e z s begun quiet st k only refused =
       let x = turns turned after z s begun quiet st k in
       let a = refused x.next x.in_turn in
       wiring {t = a.0} {left = a.1} (joined (Move F z) s x.next a.0 (to_next turned after z s begun quiet st x) (wired_moves F z x.next a.0 a.2))
-      (subst (λ (y : Arena). Stands y new.work after a.1 a.0) (sym (ap (λ (y : Parts). y.arena) only)) a.3)
+      (subst (λ (y : Arena). MatchesState y new.work after a.1 a.0) (sym (ap (λ (y : Parts). y.arena) only)) a.3)
       (calls_stay M popped turned n before after k) a.4
 
   pub change_stops : (right : FnRef → RightSide) (new : Parts) (after : Counts) (e : Refused) → ChangeIsLeft M right popped new n before after e
       → StepRefused M old new before after e
   change_stops right new after e (as_it_was stands nodes counts memory) z s begun quiet st =
-      as_it_was (subst (λ (k : Counts). Stands new.arena new.work k None s) counts (stands s (stands_before s st))) (inl counts) memory
+      as_it_was (subst (λ (k : Counts). MatchesState new.arena new.work k None s) counts (stands s (stands_before s st))) (inl counts) memory
   change_stops right new after e (unbuilt {count} stops calls later told few full) z s begun quiet st =
       let x = stops z s begun quiet (stands_before s st) in
       unbuilt {r = x.0} {t = x.1} {count = count} (preparing_moves F z (change n) s x.0 x.2) x.3 x.4 calls

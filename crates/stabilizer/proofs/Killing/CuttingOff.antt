@@ -28,9 +28,9 @@ use Rattle.node_outcomes.specs.Computing.{has_part}
 use Rattle.node_outcomes.specs.Row.{with_stage, stage_in}
 use Rattle.node_outcomes.specs.declared.row.Progress.{Progress}
 use Rattle.node_outcomes.specs.declared.row.Stage.TheVariants as code
-use Rattle.wiring.specs.Stands.{Stands, Counts}
+use Rattle.wiring.specs.Stands.{MatchesState, Counts}
 use Rattle.wiring.specs.Turning.{IsAttached}
-use Rattle.wiring.specs.Wiring.{Looks}
+use Rattle.wiring.specs.Wiring.{ShowsSame}
 use Rattle.wiring.specs.declared.work.Work.{Work}
 use Rattle.wiring.proofs.InHand.{gated_none}
 use Rattle.wiring.proofs.Detaching.{change_is_other}
@@ -92,7 +92,7 @@ module _ (old : Parts) (b : NodeId) (kept : PartsKept old) (there : Holds old.wo
       | inr ne ↦ ap is_some ((marked old.arena old.work loose b lost kept.work need there).others p ne ∙ sb.taken.heap.others p ne)
     ]
 
-    looks_before : Looks sb.work first
+    looks_before : ShowsSame sb.work first
     looks_before = record {
       rows = λ a. ap (λ (w : Work). at w.rows a) work_before;
       links = λ a d. ap (λ (g : NecessaryPart). times g.links a d) graph_before;
@@ -112,7 +112,7 @@ module _ (old : Parts) (b : NodeId) (kept : PartsKept old) (there : Holds old.wo
       };
     }
 
-    first_stands : Stands old.arena first counts None s
+    first_stands : MatchesState old.arena first counts None s
     first_stands = looks_stands s old.arena sb.work first counts None looks_before sb.stands
 
     first_least : IsLeast s (change b)
@@ -152,13 +152,13 @@ module _ (old : Parts) (b : NodeId) (kept : PartsKept old) (there : Holds old.wo
 
     module _ (F : Functions) (z : Start) (s : State) (counts : Counts) (inv : Invariant F z s) (quiet : Quiet s) (waits : GatesWait s b)
         (unsettled : s.settled (change b) ≡ false) (sb : StandsBefore old counts s b) where
-      st : Stands old.arena first counts None s
+      st : MatchesState old.arena first counts None s
       st = first_stands s counts sb
 
       least : IsLeast s (change b)
       least = first_least s counts sb
 
-      loosed : (t : State) × Reaches (TakingOff F z) s t × Stands old.arena loose counts None t
+      loosed : (t : State) × Reaches (TakingOff F z) s t × MatchesState old.arena loose counts None t
       loosed = detaches old.arena old.work loose b lost kept.work need there F z s counts inv st unsettled
 
       waits_still : GatesWait loosed.0 b
@@ -167,7 +167,7 @@ module _ (old : Parts) (b : NodeId) (kept : PartsKept old) (there : Holds old.wo
           ap (λ (f : Point → Bool). f (change c)) k.settled
           ∙ waits n c r (subst (λ (G : Graph). Inside G b n) k.graph i) (sym (ap (λ (G : Graph). G.row n) k.graph) ∙ row) scope
 
-      cut : (t : State) × Reaches (TakingOff F z) loosed.0 t × Stands new.arena new.work counts None t
+      cut : (t : State) × Reaches (TakingOff F z) loosed.0 t × MatchesState new.arena new.work counts None t
       cut = invalidate.done.invalidates F z loosed.0 counts (moves_keep F z s loosed.0 (off_moves F z s loosed.0 loosed.1) inv) waits_still loosed.2
 
       abbrev last : State
@@ -188,7 +188,7 @@ module _ (old : Parts) (b : NodeId) (kept : PartsKept old) (there : Holds old.wo
       idle : Quiet last
       idle p = ap (λ (f : Point → Bool). f p) leaves.todo ∙ quiet p
 
-      stands : Stands new.arena new.work counts None last
+      stands : MatchesState new.arena new.work counts None last
       stands = cut.2
 
       row_now : (m : NodeId) → last.graph.row m ≡ row_at old.arena m

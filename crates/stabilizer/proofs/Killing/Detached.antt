@@ -28,7 +28,7 @@ use Rattle.node_outcomes.specs.Row.{stage_in, stage_of, outcome_in, with_stage}
 use Rattle.node_outcomes.specs.declared.row.Progress.{Progress}
 use Rattle.node_outcomes.specs.declared.row.Stage.TheVariants as code
 use Rattle.wiring.specs.Kept.{IsKept}
-use Rattle.wiring.specs.Stands.{Stands, Counts}
+use Rattle.wiring.specs.Stands.{MatchesState, Counts}
 use Rattle.wiring.specs.Turning.{IsAttached, IsDetached}
 use Rattle.wiring.specs.Wiring.{IsMarked, KeepsPlaces}
 use Rattle.wiring.specs.declared.work.Work.{Work}
@@ -51,7 +51,7 @@ module _ (arena : Arena) (old new : Work) (n k : NodeId) (r : Row) (row : row_at
     (own_row : Holds old.rows (change n)) (attached : IsAttached old n) (right : right_in old.rows old.roots n r.def ≡ None)
     (marked : IsMarked old.graph old.graph (change n)) (chosen : Option NodeId) (loose : IsDetached old new n chosen)
     (same : new.graph ≡ loose.mid.graph) (step_old : IsInStep old.graph) (step_new : IsInStep new.graph) (F : Functions) (z : Start) (s : State)
-    (counts : Counts) (inv : Invariant F z s) (st : Stands arena old counts None s) (unsettled : s.settled (change n) ≡ false) where
+    (counts : Counts) (inv : Invariant F z s) (st : MatchesState arena old counts None s) (unsettled : s.settled (change n) ≡ false) where
   alone_back : IsLowered old new (main n) (change n) code.Static loose.mid.graph.links
   alone_back = lowered_alone old old loose.mid new (main n) (change n) code.Static step_old marked refl loose.enqueued loose.rest loose.rows
       loose.last same step_new
@@ -135,7 +135,7 @@ module _ (arena : Arena) (old new : Work) (n k : NodeId) (r : Row) (row : row_at
     back = λ h e is. absurd (none-some h e);
   }
 
-  alone_taken : (t : State) × Reaches (TakingOff F z) s t × Stands arena new counts None t
+  alone_taken : (t : State) × Reaches (TakingOff F z) s t × MatchesState arena new counts None t
   alone_taken = (
     _,
     takes F z s arena old new counts None st (main n) (change n) code.Static loose.mid.graph.links r alone_back alone_may,
@@ -294,10 +294,10 @@ module _ (arena : Arena) (old new : Work) (b : NodeId) (lost : LosesRight arena 
   right_mid : right_in mid.rows mid.roots b lost.row.def ≡ chosen_right
   right_mid = ap (λ (w : Work). right_in w.rows w.roots b lost.row.def) mid_rest
 
-  module _ (F : Functions) (z : Start) (s : State) (counts : Counts) (inv : Invariant F z s) (st : Stands arena mid counts None s)
+  module _ (F : Functions) (z : Start) (s : State) (counts : Counts) (inv : Invariant F z s) (st : MatchesState arena mid counts None s)
       (unsettled : s.settled (change b) ≡ false) where
     abbrev Detaches : Type 0
-    Detaches = (t : State) × Reaches (TakingOff F z) s t × Stands arena new counts None t
+    Detaches = (t : State) × Reaches (TakingOff F z) s t × MatchesState arena new counts None t
 
     attached_mid : IsAttached old b → IsAttached mid b
     attached_mid a = attached_still old mid b (ap (λ (w : Work). w.rows) mid_rest) marked.graph a
@@ -317,6 +317,6 @@ module _ (arena : Arena) (old new : Work) (b : NodeId) (lost : LosesRight arena 
 
     pub detaches : Detaches
     detaches = elim lost.detached.detached [
-      | inl x ↦ (s, here, subst (λ (w : Work). Stands arena w counts None s) (sym x.0) st)
+      | inl x ↦ (s, here, subst (λ (w : Work). MatchesState arena w counts None s) (sym x.0) st)
       | inr x ↦ by_right x.0 x.1 chosen_right refl
     ]

@@ -12,7 +12,7 @@ use Rattle.link_table.specs.Links.{Links, Reads}
 use Rattle.necessary_graph.specs.Part.{Needed, IsInStep}
 use Rattle.node_arena.specs.Arena as nodes
 use Rattle.node_arena.specs.Arena.{Arena, row_at}
-use Rattle.node_arena.specs.Sound.{IsSound}
+use Rattle.node_arena.specs.Sound.{IsSoundArena}
 use Rattle.node_outcomes.specs.Row.{settled_in}
 use Rattle.node_outcomes.specs.declared.row.Progress.{Progress}
 use Rattle.stabilize_round.proofs.Points.{same_or_other, node_or_other, among_or_not}
@@ -79,7 +79,7 @@ module _ (before mid : Arena) (old now : Work) (all left rest : List NodeId) (n 
   -- and then it was
   module _ (arena : Arena) (new : Work) (b : IsForgotten now new n)
       (no_points : (p : Point) → at now.graph.heights p ≡ None → at new.graph.heights p ≡ None) (dropped : nodes.Changes mid arena n None)
-      (given : arena.given ≡ mid.given) (sound : IsSound arena) where
+      (given : arena.given ≡ mid.given) (sound : IsSoundArena arena) where
     apart : (m : NodeId) → Among m so.done → m ≢ n
     apart m a e = fresh (subst (λ (x : NodeId). Among x so.done) e a)
 

@@ -29,8 +29,8 @@ use Rattle.node_outcomes.specs.declared.row.Stage.{Stage}
 use Rattle.node_outcomes.specs.declared.row.Stage.TheVariants as code
 use Rattle.wiring.specs.Graph.{graph_at, rowless}
 use Rattle.wiring.specs.Kept.{IsKept}
-use Rattle.wiring.specs.Stands.{Stands, Counts}
-use Rattle.wiring.specs.Wiring.{Looks, KeepsLists, KeepsPlaces, OnlyLoses, IsAtGate, HasMore, TakesOne}
+use Rattle.wiring.specs.Stands.{MatchesState, Counts}
+use Rattle.wiring.specs.Wiring.{ShowsSame, KeepsLists, KeepsPlaces, OnlyLoses, IsAtGate, HasMore, TakesOne}
 use Rattle.wiring.specs.declared.work.Work.{Work}
 use Rattle.wiring.proofs.Holding.{graph_rows, died_same, links_same, root_same, pairs_same, scoped_same}
 use Rattle.wiring.proofs.NodeBack.{NodeBackAt, one_of_two}
@@ -200,7 +200,7 @@ module _ (old new : Work) (p gate : Point) (step : IsInStep old.graph) (rest : n
         by None e = none_now (at new.graph.heap a) refl e ∙ sym (ap is_some e)
         by (Some y) e = ap is_some (r.sweep.heap_kept a (need_then a (step.heap a y e).1))
 
-    reduced_looks : Looks old new
+    reduced_looks : ShowsSame old new
     reduced_looks = record {
       rows = λ a. ap (λ (w : Work). at w.rows a) rest;
       links = links_now;
@@ -234,7 +234,7 @@ same_thinned old step = record {
   rest = refl;
 }
 
-same_looks : (old : Work) → Looks old old
+same_looks : (old : Work) → ShowsSame old old
 same_looks old = record {
   rows = λ a. refl;
   links = λ a b. refl;
@@ -260,16 +260,16 @@ module _ (old new : Work) (p gate : Point) (step : IsInStep old.graph) (k : Keep
     | inr same ↦ absurd (same.0 (subst (λ (w : Work). Needed w.graph p) same.1 (k.step.readers p b reads)))
   ]
 
-  pub gate_looks : ((b : Point) → Reads old.graph.links p b → b ≡ gate) → Looks old new
+  pub gate_looks : ((b : Point) → Reads old.graph.links p b → b ≡ gate) → ShowsSame old new
   gate_looks alone = elim k.off [
     | inl r ↦ reduced_looks old new p gate step k.rest k.step r.1 alone
-    | inr same ↦ subst (λ (w : Work). Looks old w) (sym same.1) (same_looks old)
+    | inr same ↦ subst (λ (w : Work). ShowsSame old w) (sym same.1) (same_looks old)
   ]
 
 -- ---- by its stage a point that waits has none but the link to its gate
 
 module _ (F : Functions) (z : Start) (s : State) (arena : Arena) (work : Work) (counts : Counts) (inv : Invariant F z s)
-    (st : Stands arena work counts None s) (kept : IsKept arena work) (p : Point) (r : Row) (c : NodeId) (row : row_at arena p.node ≡ Some r)
+    (st : MatchesState arena work counts None s) (kept : IsKept arena work) (p : Point) (r : Row) (c : NodeId) (row : row_at arena p.node ≡ Some r)
     (scope : r.scope ≡ Some c) (at_gate : IsAtGate work p) where
   pub links_alone : (b : Point) → Reads work.graph.links p b → b ≡ change c
   links_alone b reads = by (at work.rows p) refl there

@@ -39,7 +39,7 @@ use Rattle.node_outcomes.specs.declared.row.Stage.{Stage}
 use Rattle.node_outcomes.specs.declared.row.Stage.TheVariants as code
 use Rattle.wiring.specs.Graph.{rowless}
 use Rattle.wiring.specs.Kept.{IsKept}
-use Rattle.wiring.specs.Stands.{Stands, Counts}
+use Rattle.wiring.specs.Stands.{MatchesState, Counts}
 use Rattle.wiring.specs.Turning.{IsAttached, IsDetached, IsOff}
 use Rattle.wiring.specs.Wiring.{KeepsGraph, KeepsRound}
 use Rattle.wiring.specs.declared.work.Work.{Work}
@@ -70,7 +70,7 @@ pub record IsMadeReady (F : Functions) (z : Start) (s : State) (arena : Arena) (
   pub state : State
   pub prepared : Reaches (TakingOff F z) s state
   pub keeps : Keeps s state
-  pub stands : Stands arena work counts None state
+  pub stands : MatchesState arena work counts None state
   pub rowed : (a : Point) → is_some (at work.rows a) ≡ is_some (at before.rows a)
   pub own : at work.rows (change n) ≡ at before.rows (change n)
   pub idle : work.todo.items ≡ []
@@ -112,7 +112,7 @@ module _ (arena : Arena) (old mid : Work) (g : NecessaryPart) (n : NodeId) (r : 
     sweep : Sweep (record g0 { links = links }) mid.graph
     drops : DropsLeaves (rowless mid) g0 mid.graph
 
-  module _ (F : Functions) (z : Start) (s : State) (counts : Counts) (inv : Invariant F z s) (st : Stands arena old counts None s) where
+  module _ (F : Functions) (z : Start) (s : State) (counts : Counts) (inv : Invariant F z s) (st : MatchesState arena old counts None s) where
     s_row : s.graph.row n ≡ Some r
     s_row = ap (λ (G : Graph). G.row n) st.graph ∙ live
 
@@ -390,14 +390,14 @@ module _ (arena : Arena) (old mid : Work) (g : NecessaryPart) (n : NodeId) (r : 
         back = λ h e is. absurd (none-some h e);
       }
 
-      taken_off : (t : State) × Reaches (TakingOff F z) s t × Stands arena last counts None t
+      taken_off : (t : State) × Reaches (TakingOff F z) s t × MatchesState arena last counts None t
       taken_off = (
         _,
         takes F z s arena old last counts None st (main n) (change n) code.Static d.links r lowered may,
         stands_off F z s arena old last counts None st (main n) (change n) code.Static d.links r lowered may,
       )
 
-      same_height : (t : State) → Stands arena last counts None t → (a : Point) → Needed last.graph a → t.height a ≡ s.height a
+      same_height : (t : State) → MatchesState arena last counts None t → (a : Point) → Needed last.graph a → t.height a ≡ s.height a
       same_height t on a n' = on.height a n' ∙ (ap or_zero (height_same arena old last (main n) (change n) code.Static d.links lowered a n')
           ∙ sym (st.height a (lowered_need arena old last (main n) (change n) code.Static d.links lowered a n')))
 
@@ -409,7 +409,7 @@ module _ (arena : Arena) (old mid : Work) (g : NecessaryPart) (n : NodeId) (r : 
       own_below = inv.web.rises (main n) (change n) (
           let l = linked_all (change n) in let o = own_in_plan in let w = st.links (main n) (change n) in omega (arith, l, o, w))
 
-      still_least : (t : State) → Stands arena last counts None t → IsLeast s (change n) → IsLeast t (change n)
+      still_least : (t : State) → MatchesState arena last counts None t → IsLeast s (change n) → IsLeast t (change n)
       still_least t on least = record {
         heap = on.heap (change n) ∙ ap is_some put_mid.changed;
         least = λ q h.
@@ -425,7 +425,7 @@ module _ (arena : Arena) (old mid : Work) (g : NecessaryPart) (n : NodeId) (r : 
             ];
       }
 
-      static_now : (t : State) → Stands arena last counts None t → t.stage (main n) ≡ machine.Full → ⊥
+      static_now : (t : State) → MatchesState arena last counts None t → t.stage (main n) ≡ machine.Full → ⊥
       static_now t on f = by_row (at old.rows (main n)) refl attached.stage
         where
           by_row : (x : Option Progress) → at old.rows (main n) ≡ x → stage_in x ≡ Some code.Full → ⊥
@@ -499,7 +499,7 @@ module _ (arena : Arena) (old turned : Work) (g : NecessaryPart) (n : NodeId) (r
     (live : row_at arena n ≡ Some r) (two : IsSome (subject_of r.def))
     (rest : g ≡ record old.graph { heap = g.heap }) (c : Changes old.graph.heap g.heap (change n) None)
     (rows : IsRewritten old.rows turned.rows (change n) (with_outcome given old.round)) (graph : turned.graph ≡ g) (round : KeepsRound old turned)
-    (F : Functions) (z : Start) (s : State) (counts : Counts) (st : Stands arena old counts None s) where
+    (F : Functions) (z : Start) (s : State) (counts : Counts) (st : MatchesState arena old counts None s) where
   run_old : IsRunOn old turned n given
   run_old = let k = heap_graph arena old g rest in record {
     rows = rows;

@@ -32,7 +32,7 @@ use Rattle.wiring.specs.Kept.{IsKept}
 use Rattle.stabilizer.specs.Look.{last_of, last_call, never_at}
 use Rattle.stabilizer.specs.Round.{IsReady}
 use Rattle.node_outcomes.specs.Row.{never_in}
-use Rattle.wiring.specs.Stands.{Stands, Counts}
+use Rattle.wiring.specs.Stands.{MatchesState, Counts}
 use Rattle.stabilizer.specs.declared.parts.Parts.{Parts}
 use Rattle.wiring.specs.declared.work.Work.{Work}
 use Rattle.wiring.specs.Graph.{held_at, graph_at}
@@ -81,7 +81,7 @@ root_held arena work kept b w m built root = by_row (row_at arena b) refl built
 pub record Begun (F : Functions) (parts : Parts) (counts : Counts) : Type 0 where
   pub start : Start
   pub state : State
-  pub stands : Stands parts.arena parts.work counts None state
+  pub stands : MatchesState parts.arena parts.work counts None state
   pub entry : Entry F start state
   pub calls : start.calls ≡ counts.calls
   pub last : (n : NodeId) → start.last n ≡ last_call parts.work n
@@ -135,7 +135,7 @@ module _ (M : Meaning) (parts : Parts) (ready : IsReady M parts) (counts : Count
       let c = was r kids values row part def gives in
       (c.0, last_known p.node r row ∙ c.1, c.2)
 
-  stands : Stands arena work counts None state
+  stands : MatchesState arena work counts None state
   stands = record {
     graph = ready.stands.graph;
     out = ready.stands.out;

@@ -10,7 +10,7 @@ use Rattle.node_arena.specs.Arena.{Arena}
 use Rattle.node_outcomes.specs.Meaning.{Meaning}
 use Rattle.stabilize_round.specs.Invariant.{MetNow}
 use Rattle.stabilize_round.specs.State.{State}
-use Rattle.wiring.specs.Stands.{Hand, Stands, Counts}
+use Rattle.wiring.specs.Stands.{PointInHand, MatchesState, Counts}
 use Rattle.wiring.specs.declared.refused.Refused.{Refused}
 use Rattle.wiring.specs.declared.refused.Refused.TheVariants.{Height, Cycle, Full, Memory}
 use Rattle.stabilizer.specs.Left.{IsMetIn, RefusesBuild}
@@ -29,8 +29,8 @@ use Rattle.stabilizer.proofs.Round.Stopped.{BuildsLeft, moves_build, stops_build
 as_given : (G : Graph) (count : ℕ) (s : State) → s.graph ≡ G → s.given ≡ count → s ≡ record s { graph = G; given = count }
 as_given G count s graph given = λ i. record s { graph = graph i; given = given i }
 
-module _ (F : Functions) (old new : Parts) (before after : Counts) (b : Begun F old before) (left : Option Hand) (u : State)
-    (stands : Stands new.arena new.work after left u) (died : u.died ≡ died_by old new) (nodes observed : List NodeId)
+module _ (F : Functions) (old new : Parts) (before after : Counts) (b : Begun F old before) (left : Option PointInHand) (u : State)
+    (stands : MatchesState new.arena new.work after left u) (died : u.died ≡ died_by old new) (nodes observed : List NodeId)
     (only : OnlyRoots old.work.graph.roots new.work.graph.roots (map main nodes)) (rooted : AreRooted old.work observed) where
   abbrev G : Graph
   G = graph_in new

@@ -65,7 +65,7 @@ use Rattle.wiring.specs.Deciding.{is_needed}
 use Rattle.wiring.specs.Graph.{held_at}
 use Rattle.wiring.specs.Kept.{IsKept}
 use Rattle.wiring.specs.Scoped.{IsReleased}
-use Rattle.wiring.specs.Stands.{Stands, Counts, counts_of, Hand}
+use Rattle.wiring.specs.Stands.{MatchesState, Counts, counts_of, PointInHand}
 use Rattle.wiring.specs.declared.work.Work.{Work}
 use Rattle.wiring.proofs.Agreeing.{no_freeze}
 use Rattle.wiring.proofs.Deciding.{decides_needed}
@@ -90,7 +90,7 @@ as_graph G died t graph e =
     ap (λ (x : Graph). record t { graph = x }) graph ∙ ap (λ (x : NodeId → Option NodeId). record t { graph = G; died = x }) e
 
 -- with an empty heap none is in the state's
-no_heap : (arena : Arena) (work : Work) (counts : Counts) (t : State) → Stands arena work counts None t → IsEmpty work.graph.heap
+no_heap : (arena : Arena) (work : Work) (counts : Counts) (t : State) → MatchesState arena work counts None t → IsEmpty work.graph.heap
     → (p : Point) → t.heap p ≡ true → ⊥
 no_heap arena work counts t st empty p e = absurd (let a = st.heap p in let b = ap is_some (empty p) in cc)
 
@@ -99,9 +99,9 @@ none_lost None y r e = refl
 none_lost (Some x) y r e = rw e refl
 
 -- who died by the state died by the graphs before and then
-pub died_same : (F : Functions) (z : Start) (old new : Parts) (counts later : Counts) (left : Option Hand) (s t u : State)
+pub died_same : (F : Functions) (z : Start) (old new : Parts) (counts later : Counts) (left : Option PointInHand) (s t u : State)
     → IsKept new.arena new.work
-    → Stands old.arena old.work counts None s → Entry F z s → AllGiven F z s → Moves F z s t → Stops F z t u → Stands new.arena new.work later left u
+    → MatchesState old.arena old.work counts None s → Entry F z s → AllGiven F z s → Moves F z s t → Stops F z t u → MatchesState new.arena new.work later left u
     → u.died ≡ died_by old new
 died_same F z old new counts later left s t u kept was entry given run stop now = fun_ext (λ n. by_row n (row_at new.arena n) refl)
   where
@@ -295,7 +295,7 @@ module _ (F : Functions) (z : Start) (t : State) (inv : Invariant F z t) (quiet 
 -- ---- a round that ended
 
 module _ (M : Meaning) (old mid : Parts) (before after : Counts) (first : PartsKept old) (begins : BegunOf M old before) (kept : PartsKept mid)
-    (t : State) (run : Moves M.functions begins.begun.start begins.begun.state t) (stands : Stands mid.arena mid.work after None t)
+    (t : State) (run : Moves M.functions begins.begun.start begins.begun.state t) (stands : MatchesState mid.arena mid.work after None t)
     (idle : mid.work.todo.items ≡ []) (empty : IsEmpty mid.work.graph.heap) where
   abbrev F : Functions
   F = M.functions
@@ -416,7 +416,7 @@ module _ (M : Meaning) (old mid : Parts) (before after : Counts) (first : PartsK
     heap_is : (p : Point) → t.heap p ≡ is_some (at new.graph.heap p)
     heap_is p = stands.heap p ∙ (ap is_some (empty p) ∙ no_place p (at new.graph.heap p) refl)
 
-    stands_next : Stands arena next (counts_of (rested t links' needed')) None (rested t links' needed')
+    stands_next : MatchesState arena next (counts_of (rested t links' needed')) None (rested t links' needed')
     stands_next = record {
       graph = stands.graph;
       out = stands.out;

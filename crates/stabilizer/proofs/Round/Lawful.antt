@@ -20,7 +20,7 @@ use Rattle.stabilize_round.proofs.Confirmed.{listed_are_met}
 use Rattle.stabilize_round.proofs.Meanings.{round_keeps}
 use Rattle.stabilize_round.proofs.Points.{count_among}
 use Rattle.wiring.specs.Refusing.{RefusedBy, TellsWhy, no_memory, by_link}
-use Rattle.wiring.specs.Stands.{Hand, Stands, Counts}
+use Rattle.wiring.specs.Stands.{PointInHand, MatchesState, Counts}
 use Rattle.wiring.specs.declared.refused.Refused.{Refused}
 use Rattle.wiring.specs.declared.refused.Refused.TheVariants.{Height, Cycle, Full, Memory}
 use Rattle.wiring.proofs.Once.{once_as}
@@ -38,7 +38,7 @@ use Rattle.stabilizer.proofs.Round.Paused.{IsPaused, paused_died}
 -- ---- who is met
 
 -- roots are of these nodes or those
-root_listed : (old new : Parts) (counts : Counts) (left : Option Hand) (t : State) → Stands new.arena new.work counts left t
+root_listed : (old new : Parts) (counts : Counts) (left : Option PointInHand) (t : State) → MatchesState new.arena new.work counts left t
     → (nodes observed : List NodeId)
     → OnlyRoots old.work.graph.roots new.work.graph.roots (map main nodes) → AreRooted old.work observed
     → (p : Point) → 0 < t.root p → (n : NodeId) × Among n (nodes ++ observed) × (p ≡ main n)
@@ -48,8 +48,8 @@ root_listed old new counts left t stands nodes observed only rooted p h = elim (
   | inr now ↦ (let a = among_main p nodes now in (a.0, among_left a.0 nodes observed a.1, a.2))
 ]
 
-pub met_as : (F : Functions) (old new : Parts) (before counts : Counts) (b : Begun F old before) (left : Option Hand) (t : State)
-    → Stands new.arena new.work counts left t → (nodes observed : List NodeId)
+pub met_as : (F : Functions) (old new : Parts) (before counts : Counts) (b : Begun F old before) (left : Option PointInHand) (t : State)
+    → MatchesState new.arena new.work counts left t → (nodes observed : List NodeId)
     → OnlyRoots old.work.graph.roots new.work.graph.roots (map main nodes) → AreRooted old.work observed
     → (p : Point) → MetNow F b.start (graph_in new) (died_by old new) t.root p
     → IsMetIn F (graph_in new) (died_by old new) (look_between old) (nodes ++ observed) p
@@ -61,8 +61,8 @@ met_as F old new before counts b left t stands nodes observed only rooted p (inv
 
 -- ---- a refused link
 
-module _ (F : Functions) (old new : Parts) (before counts : Counts) (b : Begun F old before) (left : Option Hand) (t : State)
-    (run : Moves F b.start b.state t) (stands : Stands new.arena new.work counts left (called_more t counts.calls)) (died : t.died ≡ died_by old new)
+module _ (F : Functions) (old new : Parts) (before counts : Counts) (b : Begun F old before) (left : Option PointInHand) (t : State)
+    (run : Moves F b.start b.state t) (stands : MatchesState new.arena new.work counts left (called_more t counts.calls)) (died : t.died ≡ died_by old new)
     (nodes observed : List NodeId) (only : OnlyRoots old.work.graph.roots new.work.graph.roots (map main nodes))
     (rooted : AreRooted old.work observed) where
   abbrev G : Graph
@@ -148,7 +148,7 @@ module _ (F : Functions) (old new : Parts) (before counts : Counts) (b : Begun F
       → IsLawfulIn F G D (look_between old) (nodes ++ observed) e × IsFullBy old.arena new.arena e
   by_reason e why = by_why left e why
     where
-      by_why : (h : Option Hand) (x : Refused) → TellsWhy F (called_more t counts.calls) new.work h x
+      by_why : (h : Option PointInHand) (x : Refused) → TellsWhy F (called_more t counts.calls) new.work h x
           → IsLawfulIn F G D (look_between old) (nodes ++ observed) x × IsFullBy old.arena new.arena x
       by_why h x no_memory = (tt, tt)
       by_why h x (by_link {p} {q} {rest} need tried confirmed why) = by_refused p q need tried x why
@@ -171,7 +171,7 @@ paused_lawful M old new before after e p nodes observed only rooted =
     let k = p.pauses in
     elim k.told [
       | inl why ↦
-          let stands = subst (λ (x : State). Stands new.arena new.work after k.left x) why.0 k.stands in
+          let stands = subst (λ (x : State). MatchesState new.arena new.work after k.left x) why.0 k.stands in
           let tells = subst (λ (x : State). TellsWhy M.functions x new.work k.left e) why.0 why.1 in
           let died = ap (λ (x : State). x.died) (sym why.0) ∙ paused_died M old new before after e p in
           by_reason M.functions old new before after b k.left k.before k.moves stands died nodes observed only rooted e tells

@@ -26,7 +26,7 @@ use Rattle.stabilize_round.proofs.Calls.{refused_calls}
 use Rattle.stabilize_round.proofs.Reasons.{reason_more, since_start}
 use Rattle.stabilize_round.proofs.Runs.{refused_keeps}
 use Rattle.wiring.specs.Kept.{IsKept}
-use Rattle.wiring.specs.Stands.{Hand, Stands, Counts}
+use Rattle.wiring.specs.Stands.{PointInHand, MatchesState, Counts}
 use Rattle.wiring.specs.declared.refused.Refused.{Refused}
 use Rattle.wiring.specs.declared.work.Work.{Work}
 use Rattle.stabilizer.specs.Left.{WasDueIn}
@@ -47,7 +47,7 @@ pub only_still : (old mid new : Roots) (ps : List Point) → OnlyRoots old mid p
 only_still old mid new ps only same p h = only p (subst (λ (n : ℕ). 0 < n) (same p) h)
 
 -- what is seen of a node is what is shown of it
-sees_shown : (arena : Arena) (work : Work) (counts : Counts) (left : Option Hand) (s : State) → IsKept arena work → Stands arena work counts left s
+sees_shown : (arena : Arena) (work : Work) (counts : Counts) (left : Option PointInHand) (s : State) → IsKept arena work → MatchesState arena work counts left s
     → (n : NodeId) → seen work.rows (main n) ≡ shown_of (row_at arena n) (s.out (main n))
 sees_shown arena work counts left s kept stands n =
     seen_case (at work.rows (main n)) (row_at arena n) (s.out (main n)) (main_there arena work kept n) (λ x e. stands.out (main n) x e)
@@ -65,7 +65,7 @@ module _ (M : Meaning) (old new : Parts) (before after : Counts) (e : Refused) (
   abbrev u : State
   u = p.pauses.state
 
-  abbrev stands : Stands new.arena new.work after p.pauses.left p.pauses.state
+  abbrev stands : MatchesState new.arena new.work after p.pauses.left p.pauses.state
   stands = p.pauses.stands
 
   -- the invariant holds there, the count of calls apart

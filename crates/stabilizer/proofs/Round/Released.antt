@@ -31,7 +31,7 @@ use Rattle.wiring.specs.Deciding.{is_needed}
 use Rattle.wiring.specs.Graph.{died_at, rowless}
 use Rattle.wiring.specs.Kept.{IsKept}
 use Rattle.wiring.specs.Scoped.{IsReleased}
-use Rattle.wiring.specs.Stands.{Stands, Counts}
+use Rattle.wiring.specs.Stands.{MatchesState, Counts}
 use Rattle.wiring.specs.declared.work.Work.{Work}
 use Rattle.wiring.proofs.Deciding.{decides_needed}
 use Rattle.std.proofs.lemmas.Option.{none-some}
@@ -126,7 +126,7 @@ undied arena work kept n r row = by_died (died_at work n) refl
     by_died (Some b) e = absurd (let gone = (kept.dead n b e).gone in cc)
 
 module _ (F : Functions) (z : Start) (t : State) (inv : Invariant F z t) (quiet : Quiet t) (arena : Arena) (mid new : Work) (counts : Counts)
-    (kept : IsKept arena mid) (stands : Stands arena mid counts None t) (r : IsReleased mid new) (step : IsInStep new.graph) where
+    (kept : IsKept arena mid) (stands : MatchesState arena mid counts None t) (r : IsReleased mid new) (step : IsInStep new.graph) where
   row_is : (n : NodeId) → t.graph.row n ≡ row_at arena n
   row_is n = ap (λ (G : Graph). G.row n) stands.graph
 

@@ -22,7 +22,7 @@ use Rattle.stabilize_round.specs.Wire.{IsConfirmed}
 use Rattle.stabilize_round.proofs.Machine.{moves_keep}
 use Rattle.wiring.specs.Graph.{graph_at}
 use Rattle.wiring.specs.Refusing.{RefusedBy, TellsWhy, no_memory, by_link}
-use Rattle.wiring.specs.Stands.{Hand, Stands, Counts, hand}
+use Rattle.wiring.specs.Stands.{PointInHand, MatchesState, Counts, hand}
 use Rattle.wiring.specs.declared.refused.Refused.{Refused}
 use Rattle.wiring.specs.declared.refused.Refused.TheVariants.{Height, Cycle, Full, Memory}
 use Rattle.wiring.specs.declared.work.Work.{Work}
@@ -33,8 +33,8 @@ use Rattle.stabilizer.specs.Building.{StopsBuilding}
 use Rattle.stabilizer.specs.declared.parts.Parts.{Parts}
 use Rattle.stabilizer.proofs.Round.Paused.{IsPaused}
 
-module _ (F : Functions) (z : Start) (t : State) (holds : Invariant F z t) (arena : Arena) (work : Work) (counts : Counts) (left : Option Hand)
-    (stands : Stands arena work counts left (called_more t counts.calls)) (step : IsInStep work.graph) where
+module _ (F : Functions) (z : Start) (t : State) (holds : Invariant F z t) (arena : Arena) (work : Work) (counts : Counts) (left : Option PointInHand)
+    (stands : MatchesState arena work counts left (called_more t counts.calls)) (step : IsInStep work.graph) where
   abbrev L : Look
   L = look_of work.round arena work
 
@@ -80,8 +80,8 @@ module _ (F : Functions) (z : Start) (t : State) (holds : Invariant F z t) (aren
     tried_by Memory why = tt
 
 -- whatever the refusal says
-leaves_tried : (F : Functions) (z : Start) (t : State) → Invariant F z t → (arena : Arena) (work : Work) (counts : Counts) (left : Option Hand)
-    → Stands arena work counts left (called_more t counts.calls) → IsInStep work.graph → (e : Refused)
+leaves_tried : (F : Functions) (z : Start) (t : State) → Invariant F z t → (arena : Arena) (work : Work) (counts : Counts) (left : Option PointInHand)
+    → MatchesState arena work counts left (called_more t counts.calls) → IsInStep work.graph → (e : Refused)
     → TellsWhy F (called_more t counts.calls) work left e
     → LeavesTried (look_of work.round arena work) e
 leaves_tried F z t holds arena work counts left stands step e no_memory = tt
@@ -104,7 +104,7 @@ paused_tried M old new before after e p =
     elim k.told [
       | inl why ↦ leaves_tried M.functions b.start k.before
           (moves_keep M.functions b.start b.state k.before k.moves p.begins.round.holds) new.arena new.work after
-          k.left (subst (λ (x : State). Stands new.arena new.work after k.left x) why.0 k.stands) p.kept.work.step e
+          k.left (subst (λ (x : State). MatchesState new.arena new.work after k.left x) why.0 k.stands) p.kept.work.step e
           (subst (λ (x : State). TellsWhy M.functions x new.work k.left e) why.0 why.1)
       | inr full ↦ room_tried full.0 new.arena new.work e full.2
     ]

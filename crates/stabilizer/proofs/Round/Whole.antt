@@ -20,7 +20,7 @@ use Rattle.stabilize_round.proofs.Steps.{joined}
 use Rattle.std.specs.Prelude.{is_some}
 use Rattle.wiring.specs.Graph.{graph_at}
 use Rattle.wiring.specs.Scoped.{IsReleased}
-use Rattle.wiring.specs.Stands.{Stands, Counts}
+use Rattle.wiring.specs.Stands.{MatchesState, Counts}
 use Rattle.wiring.specs.Wiring.{PutsRoots}
 use Rattle.wiring.specs.declared.work.Work.{Work}
 use Rattle.stabilizer.specs.Kept.{PartsKept, graph_in}
@@ -61,7 +61,7 @@ module _ (M : Meaning) (old : Parts) (rooted : Work) (before : Counts) (ready : 
   abbrev middle : Parts
   middle = record old { work = rooted }
 
-  after_roots : (w : State) × Moves F first.start first.state w × Stands old.arena rooted before None w
+  after_roots : (w : State) × Moves F first.start first.state w × MatchesState old.arena rooted before None w
   after_roots = put F first.start first.state before begins.round.holds first.stands
 
   pub in_round : IsInRound M middle before
@@ -72,7 +72,7 @@ module _ (M : Meaning) (old : Parts) (rooted : Work) (before : Counts) (ready : 
   -- a round that ended
   module _ (settled : Parts) (after : Counts) (steps : Settles M middle settled before after) (kept : PartsKept settled)
       (idle : settled.work.todo.items ≡ []) (empty : IsEmpty settled.work.graph.heap) where
-    last : (t : State) × Moves F first.start first.state t × Stands settled.arena settled.work after None t
+    last : (t : State) × Moves F first.start first.state t × MatchesState settled.arena settled.work after None t
     last =
         let w = after_roots in
         let k = steps first.start w.0 (round_on M first.start first.state w.0 w.1 begins.round) w.2 in

@@ -10,7 +10,7 @@ use Rattle.inc_terms.specs.Graph.{Row}
 use Rattle.inc_terms.specs.Within.{Given}
 use Rattle.inc_terms.proofs.Plan.{among_parts}
 use Rattle.node_arena.specs.Arena.{Arena, row_at, live, IsLive}
-use Rattle.node_arena.specs.Sound.{IsSound}
+use Rattle.node_arena.specs.Sound.{IsSoundArena}
 use Rattle.node_arena.specs.RightSide.{RightSide}
 use Rattle.stabilizer.specs.Giving.{GivesLive, GivesFew}
 use Rattle.stabilizer.proofs.Building.Sums.{those, those_were, those_once, those_sum, share, stood_for, sum_both}
@@ -55,7 +55,7 @@ none_few right count a given = live_few right count a (none_gives count a given)
 
 -- ---- of one build
 
-module _ (a built : Arena) (sound : IsSound a) (keeps : (n : NodeId) → Given a.given n → row_at built n ≡ row_at a n)
+module _ (a built : Arena) (sound : IsSoundArena a) (keeps : (n : NodeId) → Given a.given n → row_at built n ≡ row_at a n)
     (counts : live built + a.given ≡ live a + built.given) where
   older_or_not : (n : NodeId) → (n.gen_ < a.given) ⊎ (n.gen_ < a.given → ⊥)
   older_or_not n = elim (cases_lt n.gen_ a.given) [ inl h ↦ inl h | inr le ↦ inr (λ h. omega (arith, h, le)) ]
@@ -103,7 +103,7 @@ module _ (a built : Arena) (sound : IsSound a) (keeps : (n : NodeId) → Given a
 -- ---- of what follows
 
 -- where those live on that were born before
-pub gives_more : (count spent : ℕ) (mid new : Arena) → IsSound mid → count ≤ mid.given → (before : GivesLive count 0 mid) → GivesLive mid.given spent new
+pub gives_more : (count spent : ℕ) (mid new : Arena) → IsSoundArena mid → count ≤ mid.given → (before : GivesLive count 0 mid) → GivesLive mid.given spent new
     → ((n : NodeId) → Among n before.born → IsLive new n) → GivesLive count spent new
 gives_more count spent mid new sound le before after lives =
     let size = joined_length before.born after.born in

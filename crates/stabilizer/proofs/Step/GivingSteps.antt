@@ -15,7 +15,7 @@ use Rattle.stabilize_round.proofs.Runs.{run_builds, run_grows}
 use Rattle.stabilize_round.proofs.Steps.{step_moves}
 use Rattle.node_outcomes.specs.Meaning.{Meaning}
 use Rattle.wiring.specs.Began.{IsRoundOf}
-use Rattle.wiring.specs.Stands.{Stands, Counts, Hand}
+use Rattle.wiring.specs.Stands.{MatchesState, Counts, PointInHand}
 use Rattle.wiring.specs.declared.refused.Refused.{Refused}
 use Rattle.wiring.specs.declared.refused.Refused.TheVariants.{Height, Cycle, Full, Memory}
 use Rattle.wiring.specs.declared.work.Work.{Work}
@@ -86,13 +86,13 @@ module _ (M N : Meaning) (same : N ≡ M) (old mid new : Parts) (before between 
   abbrev s : State
   s = begins.state
 
-  abbrev ran : (t : State) × Moves F z s t × Stands mid.arena mid.work between None t
+  abbrev ran : (t : State) × Moves F z s t × MatchesState mid.arena mid.work between None t
   ran = so.settled z s begins.round begins.stands
 
   abbrev t : State
   t = ran.0
 
-  row_in : (arena : Arena) (work : Work) (counts : Counts) (hand : Option Hand) (u : State) → Stands arena work counts hand u → (n : NodeId)
+  row_in : (arena : Arena) (work : Work) (counts : Counts) (hand : Option PointInHand) (u : State) → MatchesState arena work counts hand u → (n : NodeId)
       → u.graph.row n ≡ row_at arena n
   row_in arena work counts hand u st n = ap (λ (G : Graph). G.row n) st.graph
 
@@ -112,7 +112,7 @@ module _ (M N : Meaning) (same : N ≡ M) (old mid new : Parts) (before between 
       by (Some r) e l = born_run F z s t ran.1 n r (none_before n (gave.since n h) (s.graph.row n) refl)
           (row_in mid.arena mid.work between None t ran.2 n ∙ e)
 
-  live_in : (u : State) (hand : Option Hand) (counts : Counts) → Stands new.arena new.work counts hand u → (n : NodeId) (r : Row)
+  live_in : (u : State) (hand : Option PointInHand) (counts : Counts) → MatchesState new.arena new.work counts hand u → (n : NodeId) (r : Row)
       → u.graph.row n ≡ Some r → IsLive new.arena n
   live_in u hand counts st n r e = ap is_some (sym (row_in new.arena new.work counts hand u st n) ∙ e)
 

@@ -19,7 +19,7 @@ use Rattle.stabilize_round.specs.StepLaws as law
 use Rattle.stabilize_round.specs.StepLaws.{Falls, loose, again}
 use Rattle.wiring.specs.Deciding.{is_needed}
 use Rattle.wiring.specs.Kept.{IsKept}
-use Rattle.wiring.specs.Stands.{Stands, Counts}
+use Rattle.wiring.specs.Stands.{MatchesState, Counts}
 use Rattle.stabilizer.specs.Stepping.{is_loose, is_again, is_unsettled, left_to_settle}
 use Rattle.node_outcomes.specs.declared.row.Progress.{Progress}
 use Rattle.node_outcomes.specs.declared.row.Stage.{Stage}
@@ -76,7 +76,7 @@ no_test : (a : Bool) (x y : Bool) → a ≡ false → (a && x) ≡ (a && y)
 no_test false x y e = refl
 no_test true x y e = absurd (cc)
 
-module _ (arena : Arena) (work : Work) (counts : Counts) (s : State) (kept : IsKept arena work) (st : Stands arena work counts None s) where
+module _ (arena : Arena) (work : Work) (counts : Counts) (s : State) (kept : IsKept arena work) (st : MatchesState arena work counts None s) where
   pub unsettled_as : (points : List Point) → number_of (is_unsettled work) points ≡ unsettled s.settled points
   unsettled_as points = number_same (is_unsettled work) (λ (p : Point). cond (s.settled p) false true)
       (λ p. not_as (s.settled p) (settled_in work.round (at work.rows p)) (st.settled p)) points
@@ -141,7 +141,7 @@ module _ (P N : ℕ) where
       digit_after _ _ a' a P (digit_most _ _ l' l N (digit_most h' h u' u P (omega (arith, same)) (omega (arith, equal))) few) less
 
 module _ (arena arena' : Arena) (old new : Work) (counts counts' : Counts) (s t : State) (kept : IsKept arena old) (kept' : IsKept arena' new)
-    (st : Stands arena old counts None s) (on : Stands arena' new counts' None t) (points : List Point) (nodes : List NodeId) where
+    (st : MatchesState arena old counts None s) (on : MatchesState arena' new counts' None t) (points : List Point) (nodes : List NodeId) where
   same_retries : t.retries ≡ s.retries → new.retries ≡ old.retries
   same_retries e = sym on.retries ∙ (e ∙ st.retries)
 

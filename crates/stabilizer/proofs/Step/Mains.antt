@@ -31,7 +31,7 @@ use Rattle.node_outcomes.specs.Row.{IsRewritten, with_last, with_outcome, settle
 use Rattle.stabilizer.specs.Settling.{IsSettled}
 use Rattle.stabilizer.specs.Stepping.{MainIsSettled, MainIsLeft, IsOfBuilds}
 use Rattle.wiring.specs.Stands.{Counts}
-use Rattle.wiring.specs.Wiring.{KeepsGraph, KeepsRound, KeepsLists, IsTold, Stops}
+use Rattle.wiring.specs.Wiring.{KeepsGraph, KeepsRound, KeepsLists, TellsReaders, Stops}
 use Rattle.node_outcomes.specs.declared.row.Progress.{Progress}
 use Rattle.wiring.specs.declared.work.Work.{Work}
 use Rattle.stabilizer.proofs.Step.Carrying.{kept_same, settled_kept}
@@ -58,12 +58,12 @@ module _ (F : Functions) (arena : Arena) (old mid new : Work) (n : NodeId) (p : 
     (rest : KeepsRest old mid) (c : Computes F arena (held_at arena old) old.round (noted old.rows old.ran.items before.calls)
     (noted mid.rows mid.ran.items after.calls) n o) (more : IsOfBuilds before after)
     (rewritten : IsRewritten mid.rows new.rows p (with_outcome o mid.round)) (graph : KeepsGraph mid.graph new.graph)
-    (tells : IsTold mid new p o) (round : KeepsRound mid new) (todo : new.todo ≡ mid.todo) where
+    (tells : TellsReaders mid new p o) (round : KeepsRound mid new) (todo : new.todo ≡ mid.todo) where
   rows : IsRewritten mid.rows new.rows (main n) (with_outcome o mid.round)
   rows = subst (λ (x : Point). IsRewritten mid.rows new.rows x (with_outcome o mid.round)) same rewritten
 
-  told : IsTold mid new (main n) o
-  told = subst (λ (x : Point). IsTold mid new x o) same tells
+  told : TellsReaders mid new (main n) o
+  told = subst (λ (x : Point). TellsReaders mid new x o) same tells
 
   graph_is : mid.graph ≡ old.graph
   graph_is = rest.graph

@@ -24,7 +24,7 @@ use Rattle.stabilize_round.proofs.Runs.{run_grows}
 use Rattle.stabilize_round.proofs.Steps.{joined, step_moves}
 use Rattle.wiring.specs.Kept.{IsKept}
 use Rattle.wiring.specs.Refusing.{TellsWhy, no_memory}
-use Rattle.wiring.specs.Stands.{Stands, Counts, counts_of}
+use Rattle.wiring.specs.Stands.{MatchesState, Counts, counts_of}
 use Rattle.wiring.specs.Wiring.{PutsRoots, RootRefused}
 use Rattle.wiring.specs.declared.refused.Refused.{Refused}
 use Rattle.wiring.specs.declared.refused.Refused.TheVariants.{Memory}
@@ -144,7 +144,7 @@ put_refused arena old mid new e first next F z s counts inv st =
 -- ---- steps
 
 -- with an empty worklist the state is quiet
-pub quiet_of : (arena : Arena) (work : Work) (counts : Counts) (t : State) → Stands arena work counts None t → work.todo.items ≡ [] → Quiet t
+pub quiet_of : (arena : Arena) (work : Work) (counts : Counts) (t : State) → MatchesState arena work counts None t → work.todo.items ≡ [] → Quiet t
 quiet_of arena work counts t st idle p = elim (bool_cases (t.todo p)) [
   | inr e ↦ e
   | inl e ↦ absurd (elim (st.todo p e) [
@@ -165,9 +165,9 @@ settles_more M old mid new before between after first idle next z s begun st =
     (k.0, joined (Move F z) s m.0 k.0 m.1 (step_moves F z m.0 k.0 k.1), k.2)
 
 -- some more calls were made
-more_calls : (parts : Parts) (counts : Counts) {between : Counts} (u : State) → Stands parts.arena parts.work between None u
+more_calls : (parts : Parts) (counts : Counts) {between : Counts} (u : State) → MatchesState parts.arena parts.work between None u
     → u.builds ≡ counts.builds
-    → u.adds ≡ counts.adds → Stands parts.arena parts.work counts None (called_more u counts.calls)
+    → u.adds ≡ counts.adds → MatchesState parts.arena parts.work counts None (called_more u counts.calls)
 more_calls parts counts u st builds adds = record {
   graph = st.graph;
   out = st.out;
@@ -200,7 +200,7 @@ settle_stops M old mid new before between after e first idle next z s begun st =
     F : Functions
     F = M.functions
 
-    stops_there : (u : State) → Moves F z s u → counts_of u ≡ between → Stands new.arena new.work between None u → Quiet u
+    stops_there : (u : State) → Moves F z s u → counts_of u ≡ between → MatchesState new.arena new.work between None u → Quiet u
         → (after ≡ between) ⊎ HasCalledDue u between after → e ≡ Memory → Pauses F z s new after e
     stops_there u run counts stands quiet (inl same) is = record {
       before = u;
@@ -208,7 +208,7 @@ settle_stops M old mid new before between after e first idle next z s begun st =
       left = None;
       moves = run;
       stops = as_it_is refl;
-      stands = subst (λ (c : Counts). Stands new.arena new.work c None u) (sym same) stands;
+      stands = subst (λ (c : Counts). MatchesState new.arena new.work c None u) (sym same) stands;
       told = inl (
         ap (λ (k : ℕ). called_more u k) (ap (λ (c : Counts). c.calls) (counts ∙ sym same)),
         subst (λ (x : Refused). TellsWhy F u new.work None x) (sym is) no_memory,

@@ -24,7 +24,7 @@ use Rattle.node_outcomes.specs.Computing.{ran_then}
 use Rattle.node_outcomes.specs.Row.{settled_in, stage_of, is_never}
 use Rattle.stabilizer.specs.Settling.{IsSettled}
 use Rattle.stabilizer.specs.Stepping.{IsOfBuilds}
-use Rattle.wiring.specs.Stands.{Stands, Counts, counts_of}
+use Rattle.wiring.specs.Stands.{MatchesState, Counts, counts_of}
 use Rattle.node_outcomes.specs.declared.row.Progress.{Progress}
 use Rattle.wiring.specs.declared.work.Work.{Work}
 use Rattle.wiring.proofs.Holding.{graph_main, died_same}
@@ -50,7 +50,7 @@ counts_are s before after same rest =
     ∙ ap (λ (x : ℕ). counted after.calls after.builds x) (ap (λ (c : Counts). c.adds) same ∙ sym rest.adds)
 
 module _ (s : State) (arena : Arena) (old new : Work) (counts counts' : Counts) (n : NodeId) (o : Outcome) (last' : Option Call) (called : Bool)
-    (st : Stands arena old counts None s) (more : IsOfBuilds counts counts') (w : IsSettled old new n o last' (calls_of called (cost_at (graph_at arena old) n)))
+    (st : MatchesState arena old counts None s) (more : IsOfBuilds counts counts') (w : IsSettled old new n o last' (calls_of called (cost_at (graph_at arena old) n)))
     (needs : (a : Point) → (Needed new.graph a → Needed old.graph a) × (Needed old.graph a → Needed new.graph a)) where
   abbrev made : ℕ
   made = calls_of called (cost_at (graph_at arena old) n)
@@ -64,7 +64,7 @@ module _ (s : State) (arena : Arena) (old new : Work) (counts counts' : Counts) 
   row_other : (a : Point) (k : Progress) → (main n ≡ a → ⊥) → at new.rows a ≡ Some k → at old.rows a ≡ Some k
   row_other a k ne e = sym (w.others a (λ h. ne (sym h))) ∙ e
 
-  pub settled_stands : Stands arena new counts' None (computed s n o heap' last' called counts'.calls)
+  pub settled_stands : MatchesState arena new counts' None (computed s n o heap' last' called counts'.calls)
   settled_stands = record {
     graph = st.graph ∙ sym (graph_main arena old new n w.others w.roots);
     out = λ a k e. elim (same_or_other (main n) a) [

@@ -30,7 +30,7 @@ use Rattle.wiring.specs.Kept.{IsKept}
 use Rattle.node_outcomes.specs.Meaning.{Meaning}
 use Rattle.node_outcomes.specs.Row.{settled_in}
 use Rattle.stabilizer.specs.Settling.{IsSettled}
-use Rattle.wiring.specs.Stands.{Stands, Counts}
+use Rattle.wiring.specs.Stands.{MatchesState, Counts}
 use Rattle.stabilizer.specs.Dying.{TakesLeast}
 use Rattle.stabilizer.specs.Stepping.{IsOfBuilds, MainIsSettled, MainIsLeft, HasCalledDue, Steps, StepRefused, as_it_was}
 use Rattle.stabilizer.specs.declared.parts.Parts.{Parts}
@@ -88,7 +88,7 @@ takes_least old g p q same held low rest c =
     subst (TakesLeast old (record old { graph = g })) same (record { held = held; least = low; heap = c; graph = rest; rest = refl })
 
 -- what is lowest in the heap is least
-module _ (s : State) (arena : Arena) (old : Work) (counts : Counts) (kept : IsKept arena old) (st : Stands arena old counts None s) (p : Point)
+module _ (s : State) (arena : Arena) (old : Work) (counts : Counts) (kept : IsKept arena old) (st : MatchesState arena old counts None s) (p : Point)
     (was : Holds old.graph.heap p) (low : IsLowest old.graph.heap (level old.graph.heights p)) where
   above : (q : Point) (x : Option ℕ) → at old.graph.heap q ≡ x → is_some x ≡ true → level old.graph.heights p ≤ level old.graph.heights q
   above q None e h = absurd (cc)
@@ -114,7 +114,7 @@ none_among : (p : Point) (xs : List Point) → xs ≡ [] → Among p xs → ⊥
 none_among p xs e a = subst (λ (ys : List Point). Among p ys) e a
 
 -- between steps the worklist is empty
-pub is_quiet : (arena : Arena) (work : Work) (counts : Counts) (s : State) → Stands arena work counts None s → work.todo.items ≡ [] → Quiet s
+pub is_quiet : (arena : Arena) (work : Work) (counts : Counts) (s : State) → MatchesState arena work counts None s → work.todo.items ≡ [] → Quiet s
 is_quiet arena work counts s st idle p = elim (bool_cases (s.todo p)) [
   | inr e ↦ e
   | inl e ↦ absurd (elim (st.todo p e) [ inl a ↦ none_among p work.todo.items idle a | inr h ↦ h ])
@@ -144,7 +144,7 @@ module _ (M : Meaning) (old new : Parts) (g : NecessaryPart) (p : Point) (n : No
   steps z s begun quiet st = (
     t,
     made,
-    subst (λ (x : Arena). Stands x new.work after None t) (sym nodes)
+    subst (λ (x : Arena). MatchesState x new.work after None t) (sym nodes)
         (settled_stands s arena old.work new.work before after n m.outcome m.last m.called st m.rest w needs),
   )
     where
@@ -238,7 +238,7 @@ module _ (arena : Arena) (old mid : Work) (g g' : NecessaryPart) (p : Point) (n 
   ]
 
   -- the state can't tell
-  pub refused_stands : (s : State) → Stands arena old before None s → Stands arena back before None s
+  pub refused_stands : (s : State) → MatchesState arena old before None s → MatchesState arena back before None s
   refused_stands s st = record {
     graph = st.graph ∙ sym (graph_rows arena old back left.rows left.roots);
     out = λ a k e. st.out a k (sym (left.rows a) ∙ e);
@@ -262,7 +262,7 @@ module _ (arena : Arena) (old mid : Work) (g g' : NecessaryPart) (p : Point) (n 
   }
 
   -- the counts stayed, or some calls of the main's function were made
-  left_count : (s : State) → Stands arena old before None s → IsLeast s (main n)
+  left_count : (s : State) → MatchesState arena old before None s → IsLeast s (main n)
       → (after ≡ before) ⊎ HasCalledDue s before after
   left_count s st least = elim left.count [
     | inl same_count ↦ inl (counts_same before after same_count left.rest)
@@ -308,7 +308,7 @@ module _ (M : Meaning) (old mid new : Parts) (g g' : NecessaryPart) (p : Point) 
   step_refused same e memory z s begun quiet st =
       let least = subst (IsLeast s) same (is_least s old.arena old.work before kept st p was low) in
       as_it_was
-      (subst (λ (a : Arena). Stands a new.work before None s) (sym arena_is) (subst (λ (w : Work). Stands old.arena w before None s) (sym work_is)
+      (subst (λ (a : Arena). MatchesState a new.work before None s) (sym arena_is) (subst (λ (w : Work). MatchesState old.arena w before None s) (sym work_is)
       (refused_stands old.arena old.work mid.work g g' p n before after kept was rest c left rest' put s st)))
       (left_count old.arena old.work mid.work g g' p n before after kept was rest c left rest' put s st least)
       memory

@@ -3,7 +3,7 @@ use Rattle.formula_lang.specs.CommandView.{body_view}
 use Rattle.formula_elab.specs.Laying.{laid_body}
 use Rattle.formula_elab.specs.Made.{ShowsOnceMade}
 use Rattle.formula_elab.specs.Opened.{node_at}
-use Rattle.formula_elab.specs.Plan.{Standing}
+use Rattle.formula_elab.specs.Plan.{PlanView}
 use Rattle.formula_elab.specs.Types.{type_at}
 use Rattle.formula_elab.specs.declared.opened.Part.{Part}
 use Rattle.formula_elab.specs.declared.plan.Planned.{Planned}
@@ -49,7 +49,7 @@ returns-clause-declares c =
     let tys = type_at c.args.names.now in
     let body = body_view c.args.body.now in
     let laid = rw c.new-makes.ensures.items at c.in_ok-root.ensures in
-    let makes : c.new.result.makes ≡ (laid_body nodes tys 0 body).makes = ap (λ (p : Standing). p.makes) c.new.ensures ∙ laid.makes in
-    let root : c.new.result.root ≡ (laid_body nodes tys 0 body).root = ap (λ (p : Standing). p.root) c.new.ensures ∙ laid.root in
+    let makes : c.new.result.makes ≡ (laid_body nodes tys 0 body).makes = ap (λ (p : PlanView). p.makes) c.new.ensures ∙ laid.makes in
+    let root : c.new.result.root ≡ (laid_body nodes tys 0 body).root = ap (λ (p : PlanView). p.root) c.new.ensures ∙ laid.root in
     subst (λ (p : Part). ShowsOnceMade nodes body c.new.result.makes p) (sym root)
     (subst (λ (xs : List Planned). ShowsOnceMade nodes body xs (laid_body nodes tys 0 body).root) (sym makes) (root_declares nodes tys body))

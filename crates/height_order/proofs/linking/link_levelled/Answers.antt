@@ -2,7 +2,7 @@ use Rattle.std.proofs.Common.{◌≡◌, ◌∙◌, refl, sym, subst, arith}
 use Rattle.std.specs.Prelude.{IfSome, IfNone, length}
 use Rattle.link_table.specs.Links.{Reads}
 use Rattle.height_order.specs.Chains.{ReadsWith, IsChain}
-use Rattle.height_order.specs.Levels.{IsSound}
+use Rattle.height_order.specs.Levels.{AreSoundHeights}
 use Rattle.height_order.specs.Answers.{AreEndsLevelled}
 use Rattle.height_order.proofs.Chaining.{chain_more}
 use Rattle.height_order.proofs.Sounding.{sound_same, ends_more, reads_from, on_and_off}
@@ -37,7 +37,7 @@ returns-in-Ok-None-clause-answer c =
     let one = c.in-Ok.ensures.added in
     made_told (record { heights = old; links = links }) p q c.args.moved.now.items
     (record { heights = c.fit.new.heights; links = c.add.new.self }) c.fit.new.moved.items tt one
-    (subst (λ o. IfNone o (IsSound c.fit.new.heights c.add.new.self)) c.in-Ok-None.field-0-is c.in-Ok-None.ensures.sound)
+    (subst (λ o. IfNone o (AreSoundHeights c.fit.new.heights c.add.new.self)) c.in-Ok-None.field-0-is c.in-Ok-None.ensures.sound)
     (λ higher. absurd (let n = c.requires.not_higher in omega (arith, higher, n)))
     (λ x differs. let top = c.fit.ensures.near x differs in
     fitted_near old links c.add.new.self p q c.args.lifts.now c.requires.sound c.requires.climbed one top.0 x top.1 top.2)
@@ -46,7 +46,7 @@ returns-in-Ok-None-clause-answer c =
 pub returns-in-Err-fit-clause-sound : goal.returns-in-Err-fit-clause-sound
 returns-in-Err-fit-clause-sound c =
     let same = on_and_off c.args.links.now c.add.new.self c.remove.new.self c.args.new.reader c.args.new.kid c.in-Ok.ensures.added c.remove.ensures.removed in
-    subst (λ m. IsSound m c.remove.new.self) (sym c.in-Err-fit.ensures.err.0) (sound_same c.args.links.now c.remove.new.self c.args.heights.now same c.requires.sound)
+    subst (λ m. AreSoundHeights m c.remove.new.self) (sym c.in-Err-fit.ensures.err.0) (sound_same c.args.links.now c.remove.new.self c.args.heights.now same c.requires.sound)
 
 pub returns-in-Err-fit-clause-answer : goal.returns-in-Err-fit-clause-answer
 returns-in-Err-fit-clause-answer c =
@@ -60,7 +60,7 @@ level_ends-requires-clause-sound c =
     let same = on_and_off c.args.links.now c.add.new.self c.remove-2.new.self c.args.new.reader c.args.new.kid c.in-Ok.ensures.added c.remove-2.ensures.removed in
     let kept = subst (λ o. IfSome o (λ _. (c.fit.new.heights ≡ c.args.heights.now) × (c.fit.new.moved.items ≡ c.args.moved.now.items)))
     c.in-Ok-Some.field-0-is c.in-Ok-Some.ensures.kept in
-    subst (λ m. IsSound m c.remove-2.new.self) (sym kept.0) (sound_same c.args.links.now c.remove-2.new.self c.args.heights.now same c.requires.sound)
+    subst (λ m. AreSoundHeights m c.remove-2.new.self) (sym kept.0) (sound_same c.args.links.now c.remove-2.new.self c.args.heights.now same c.requires.sound)
 
 pub returns-in-Ok-level_ends-clause-answer : goal.returns-in-Ok-level_ends-clause-answer
 returns-in-Ok-level_ends-clause-answer c =

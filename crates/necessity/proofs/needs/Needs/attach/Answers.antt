@@ -1,5 +1,5 @@
 use Rattle.std.proofs.Common.{◌∙◌, ap, sym, subst, arith, vec_capacity}
-use Rattle.necessity.specs.Counting.{IsSound}
+use Rattle.necessity.specs.Counting.{AreSoundNeeds}
 use Rattle.necessity.proofs.Idle.{idle_attach}
 use Rattle.necessity.proofs.Starts.{length_more}
 use Rattle.necessity.proofs.Reaching.{acyclic_more}
@@ -11,7 +11,7 @@ invariant_of-self-in_err-add c =
     let kept = sound_kept c.self.inside.links c.add.new.self c.self.inside.rows c.reserve-2.new.self c.self.inside.attached c.self.inside.waiting.items
     (vec_capacity c.self.inside.waiting) (vec_capacity c.reserve.new.self) c.self.invariant c.in_err-add.ensures.err
     c.reserve-2.ensures.rows c.reserve.ensures.capacity in
-    subst (λ w. IsSound c.add.new.self c.reserve-2.new.self c.self.inside.attached w (vec_capacity c.reserve.new.self)) (sym c.reserve.ensures.items) kept
+    subst (λ w. AreSoundNeeds c.add.new.self c.reserve-2.new.self c.self.inside.attached w (vec_capacity c.reserve.new.self)) (sym c.reserve.ensures.items) kept
 
 pub returns-in_err-add-clause-roots : goal.returns-in_err-add-clause-roots
 returns-in_err-add-clause-roots c = rw (← ap (λ w. w.roots) c.self.view_is) (

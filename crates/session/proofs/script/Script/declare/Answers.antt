@@ -6,7 +6,7 @@ use Rattle.node_arena.specs.RightSideLaws.{ids_of}
 use Rattle.script_functions.specs.Bodies.{Body}
 use Rattle.script_functions.specs.Keeping.{KeepsBodies, makers, side_in}
 use Rattle.script_functions.specs.KeepingLaws.{sides_hold}
-use Rattle.graph.specs.Standing.{Standing, IsNeeded, without_functions}
+use Rattle.graph.specs.Standing.{GraphView, IsNeeded, without_functions}
 use Rattle.inc_value.specs.declared.node.Point.{Point}
 use Rattle.formula_elab.specs.Laying.{laid_body}
 use Rattle.formula_elab.specs.Opened.{node_at}
@@ -19,10 +19,10 @@ use Rattle.session.proofs.Room.{lives_few}
 use Rattle.session.proofs.script.Script.declare.Goals as goal
 
 -- functions have no part in need
-needed_without : {F : Type 0} (s : Standing F) (p : Point) → IsNeeded s p → IsNeeded (without_functions s) p
+needed_without : {F : Type 0} (s : GraphView F) (p : Point) → IsNeeded s p → IsNeeded (without_functions s) p
 needed_without s p need = record { root = need.root; is_root = need.is_root; leads = need.leads }
 
-needed_with : {F : Type 0} (s : Standing F) (p : Point) → IsNeeded (without_functions s) p → IsNeeded s p
+needed_with : {F : Type 0} (s : GraphView F) (p : Point) → IsNeeded (without_functions s) p → IsNeeded s p
 needed_with s p need = record { root = need.root; is_root = need.is_root; leads = need.leads }
 
 pub add_declared-declared-requires-clause-room : goal.add_declared-declared-requires-clause-room

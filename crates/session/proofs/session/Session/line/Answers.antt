@@ -1,7 +1,7 @@
 use Rattle.std.proofs.Common.{refl, subst}
 use Rattle.script_model.specs.Formula.{meanings_of}
 use Rattle.script_model.specs.Step.{Moment}
-use Rattle.session.specs.Session.{Standing}
+use Rattle.session.specs.Session.{SessionView}
 use Rattle.script_graph.specs.State.{Stands}
 use Rattle.session.specs.Taken.{Stops, Takes}
 use Rattle.session.proofs.Answering.{taken_from}
@@ -15,7 +15,7 @@ returns-clause-taken g c =
     let written = c.args.out.now.items in
     let appended = c.answer_whole.new.out.items in
     ok_from c.answer_whole.result _ _ c.answer_whole.ensures.answered.answered
-    (λ how answered. subst (λ (s : Standing g.row.L.Denot). (m : Moment)
+    (λ how answered. subst (λ (s : SessionView g.row.L.Denot). (m : Moment)
     → Stands (meanings_of (g.L.Library.named s.library) (g.L.Library.value s.library)) s.kept m
     → Takes (meanings_of (g.L.Library.named s.library) (g.L.Library.value s.library)) m c.args.text.now now.kept written appended
     (g.L.Library.calls s.library) (g.L.Library.calls now.library) how)
@@ -27,7 +27,7 @@ pub returns-clause-stopped : goal.returns-clause-stopped
 returns-clause-stopped g c =
     let now = c.answer_whole.new.script in
     err_from c.answer_whole.result c.answer_whole.ensures.answered.stopped
-    (λ stopped. subst (λ (s : Standing g.row.L.Denot). (m : Moment) → Stands (meanings_of (g.L.Library.named s.library) (g.L.Library.value s.library))
+    (λ stopped. subst (λ (s : SessionView g.row.L.Denot). (m : Moment) → Stands (meanings_of (g.L.Library.named s.library) (g.L.Library.value s.library))
     s.kept m
     → Stops (meanings_of (g.L.Library.named s.library) (g.L.Library.value s.library)) m c.args.text.now now.kept
     (g.L.Library.calls s.library) (g.L.Library.calls now.library)) c.self.view_is (λ m st. stopped m c.args.text.now st refl))

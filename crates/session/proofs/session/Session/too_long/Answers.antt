@@ -4,7 +4,7 @@ use Rattle.script_model.specs.Request.{TooLong}
 use Rattle.script_model.specs.Step.{Moment}
 use Rattle.session.specs.Replies.{refused_line}
 use Rattle.session.specs.declared.answer.Did.TheVariants as did
-use Rattle.session.specs.Session.{Standing}
+use Rattle.session.specs.Session.{SessionView}
 use Rattle.script_graph.specs.State.{Stands}
 use Rattle.session.specs.Taken.{Takes}
 use Rattle.session.proofs.Answering.{answered_too_long, taken_of}
@@ -18,7 +18,7 @@ returns-clause-taken g c =
     let F = meanings_of (g.L.Library.named l) (g.L.Library.value l) in
     let out = c.args.out.now.items in
     on_ok_from c.write_refused.result c.write_refused.ensures.ok
-    (λ written. subst (λ (s : Standing g.row.L.Denot). (m : Moment) (line : List ℕ) → 4096 < length line
+    (λ written. subst (λ (s : SessionView g.row.L.Denot). (m : Moment) (line : List ℕ) → 4096 < length line
     → Stands (meanings_of (g.L.Library.named s.library) (g.L.Library.value s.library)) s.kept m
     → Takes (meanings_of (g.L.Library.named s.library) (g.L.Library.value s.library)) m line k out c.write_refused.new.out.items
     (g.L.Library.calls s.library) (g.L.Library.calls l) (did.Refused 2))
