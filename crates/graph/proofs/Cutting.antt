@@ -12,8 +12,7 @@ use Rattle.link_table.specs.Links.{times}
 use Rattle.necessity.specs.Need.{root_times}
 use Rattle.node_arena.specs.Arena.{Arena, row_at}
 use Rattle.stabilize_round.proofs.Points.{same_or_other}
-use Rattle.inc_value.specs.declared.node.Part.TheVariants.{Main}
-use Rattle.node_outcomes.specs.Computing.{seen_of, seen, has_part}
+use Rattle.node_outcomes.specs.Computing.{seen_of, seen}
 use Rattle.wiring.specs.Kept.{IsKept}
 use Rattle.node_outcomes.specs.Meaning.{Meaning}
 use Rattle.stabilizer.specs.Look.{last_of}
@@ -22,21 +21,13 @@ use Rattle.node_outcomes.specs.Row.{IsRewritten, with_cutoff, outcome_in, cutoff
 use Rattle.stabilizer.specs.declared.parts.Parts.{Parts}
 use Rattle.wiring.specs.declared.refused.Refused.{Refused}
 use Rattle.node_outcomes.specs.declared.row.Progress.{Progress}
-use Rattle.wiring.specs.declared.work.Work.{Work}
+use Rattle.stabilizer.proofs.Round.Beginning.{main_there}
 use Rattle.graph.specs.Effects.{SetsCutoff}
 use Rattle.graph.specs.Inside.{FitsInside}
 use Rattle.graph.specs.Standing.{GraphView}
 use Rattle.graph.proofs.Seeing.{seen_as, built_still}
 use Rattle.graph.specs.declared.observer.Observer.{Observer}
 use Rattle.graph.proofs.Sound.{ready_built}
-
--- a live node has a main
-has_main : (x : Option Row) → has_part x Main ≡ is_some x
-has_main None = refl
-has_main (Some r) = refl
-
-main_there : (arena : Arena) (work : Work) → IsKept arena work → (n : NodeId) → is_some (at work.rows (main n)) ≡ is_some (row_at arena n)
-main_there arena work kept n = kept.rows (main n) ∙ has_main (row_at arena n)
 
 seen_still : (c : Cutoff) (x : Option Progress) → seen_of (option_map (with_cutoff c) x) ≡ seen_of x
 seen_still c None = refl

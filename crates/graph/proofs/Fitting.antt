@@ -15,12 +15,12 @@ use Rattle.inc_terms.specs.Graph.{Row, Def}
 use Rattle.inc_terms.specs.Within.{Given, Fit, DefWithin, ValueWithin}
 use Rattle.node_arena.specs.Arena.{Arena, row_at, Changes, IsLive, IsSet, with_value}
 use Rattle.node_arena.specs.Graph.{CallsFit}
-use Rattle.node_arena.specs.Listing.{Listed, nodes_of}
+use Rattle.node_arena.specs.Listing.{Listed}
 use Rattle.node_arena.specs.RightSide.{RightSide, SidesHold}
 use Rattle.node_arena.specs.RightSideLaws.{ids_of, IsFitIn, AllFit, SidesLast}
 use Rattle.node_arena.specs.Typing.{Fits, Makes}
 use Rattle.node_arena.proofs.Graph.{calls_more}
-use Rattle.node_arena.proofs.RightSides.{fit_lasts}
+use Rattle.node_arena.proofs.RightSides.{fit_lasts, listed_of}
 use Rattle.stabilize_round.proofs.Points.{node_or_other}
 use Rattle.wiring.specs.Kept.{IsKept}
 use Rattle.wiring.specs.declared.work.Work.{Work}
@@ -59,11 +59,6 @@ module _ (known : FnRef → Bool) (right : FnRef → RightSide) (sides : SidesHo
   known_fits a b ty (graph.Join kid) k m = tt
   known_fits a b ty (graph.Bind l f captures) k m = (((k.0, m.kind), k.1), tt, every_unit captures)
   known_fits a b ty def k m = absurd m
-
-listed_of : (xs : List Listed) (n : NodeId) → Among n (nodes_of xs) → (x : Listed) × Among x xs × (x.node ≡ n)
-listed_of [] n h = absurd h
-listed_of (x ∷ xs) n (inl e) = (x, inl refl, sym e)
-listed_of (x ∷ xs) n (inr h) = let r = listed_of xs n h in (r.0, inr r.1, r.2)
 
 -- then they list given nodes
 pub calls_fit : (known : FnRef → Bool) (right : FnRef → RightSide) (a : Arena) (def : Def) → IsDefFit known right a def

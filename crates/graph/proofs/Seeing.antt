@@ -22,7 +22,7 @@ use Rattle.stabilize_round.proofs.Points.{node_or_other}
 use Rattle.stabilizer.specs.Kept.{graph_in}
 use Rattle.stabilizer.specs.Look.{last_of, cutoff_at}
 use Rattle.stabilizer.specs.declared.parts.Parts.{Parts}
-use Rattle.stabilizer.proofs.Between.Alone.{same_some}
+use Rattle.wiring.proofs.Agreeing.{same_some}
 use Rattle.wiring.specs.declared.refused.Refused.{Refused}
 use Rattle.graph.specs.Effects.{KeepsBeside}
 use Rattle.graph.specs.Standing.{GraphView, IsNeeded}

@@ -43,7 +43,7 @@ bytes_decides (a ∷ as_) (b ∷ bs) =
     (λ (e : (a ∷ as_) ≡ (b ∷ bs)). ((cc), (cc)))
     (Decides-and (a == b) (same_bytes as_ bs) (Decides-eqb a b) (bytes_decides as_ bs))
 
-id_of : ℕ → ℕ → NodeId
+pub id_of : ℕ → ℕ → NodeId
 id_of s g = record { slot = s; gen_ = g }
 
 same_fields : (a b : NodeId) → a.slot ≡ b.slot → a.gen_ ≡ b.gen_ → a ≡ b

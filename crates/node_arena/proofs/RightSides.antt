@@ -27,7 +27,7 @@ use Rattle.node_arena.proofs.Graph.{calls_more, maps_name_no_node}
 
 -- ---- listed nodes
 
-listed_of : (xs : List Listed) (n : NodeId) → Among n (nodes_of xs) → (x : Listed) × Among x xs × (x.node ≡ n)
+pub listed_of : (xs : List Listed) (n : NodeId) → Among n (nodes_of xs) → (x : Listed) × Among x xs × (x.node ≡ n)
 listed_of [] n h = absurd h
 listed_of (x ∷ xs) n (inl e) = (x, inl refl, sym e)
 listed_of (x ∷ xs) n (inr h) = let r = listed_of xs n h in (r.0, inr r.1, r.2)

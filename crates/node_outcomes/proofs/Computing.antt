@@ -324,7 +324,7 @@ shown_by rows n v e = go (at rows (main n)) refl e
     go (Some k) is h = record { row = k; is_row = is; outcome = shown_outcome k.outcome v h }
 
 -- a main is there exactly where its node lives
-has_main : (x : Option Row) → has_part x Main ≡ is_some x
+pub has_main : (x : Option Row) → has_part x Main ≡ is_some x
 has_main None = refl
 has_main (Some r) = refl
 

@@ -26,12 +26,12 @@ both_true : (a b : Bool) → a ≡ true → b ≡ true → (a && b) ≡ true
 both_true true b is is' = is'
 both_true false b is is' = absurd cc
 
-base_itself : (a : Base) → same_base a a ≡ true
+pub base_itself : (a : Base) → same_base a a ≡ true
 base_itself base.Int = refl
 base_itself base.Bool = refl
 base_itself base.Text = refl
 
-ty_itself : (a : Ty) → same_ty a a ≡ true
+pub ty_itself : (a : Ty) → same_ty a a ≡ true
 ty_itself ty.Int = refl
 ty_itself ty.Bool = refl
 ty_itself ty.Text = refl

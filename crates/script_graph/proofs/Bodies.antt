@@ -12,6 +12,7 @@ use Rattle.inc_terms.specs.Graph.{Graph, Def, present}
 use Rattle.inc_terms.specs.Term as term
 use Rattle.inc_terms.specs.Term.{Term, Terms, Step, refs}
 use Rattle.inc_terms.specs.Within.{DefWithin, Fit, KnownAs, TermWithin, TermsWithin, ValueWithin}
+use Rattle.inc_terms.proofs.Unfolding.{AnyFunction}
 use Rattle.graph.specs.Standing as standing
 use Rattle.node_arena.specs.Building.{IsListed}
 use Rattle.node_arena.specs.Graph.{AllCallFit}
@@ -69,10 +70,6 @@ any_steps (s ∷ steps) = (any_value s.value, any_steps steps)
 any_refs : (Q : FnKind → FnRef → Type 0) (ns : List NodeId) → TermsWithin AnyNode Q (refs ns)
 any_refs Q [] = tt
 any_refs Q (n ∷ ns) = (tt, any_refs Q ns)
-
--- whatever the function
-abbrev pub AnyFunction : FnKind → FnRef → Type 0
-AnyFunction k f = Unit {0}
 
 mutual
   any_term : (t : Term) → TermWithin AnyNode AnyFunction t

@@ -1,18 +1,15 @@
 -- How many nodes are live, by the rows of ids.
 use Rattle.std.proofs.Common.{◌≡◌, ℕ, zero, suc, ◌+◌, ◌≤◌, ◌==◌, Bool, true, cond, List, [], ◌∷◌, Option, None, Some, is_some, count_by, slice_index_or, if◌then◌else◌, refl, ap, sym, ◌∙◌, arith}
 use Rattle.std.proofs.lemmas.Bool.Decides.{Decides-eqb}
-use Rattle.std.proofs.lemmas.List.Sums.{sum_by-cons}
 use Rattle.inc_value.specs.Choice.{and_then}
 use Rattle.inc_value.specs.declared.node.NodeId.{NodeId}
 use Rattle.inc_terms.specs.Graph.{Row}
 use Rattle.node_arena.specs.declared.arena.Entry.{Entry}
 use Rattle.node_arena.specs.Arena.{Arena, row_at, row_of, live, Changes}
+use Rattle.stabilizer.proofs.Round.Alive.{counted}
 
 abbrev slot_in : List (Option Entry) → ℕ → Option Entry
 slot_in slots i = slice_index_or slots i None
-
-counted : (o : Option Entry) (slots : List (Option Entry)) → count_by is_some (o ∷ slots) ≡ cond (is_some o) 1 0 + count_by is_some slots
-counted o slots = sum_by-cons (λ (x : Option Entry). cond (is_some x) 1 0) o slots
 
 count_all : (xs ys : List (Option Entry)) → ((i : ℕ) → is_some (slot_in ys i) ≡ true → is_some (slot_in xs i) ≡ true)
     → count_by is_some ys ≤ count_by is_some xs

@@ -58,12 +58,12 @@ set_length [] i y = refl
 set_length (x ∷ xs) zero y = refl
 set_length (x ∷ xs) (suc i) y = ap suc (set_length xs i y)
 
-get_at : {A : Type 0} (xs : List A) (i : ℕ) (d : A) → i < length xs → slice_get xs i ≡ Some (slice_index_or xs i d)
+pub get_at : {A : Type 0} (xs : List A) (i : ℕ) (d : A) → i < length xs → slice_get xs i ≡ Some (slice_index_or xs i d)
 get_at [] i d less = absurd (omega (arith, less))
 get_at (x ∷ xs) zero d less = refl
 get_at (x ∷ xs) (suc i) d less = get_at xs i d (omega (arith, less))
 
-among_at : {A : Type 0} (xs : List A) (i : ℕ) (x : A) → slice_get xs i ≡ Some x → Among x xs
+pub among_at : {A : Type 0} (xs : List A) (i : ℕ) (x : A) → slice_get xs i ≡ Some x → Among x xs
 among_at [] i x e = absurd (cc)
 among_at (y ∷ xs) zero x e = inl (cc)
 among_at (y ∷ xs) (suc i) x e = inr (among_at xs i x e)

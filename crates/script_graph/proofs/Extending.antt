@@ -29,7 +29,8 @@ use Rattle.script_graph.specs.Represents.{beside, besides, graph_functions, Repr
 use Rattle.script_graph.specs.Settled.{ScopesBuilt}
 use Rattle.script_graph.specs.Today.{IsPlainBody, IsEarlierTarget, IsDeclaredTarget, IsWithin, IsPartWithin}
 use Rattle.script_graph.specs.State.{MatchesMoment}
-use Rattle.script_graph.proofs.Bodies.{AnyFunction, terms_itself}
+use Rattle.script_graph.proofs.Bodies.{terms_itself}
+use Rattle.inc_terms.proofs.Unfolding.{AnyFunction}
 use Rattle.script_graph.proofs.Carrying.{watches_on, leaves_beside, settled_on}
 use Rattle.script_graph.proofs.Owning.{own_nodes_of_on}
 use Rattle.script_graph.proofs.Referring.{value_agrees, outcome_agrees}

@@ -36,7 +36,7 @@ use Rattle.script_graph.specs.Sound.{IsSoundSession}
 use Rattle.script_graph.specs.State.{MatchesMoment, Stands}
 use Rattle.script_graph.specs.Today.{IsDeclaredTarget}
 use Rattle.script_graph.proofs.Beside.{represented_fits, rooted_binds}
-use Rattle.script_graph.proofs.Bodies.{AnyFunction}
+use Rattle.inc_terms.proofs.Unfolding.{AnyFunction}
 use Rattle.script_graph.proofs.Declared.{nodes_given}
 use Rattle.script_graph.proofs.Declaring.{IsNew, body_old, declared_matches, named_entry, with_declared}
 use Rattle.script_graph.proofs.Extending.{body_within, entry_body, extends_itself, same_serve}
@@ -45,6 +45,7 @@ use Rattle.script_graph.proofs.Referring.{value_agrees, value_refers_more}
 use Rattle.script_graph.proofs.Rooting.{named_root, scoped_root, top_row}
 use Rattle.script_graph.proofs.Sounding.{declared_at, declared_still, sound_declared}
 use Rattle.stabilize_round.specs.Invariant.{Rooted}
+use Rattle.script_model.proofs.Found.{some_same}
 use Rattle.transfer.specs.Both.{Both, graph_outcome, graph_value}
 use Rattle.transfer.specs.Shows.{Declares, Fits, IsOwn}
 use Rattle.transfer.proofs.Places.{opened, plain_bind, then_some}
@@ -240,9 +241,6 @@ module _ (named : List ℕ → Option FnRef) (value : FnRef → List GraphValue 
 some_or_none : {A : Type 0} (o : Option A) → (o ≡ None) ⊎ ((a : A) × (o ≡ Some a))
 some_or_none None = inl refl
 some_or_none (Some a) = inr (a, refl)
-
-some_same : {A : Type 0} (a b : A) → Some a ≡ Some b → a ≡ b
-some_same a b e = cc
 
 is_name_or : (f : Formula) → ((t : ℕ) × (f ≡ Name t)) ⊎ ((t : ℕ) → f ≡ Name t → ⊥)
 is_name_or (Name t) = inl (t, refl)

@@ -79,7 +79,7 @@ base_back base.Int = refl
 base_back base.Bool = refl
 base_back base.Text = refl
 
-row_fits : (a : Arena) (n : NodeId) (t : Ty) (r : Row) → row_at a n ≡ Some r → r.ty ≡ t → Fits a n t
+pub row_fits : (a : Arena) (n : NodeId) (t : Ty) (r : Row) → row_at a n ≡ Some r → r.ty ≡ t → Fits a n t
 row_fits a n t r row ty = subst (λ (o : Option Row). IfSome o (λ (q : Row). q.ty ≡ t)) (sym row) ty
 
 -- what a value refers to fits, and was given

@@ -8,7 +8,7 @@ use Rattle.script_model.specs.Formula.{State, Body, Formula, Observer, Meanings,
 use Rattle.script_graph.specs.Kept.{Kept, arena_of, node_in}
 use Rattle.script_graph.specs.Represents.{beside, besides, Represents}
 use Rattle.script_graph.specs.Today.{IsWithin, IsPartWithin, OwnNodesOf}
-use Rattle.script_graph.proofs.Bodies.{AnyFunction}
+use Rattle.inc_terms.proofs.Unfolding.{AnyFunction}
 use Rattle.script_graph.proofs.Extending.{KeepsGraph, body_within, built_still, declares_still, same_serve}
 use Rattle.script_graph.proofs.Owning.{own_nodes_of_on}
 use Rattle.transfer.specs.Keeping.{AnyNode, NodesApart}

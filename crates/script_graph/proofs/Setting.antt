@@ -25,7 +25,7 @@ use Rattle.script_graph.specs.Represents.{AreNames, beside, BuiltAlike, BuiltRef
 use Rattle.script_graph.specs.Settled.{ScopesBuilt, Settled}
 use Rattle.script_graph.specs.Today.{IsPlainBody, IsEarlierTarget, IsDeclaredTarget, AllPlain, IsWithin, IsPartWithin, OwnNodesOf}
 use Rattle.script_graph.specs.State.{MatchesMoment}
-use Rattle.script_graph.proofs.Bodies.{AnyFunction}
+use Rattle.inc_terms.proofs.Unfolding.{AnyFunction}
 use Rattle.script_graph.proofs.Carrying.{watches_on, leaves_beside, settled_on}
 use Rattle.script_graph.proofs.Declaring.{plain_body_more, fitting_refers}
 use Rattle.script_graph.proofs.Extending.{KeepsGraph, NodesGiven, body_past, body_within, built_still, declares_still, never_given, node_past, same_serve}

@@ -25,6 +25,7 @@ use Rattle.script_graph.specs.Sound.{AreFew, HasTarget, HasLiveNode, HasNode, Ha
 use Rattle.script_graph.proofs.Few.{sum_less}
 use Rattle.script_graph.proofs.Declaring.{with_declared}
 use Rattle.script_graph.proofs.Extending.{live_stays}
+use Rattle.script_graph.proofs.Making.{row_fits}
 
 -- what is declared at a position
 abbrev pub declared_at : ℕ → List ℕ → Ty → Body → Declared
@@ -44,9 +45,6 @@ bind_on a a' n stay (r, left, f, captures, is, def) = (r, left, f, captures, sta
 kind_or : (k : Kind) → (k ≡ GrabKind) ⊎ (k ≡ GrabKind → ⊥)
 kind_or GrabKind = inl refl
 kind_or k = inr (λ e. cc)
-
-row_fits : (a : Arena) (n : NodeId) (t : Ty) (r : Row) → row_at a n ≡ Some r → r.ty ≡ t → Fits a n t
-row_fits a n t r row ty = subst (λ (o : Option Row). IfSome o (λ (q : Row). q.ty ≡ t)) (sym row) ty
 
 module _ (a : Arena) (sound : arena.IsSoundArena a) (declared : List Declared) (nodes : List NodeId) (has : HaveNodes a declared nodes) where
   -- the node of what stands for itself was given, and is of its type or dead

@@ -21,7 +21,7 @@ use Rattle.script_model.specs.Tokens.{Token, Sign, Word, Number, Text, Punctuati
 
 -- ---- steps that may find nothing
 
-some_same : {A : Type 0} (a b : A) → Some a ≡ Some b → a ≡ b
+pub some_same : {A : Type 0} (a b : A) → Some a ≡ Some b → a ≡ b
 some_same a b e = cc
 
 -- the property of what is there, from that of what is equal to it

@@ -17,7 +17,8 @@ use Rattle.script_graph.specs.Kept.{Kept, without_functions}
 use Rattle.script_graph.specs.Sound.{IsSoundSession}
 use Rattle.script_graph.specs.State.{MatchesMoment}
 use Rattle.script_graph.proofs.Ending.{ending_sound, ending_stands}
-use Rattle.session.proofs.Observed.{among_at, by_position}
+use Rattle.session.proofs.Observed.{by_position}
+use Rattle.script_graph.proofs.Ending.{among_at}
 
 -- ---- the place of a name
 

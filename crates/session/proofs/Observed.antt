@@ -29,6 +29,7 @@ use Rattle.script_graph.specs.Sound.{AreFew, HasNode, HaveNodes, IsSoundSession}
 use Rattle.script_graph.specs.Shown.{ShowsIt, ShowsNothing}
 use Rattle.script_graph.specs.State.{MatchesMoment}
 use Rattle.script_graph.proofs.Observing.{get_end, get_within, observing_stands, shows_it, shows_nothing, with_observer}
+use Rattle.script_graph.proofs.Ending.{get_at, among_at}
 
 -- ---- a name that is put in use and taken out again
 
@@ -109,16 +110,6 @@ as_before_sound k sound name between after os g fresh between_is after_is os_is 
     subst IsSoundSession (sym (as_before k sound name between after os g fresh between_is after_is os_is g_is)) sound
 
 -- ---- lists by places
-
-get_at : {A : Type 0} (xs : List A) (i : ℕ) (d : A) → i < length xs → slice_get xs i ≡ Some (slice_index_or xs i d)
-get_at [] i d less = absurd (omega (arith, less))
-get_at (x ∷ xs) zero d less = refl
-get_at (x ∷ xs) (suc i) d less = get_at xs i d (omega (arith, less))
-
-pub among_at : {A : Type 0} (xs : List A) (i : ℕ) (x : A) → slice_get xs i ≡ Some x → Among x xs
-among_at [] i x e = absurd (cc)
-among_at (y ∷ xs) zero x e = inl (cc)
-among_at (y ∷ xs) (suc i) x e = inr (among_at xs i x e)
 
 among_push : {A : Type 0} (xs : List A) (y x : A) → Among x (xs ++ y ∷ []) → Among x xs ⊎ (x ≡ y)
 among_push [] y x (inl e) = inr e

@@ -38,7 +38,8 @@ use Rattle.node_outcomes.specs.declared.row.Stage.TheVariants as code
 use Rattle.wiring.specs.declared.work.Work.{Work}
 use Rattle.wiring.proofs.Linking.{some_or_none}
 use Rattle.wiring.proofs.Lifting.{full_finishes}
-use Rattle.wiring.proofs.Raising.{nothing, wired_before, wired_after, owed_none, only_rows, staged_kept, staged_now, up_wiring, up_stands, leaves_hand, own_alone, row_of_state, stage_is}
+use Rattle.wiring.proofs.Raising.{wired_before, wired_after, owed_none, only_rows, staged_kept, staged_now, up_wiring, up_stands, leaves_hand, own_alone, row_of_state, stage_is}
+use Rattle.wiring.proofs.InHand.{nothing}
 use Rattle.wiring.proofs.Unlinked.{raised_unlinked}
 use Rattle.wiring.proofs.Holding.{right_at, targets_at}
 use Rattle.wiring.specs.Graph.{graph_at}

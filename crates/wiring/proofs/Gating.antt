@@ -30,7 +30,8 @@ use Rattle.wiring.specs.Stands.{MatchesState, hand}
 use Rattle.wiring.specs.Wiring.{IsMarked, IsTarget, LacksLinks, GateRan, Wires, WiresTaken}
 use Rattle.wiring.specs.declared.work.Work.{Work}
 use Rattle.wiring.proofs.Lifting.{Lifts, DueAfter}
-use Rattle.wiring.proofs.Raising.{nothing, only_rows, staged_kept, staged_now, up_wiring, up_stands, leaves_hand, no_change, one_row, row_of_state, stage_is, staged_row, owed_none}
+use Rattle.wiring.proofs.Raising.{only_rows, staged_kept, staged_now, up_wiring, up_stands, leaves_hand, no_change, one_row, row_of_state, stage_is, staged_row, owed_none}
+use Rattle.wiring.proofs.InHand.{nothing}
 use Rattle.wiring.proofs.Scheduling.{put_in, put_stands, scheduled}
 use Rattle.wiring.proofs.Unlinked.{raised_unlinked}
 

@@ -25,7 +25,8 @@ use Rattle.wiring.specs.Wiring.{IsTarget, Wires, AreUnlinked}
 use Rattle.wiring.specs.declared.work.Work.{Work}
 use Rattle.wiring.proofs.Gating.{rowed_target, change_rowed}
 use Rattle.wiring.proofs.Lifting.{Lifts, DueAfter, done_wires}
-use Rattle.wiring.proofs.Raising.{nothing, rowless_stands, leaves_hand, row_of_state}
+use Rattle.wiring.proofs.Raising.{rowless_stands, leaves_hand, row_of_state}
+use Rattle.wiring.proofs.InHand.{nothing}
 use Rattle.wiring.proofs.Unlinked.{raised_unlinked}
 
 -- a point of a dead node has no row

@@ -33,7 +33,8 @@ use Rattle.wiring.specs.declared.work.Work.{Work}
 use Rattle.wiring.proofs.Flat.{no_targets}
 use Rattle.wiring.proofs.Answering.{same_places, grows_here, grows_along}
 use Rattle.wiring.proofs.Lifting.{fixed_due, gates_after, full_finishes, Lifts, DueAfter}
-use Rattle.wiring.proofs.Raising.{wired_then, wired_after, wired_settled, leaves_hand, only_rows, staged_kept, staged_now, staged_ran, staged_there, up_wiring, up_stands, goes_up, nothing, own_alone, no_change, one_row, row_of_state, stage_is}
+use Rattle.wiring.proofs.Raising.{wired_then, wired_after, wired_settled, leaves_hand, only_rows, staged_kept, staged_now, staged_ran, staged_there, up_wiring, up_stands, goes_up, own_alone, no_change, one_row, row_of_state, stage_is}
+use Rattle.wiring.proofs.InHand.{nothing}
 use Rattle.wiring.proofs.Sight.{code_def}
 use Rattle.wiring.proofs.TakingAll.{places_then}
 use Rattle.std.proofs.lemmas.Option.{none-some}

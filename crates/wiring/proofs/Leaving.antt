@@ -20,7 +20,8 @@ use Rattle.wiring.specs.declared.work.Work.{Work}
 use Rattle.wiring.proofs.Growing.{link_points, links_are_listed}
 use Rattle.wiring.proofs.TakingAll.{places_then}
 use Rattle.wiring.proofs.Holding.{beside_kept, has_links_same}
-use Rattle.wiring.proofs.Raising.{nothing, wired_then, wired_after, leaves_hand}
+use Rattle.wiring.proofs.Raising.{wired_then, wired_after, leaves_hand}
+use Rattle.wiring.proofs.InHand.{nothing}
 use Rattle.wiring.proofs.Unlinked.{held_unlinked}
 use Rattle.wiring.proofs.Wiring.{taken_stands, looks_stands}
 

@@ -24,7 +24,8 @@ use Rattle.wiring.specs.Stands.{MatchesState, hand, Counts}
 use Rattle.wiring.specs.Wiring.{IsDue, Connects, LosesNeed, ConnectRefused, Wires, WiresTaken, WireRefused, StaysInHand, GateRan, AreUnlinked}
 use Rattle.wiring.specs.declared.refused.Refused.{Refused}
 use Rattle.wiring.specs.declared.work.Work.{Work}
-use Rattle.wiring.proofs.Raising.{nothing, wired_before, wired_then, wired_settled, leaves_hand, stage_is, one_row, row_of_state}
+use Rattle.wiring.proofs.Raising.{wired_before, wired_then, wired_settled, leaves_hand, stage_is, one_row, row_of_state}
+use Rattle.wiring.proofs.InHand.{nothing}
 use Rattle.wiring.proofs.Unlinked.{held_unlinked}
 
 -- moves lead from where the point in hand is owed nothing to where it is owed these links

@@ -40,6 +40,7 @@ use Rattle.wiring.proofs.Linking.{row_before, settled_as, stage_now}
 use Rattle.wiring.proofs.Trying.{rewritten_there}
 use Rattle.wiring.proofs.Unlinked.{finished_unlinked}
 use Rattle.wiring.proofs.Holding.{graph_staged, died_same, has_links_same, links_same, root_same, pairs_same, scoped_same}
+use Rattle.wiring.proofs.InHand.{nothing}
 
 -- ---- moves one after the other
 
@@ -135,9 +136,6 @@ if_refusal P e (Ok x) is h = tt
 if_refusal P e (Err y) is h = subst P (sym is) h
 
 -- ---- what is owed
-
-abbrev pub nothing : Point → List Point
-nothing p = []
 
 -- what is owed after a point is raised
 owed_raised : (s : State) (p : Point) (links : List Point) (st : machine.Stage) → ((a : Point) → s.owed a ≡ at_point p [] nothing a)

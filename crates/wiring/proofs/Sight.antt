@@ -87,7 +87,7 @@ own_right_same G see see' n def mains own_change =
     ∙ chosen_same G see see' n def mains (see' (change n))
 
 -- each live node has a main
-main_there : (x : Option Row) → has_part x Main ≡ is_some x
+pub main_there : (x : Option Row) → has_part x Main ≡ is_some x
 main_there None = refl
 main_there (Some r) = refl
 

@@ -18,10 +18,7 @@ use Rattle.wiring.specs.Wiring.{KeepsRound, ShowsSame}
 use Rattle.node_outcomes.specs.declared.row.Progress.{Progress}
 use Rattle.wiring.specs.declared.work.Work.{Work}
 use Rattle.wiring.proofs.Holding.{graph_rows, died_same}
-
--- nothing is owed
-abbrev nothing : Point → List Point
-nothing p = []
+use Rattle.wiring.proofs.InHand.{nothing}
 
 -- ---- a point is taken in hand
 

@@ -30,7 +30,8 @@ use Rattle.wiring.specs.Wiring.{KeepsRound}
 use Rattle.node_outcomes.specs.Row.{outcome_in}
 use Rattle.node_outcomes.specs.declared.row.Progress.{Progress}
 use Rattle.wiring.specs.declared.work.Work.{Work}
-use Rattle.stabilizer.proofs.Between.Alone.{same_some, row_of}
+use Rattle.stabilizer.proofs.Between.Alone.{row_of}
+use Rattle.wiring.proofs.Agreeing.{same_some}
 use Rattle.wiring.proofs.Deciding.{need_same}
 use Rattle.wiring.proofs.Linking.{some_or_none}
 use Rattle.wiring.proofs.Placing.{unsettled, at_node, has_parts, one_for_all, came_and_went, pair_stays, pair_listed}

@@ -59,9 +59,6 @@ use Rattle.wiring.proofs.Holding.{died_same}
 use Rattle.wiring.specs.Graph.{held_at, graph_at}
 use Rattle.stabilizer.proofs.Building.ReadingBack.{IsVar, built_still}
 
-pub same_some : {A : Type 0} {x y : A} → ◌≡◌ {A = Option A} (Some x) (Some y) → x ≡ y
-same_some e = cc
-
 at_part : NodeId → Part → Point
 at_part n part = record { node = n; part = part }
 

@@ -37,7 +37,8 @@ use Rattle.wiring.proofs.Agreeing.{code_row}
 use Rattle.stabilizer.specs.Kept.{PartsKept}
 use Rattle.stabilizer.specs.Round.{IsReady}
 use Rattle.stabilizer.specs.declared.parts.Parts.{Parts}
-use Rattle.stabilizer.proofs.Between.Alone.{same_some, needed_row, ready_stays}
+use Rattle.stabilizer.proofs.Between.Alone.{needed_row, ready_stays}
+use Rattle.wiring.proofs.Agreeing.{same_some}
 use Rattle.stabilizer.proofs.Between.Fitting.{set_fit}
 use Rattle.stabilizer.proofs.Between.Keeping.{parts_stay}
 use Rattle.node_outcomes.specs.Meaning.{Meaning}

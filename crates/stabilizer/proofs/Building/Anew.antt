@@ -63,10 +63,7 @@ pub record IsRebuilt (old new : Work) (n : NodeId) (now : Outcome) (root : Optio
   pub retries : new.retries ≡ old.retries
   pub round : new.round ≡ old.round
 
-abbrev nothing : Point → List Point
-nothing p = []
-
-abbrev nowhere : Point → Bool
+abbrev pub nowhere : Point → Bool
 nowhere p = false
 
 -- a main without its right side, as a test

@@ -3,7 +3,7 @@ use Rattle.std.proofs.Common.{◌≡◌, ◌⊎◌, inl, inr, ℕ, ◌≤◌, tr
 use Rattle.std.specs.Prelude.{is_some}
 use Rattle.inc_value.specs.declared.function.FnRef.{FnRef}
 use Rattle.inc_value.specs.declared.node.NodeId.{NodeId}
-use Rattle.inc_value.specs.declared.node.Part.TheVariants.{Main, Change}
+use Rattle.inc_value.specs.declared.node.Part.TheVariants.{Change}
 use Rattle.inc_value.specs.declared.node.Point.{Point}
 use Rattle.inc_value.specs.declared.outcome.Outcome.{Outcome}
 use Rattle.inc_value.specs.declared.outcome.Outcome.TheVariants.{Val, Invalid}
@@ -34,13 +34,14 @@ use Rattle.stabilize_round.proofs.Parts.{bool_cases}
 use Rattle.stabilize_round.proofs.Points.{same_or_other}
 use Rattle.stabilize_round.proofs.Ready.{ready, is_due}
 use Rattle.node_outcomes.specs.Choosing.{built_by}
-use Rattle.node_outcomes.specs.Computing.{seen, seen_of, has_part}
+use Rattle.node_outcomes.specs.Computing.{seen, seen_of}
 use Rattle.node_outcomes.specs.Row.{outcome_in}
 use Rattle.node_outcomes.specs.declared.row.Progress.{Progress}
 use Rattle.node_outcomes.proofs.Held.{built_live, built_parts}
 use Rattle.wiring.specs.Kept.{IsKept}
 use Rattle.wiring.specs.Stands.{MatchesState, Counts}
 use Rattle.wiring.specs.declared.work.Work.{Work}
+use Rattle.wiring.proofs.Sight.{main_there}
 use Rattle.stabilizer.specs.Dying.{StandsBefore, GatesWait}
 use Rattle.stabilizer.specs.Rebuilding.{IsToBuild}
 use Rattle.stabilizer.specs.declared.parts.Parts.{Parts}
@@ -92,10 +93,6 @@ module _ (F : Functions) (z : Start) (s : State) (inv : Invariant F z s) (b : No
       subst (λ (x : NodeId). s.settled (change x) ≡ false) bind (inner_unsettled d i)
 
 -- ---- by what the parts keep
-
-main_there : (x : Option Row) → has_part x Main ≡ is_some x
-main_there None = refl
-main_there (Some r) = refl
 
 by_row : (o : Option Outcome) (x : Option Progress) (y : Option Row) → ((k : Progress) → x ≡ Some k → o ≡ k.outcome) → is_some x ≡ is_some y
     → shown_of y o ≡ seen_of x

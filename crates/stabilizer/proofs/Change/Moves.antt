@@ -60,11 +60,9 @@ use Rattle.stabilizer.proofs.Change.Changing.{before_stands}
 use Rattle.stabilizer.proofs.Killing.LinksOff.{off_prepares}
 use Rattle.stabilizer.proofs.Change.Running.{graph_run, LeavesSettled, settled_stands}
 use Rattle.stabilizer.proofs.Change.Waiting.{put_changes, with_change}
+use Rattle.stabilizer.proofs.Building.Anew.{nowhere}
 
 -- ---- what waits for a change, as a test
-
-abbrev nowhere : Point → Bool
-nowhere p = false
 
 abbrev is_static : Stage → Bool
 is_static machine.Static = true

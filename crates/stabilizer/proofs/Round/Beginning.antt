@@ -2,7 +2,6 @@
 use Rattle.std.proofs.Common.{◌≡◌, ◌<◌, ◌≤◌, arith, subst, inl, inr, ℕ, true, Option, None, Some, refl, sym, ap, ◌∙◌, false}
 use Rattle.std.specs.Prelude.{is_some, ◌↔◌}
 use Rattle.inc_value.specs.declared.node.NodeId.{NodeId}
-use Rattle.inc_value.specs.declared.node.Part.TheVariants.{Main}
 use Rattle.inc_value.specs.declared.node.Point.{Point}
 use Rattle.inc_terms.specs.Depend.{main, change, right_of, root_for}
 use Rattle.inc_terms.specs.Graph.{Graph, Row, Built}
@@ -27,7 +26,6 @@ use Rattle.wiring.proofs.Agreeing.{no_freeze}
 use Rattle.stabilize_round.specs.Invariant.{Recalls}
 use Rattle.stabilize_round.specs.Machine.{Entry}
 use Rattle.stabilize_round.specs.State.{State, Start}
-use Rattle.node_outcomes.specs.Computing.{has_part}
 use Rattle.wiring.specs.Kept.{IsKept}
 use Rattle.stabilizer.specs.Look.{last_of, last_call, never_at}
 use Rattle.stabilizer.specs.Round.{IsReady}
@@ -41,16 +39,12 @@ use Rattle.node_outcomes.specs.Row.{outcome_in}
 use Rattle.node_outcomes.proofs.Held.{built_parts}
 use Rattle.inc_terms.proofs.Same.{outcome_decides}
 use Rattle.inc_value.specs.declared.outcome.Outcome.{Outcome}
+use Rattle.node_outcomes.proofs.Computing.{has_main}
 
 -- what there is in one is there in the other
 pub there_as : {A B : Type 0} (x : Option A) (y : Option B) (b : B) → is_some x ≡ is_some y → y ≡ Some b → (a : A) × (x ≡ Some a)
 there_as None y b same e = absurd (let k = same ∙ ap is_some e in cc)
 there_as (Some a) y b same e = (a, refl)
-
--- just live nodes have mains
-has_main : (x : Option Row) → has_part x Main ≡ is_some x
-has_main None = refl
-has_main (Some r) = refl
 
 pub main_there : (arena : Arena) (work : Work) → IsKept arena work → (n : NodeId) → is_some (at work.rows (main n)) ≡ is_some (row_at arena n)
 main_there arena work kept n = kept.rows (main n) ∙ has_main (row_at arena n)

@@ -126,7 +126,7 @@ module _ (arena : Arena) (old : Work) (g : NecessaryPart) (rest : g ≡ record o
 
 -- ---- a main was settled
 
-some_row : (a b : Progress) → ◌≡◌ {A = Option Progress} (Some a) (Some b) → a ≡ b
+pub some_row : (a b : Progress) → ◌≡◌ {A = Option Progress} (Some a) (Some b) → a ≡ b
 some_row a b e = cc
 
 module _ (arena : Arena) (old new : Work) (n : NodeId) (o : Outcome) (last : Option Call) (made : ℕ)

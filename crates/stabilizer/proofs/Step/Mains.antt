@@ -34,10 +34,7 @@ use Rattle.wiring.specs.Stands.{Counts}
 use Rattle.wiring.specs.Wiring.{KeepsGraph, KeepsRound, KeepsLists, TellsReaders, Stops}
 use Rattle.node_outcomes.specs.declared.row.Progress.{Progress}
 use Rattle.wiring.specs.declared.work.Work.{Work}
-use Rattle.stabilizer.proofs.Step.Carrying.{kept_same, settled_kept}
-
-some_row : (a b : Progress) → ◌≡◌ {A = Option Progress} (Some a) (Some b) → a ≡ b
-some_row a b e = cc
+use Rattle.stabilizer.proofs.Step.Carrying.{kept_same, settled_kept, some_row}
 
 -- a main is its node's
 pub is_main : (p : Point) → p.part ≡ Main → p ≡ main p.node

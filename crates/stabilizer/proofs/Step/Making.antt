@@ -1,6 +1,6 @@
 -- Roots are put on one by one, and steps are made one by one.
 use Rattle.std.proofs.Common.{◌≡◌, ◌≢◌, ◌⊎◌, inl, inr, ℕ, ◌<◌, ◌+◌, ◌++◌, zero, suc, List, [], ◌∷◌, length, map, take, drop, get_or, None, refl, sym, ap, subst, ◌∙◌, arith}
-use Rattle.std.specs.Prelude.{Result, Ok, Err, OnErr, IfErr}
+use Rattle.std.specs.Prelude.{Result, Ok, Err, IfErr}
 use Rattle.std.specs.Result.{IsErrAnd}
 use Rattle.std.proofs.lemmas.List.{take_more, map-append, take-append-drop}
 use Rattle.inc_value.specs.declared.node.NodeId.{NodeId}
@@ -36,11 +36,6 @@ use Rattle.stabilizer.specs.declared.parts.Parts.{Parts}
 use Rattle.stabilizer.proofs.Round.Began.{round_on}
 use Rattle.stabilizer.proofs.Building.EveryPoint.{every_point, every_node, covers}
 
--- what holds anyhow holds on an error
-pub on_err : {A E P : Type 0} (r : Result A E) → P → OnErr r P
-on_err (Ok x) h = tt
-on_err (Err e) h = h
-
 -- what holds of any error holds of this one
 pub exit_is : {A E : Type 0} (r : Result A E) (e : E) (P : E → Type 0) → IsErrAnd r (λ x. x ≡ e) → P e → IfErr r P
 exit_is (Ok x) e P is h = absurd is
@@ -60,7 +55,7 @@ roots_one old new p more a = elim (same_or_other a p) [
 roots_join : (old mid new : Roots) (ps qs : List Point) → RootsMore old mid ps → RootsMore mid new qs → RootsMore old new (ps ++ qs)
 roots_join old mid new ps qs first next a = let x = first a in let y = next a in let c = count_append a ps qs in omega arith
 
-zero_or_more : (n : ℕ) → (n ≡ 0) ⊎ (0 < n)
+pub zero_or_more : (n : ℕ) → (n ≡ 0) ⊎ (0 < n)
 zero_or_more zero = inl refl
 zero_or_more (suc n) = inr (omega arith)
 

@@ -28,6 +28,7 @@ use Rattle.wiring.specs.Stands.{MatchesState, Counts, counts_of}
 use Rattle.node_outcomes.specs.declared.row.Progress.{Progress}
 use Rattle.wiring.specs.declared.work.Work.{Work}
 use Rattle.wiring.proofs.Holding.{graph_main, died_same}
+use Rattle.stabilizer.proofs.Step.Carrying.{some_row}
 
 pub same_number : (n : ℕ) → (n == n) ≡ true
 same_number n = grind (arith, common_steps)
@@ -35,9 +36,6 @@ same_number n = grind (arith, common_steps)
 ran_is : (made : ℕ) (n : NodeId) (ran : List NodeId) → ran_more n made (reverse ran) ≡ reverse (ran_then made ran n)
 ran_is zero n ran = refl
 ran_is (suc k) n ran = sym (reverse-append ran (n ∷ []))
-
-some_row : (a b : Progress) → ◌≡◌ {A = Option Progress} (Some a) (Some b) → a ≡ b
-some_row a b e = cc
 
 -- so many calls, builds and nodes that were added
 abbrev pub counted : ℕ → ℕ → ℕ → Counts

@@ -1,5 +1,5 @@
 -- A step of the stabilizer is a step of the machine.
-use Rattle.std.proofs.Common.{◌≡◌, ◌≢◌, ◌⊎◌, inl, inr, ℕ, zero, suc, ◌<◌, ◌≤◌, true, false, List, [], Option, None, Some, refl, sym, ap, subst, ◌∙◌, arith}
+use Rattle.std.proofs.Common.{◌≡◌, ◌≢◌, ◌⊎◌, inl, inr, ℕ, ◌<◌, ◌≤◌, true, false, List, [], Option, None, Some, refl, sym, ap, subst, ◌∙◌, arith}
 use Rattle.std.specs.Prelude.{is_some, reverse}
 use Rattle.inc_value.specs.declared.node.NodeId.{NodeId}
 use Rattle.inc_value.specs.declared.node.Point.{Point}
@@ -42,10 +42,7 @@ use Rattle.stabilizer.proofs.Step.Carrying.{needed_now, needed_before, heap_grap
 use Rattle.stabilizer.proofs.Step.Settling.{settled_stands, settled_enqueues, counted}
 use Rattle.wiring.proofs.Sight.{row_is, own_sees, keeps_answers, looks, calls_are, due_is}
 use Rattle.wiring.proofs.Holding.{graph_rows, died_same}
-
-zero_or_more : (n : ℕ) → (n ≡ 0) ⊎ (0 < n)
-zero_or_more zero = inl refl
-zero_or_more (suc n) = inr (omega arith)
+use Rattle.stabilizer.proofs.Step.Making.{zero_or_more}
 
 -- a main that was settled after it left the heap was settled
 module _ (old new : Work) (g : NecessaryPart) (p : Point) (n : NodeId) (o : Outcome) (last : Option Call) (made : ℕ)

@@ -1,6 +1,6 @@
 use Rattle.std.proofs.Common.{◌≡◌, ◌+◌, drop}
 use Rattle.script_model.specs.Formula.{places_in_all}
-use Rattle.session.proofs.InTurn.{in_view}
+use Rattle.formula_elab.proofs.LaidInTurn.{in_view}
 use Rattle.session.proofs.places.+room.Given as goal
 
 abbrev pub invariant-room_behind_each-loop-formula : goal.invariant-room_behind_each-loop-formula

@@ -6,7 +6,8 @@ use Rattle.stabilizer.specs.Round.{SettleRefused}
 use Rattle.stabilizer.proofs.Step.Giving.{none_gives}
 use Rattle.stabilizer.proofs.Step.GivingSteps.{gives_next, few_next, full_next}
 use Rattle.stabilizer.proofs.Step.MeaningKept.{means_still, wants_handed, wants_from}
-use Rattle.stabilizer.proofs.Step.Making.{exit_is, on_err, no_step, next_step, less_left, step_stops}
+use Rattle.stabilizer.proofs.Step.Making.{exit_is, no_step, next_step, less_left, step_stops}
+use Rattle.stabilizer.proofs.Building.Ends.{on_err}
 use Rattle.stabilizer.proofs.Step.Staying.{nothing_done, stays_on}
 use Rattle.stabilizer.proofs.stabilizer.settle_all.Goals as goal
 
