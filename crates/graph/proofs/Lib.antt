@@ -16,5 +16,4 @@ mod Certain
 pub mod Owning
 pub mod Fitting
 pub mod Knowing
-pub mod Flat
 pub mod Grouping

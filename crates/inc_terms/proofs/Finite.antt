@@ -1,5 +1,5 @@
 -- Among finitely many points without a cycle every walk ends.
-use Rattle.std.proofs.Common.{◌≡◌, ◌⊎◌, inl, inr, ℕ, zero, suc, ◌≤◌, ◌<◌, List, [], ◌∷◌, length, refl, sym, ◌∙◌, ap, arith}
+use Rattle.std.proofs.Common.{◌≡◌, ◌⊎◌, inl, inr, ℕ, zero, suc, ◌≤◌, List, [], ◌∷◌, length, refl, sym, ◌∙◌, ap, arith}
 use Rattle.inc_value.specs.Choice.{Among, Reaches, here}
 use Rattle.inc_terms.specs.Local.{Ends, ends}
 use Rattle.inc_terms.proofs.Local.{reach_more}
@@ -43,7 +43,3 @@ module _ {A : Type 0} (R : A → A → Type 0) (N : A → Type 0) (closed : (a b
 
   pub all_end : (points : List A) → ((a : A) → N a → Among a points) → (a : A) → N a → Ends R a
   all_end points h a na = from_free (length points) points (omega arith) a na (λ b nb. inl (h b nb))
-
--- so it does where every step goes down
-module _ {A : Type 0} (R : A → A → Type 0) (N : A → Type 0) (closed : (a b : A) → N a → R a b → N b)
-    (height : A → ℕ) (falls : (a b : A) → N a → R a b → height b < height a) where

@@ -2,7 +2,6 @@ pub mod Bags
 pub mod Composing
 pub mod Cutting
 pub mod Descending
-pub mod Dropping
 pub mod Found
 pub mod Linking
 pub mod Raising

@@ -4,7 +4,6 @@ use Rattle.std.proofs.lemmas.List.{get_or_append_left, get_or_at}
 use Rattle.std.proofs.lemmas.Option.{slice_get_within, slice_get-map, none-some}
 use Rattle.std.proofs.lemmas.Bool.{eqb-true, eq-eqb}
 use Rattle.formula_lang.specs.Fits.{GrabFits}
-use Rattle.graph.specs.Sound.{RootsFit}
 use Rattle.graph.specs.Standing.{graph}
 use Rattle.inc_value.specs.Choice.{and_then}
 use Rattle.inc_value.specs.declared.function.FnRef.{FnRef}
@@ -109,11 +108,6 @@ bind_known (Some d) is = (d, refl, by_kind d.kind is)
     by_kind : (c : Kind) → IsTrue (is_bind (Some c)) → c ≡ BindKind
     by_kind BindKind is = refl
     by_kind c is = absurd (cc)
-
--- where the roots of binds are of the types that their functions give, that of a bind that is named is of the name's
-module _ (k : Kept) (h : IsSoundSession k) (sound : arena.IsSoundArena (arena_of k))
-    (roots : RootsFit (arena_of k) (graph k.graph))
-    (name : List ℕ) (ty : Ty) (b : ℕ) (root : NodeId) (fits : GrabFits k.names name ty b) (is_right : IsRightSide k b root) where
 
 -- ---- live grabs
 

@@ -6,7 +6,6 @@ mod Ended
 mod Endings
 mod Failing
 mod Following
-mod InTurn
 mod Keeping
 mod Passing
 mod Observed

@@ -1,19 +1,13 @@
 -- A script and a graph that fit still fit after a command: what the command leaves as it was still declares what it
 -- did.
-use Rattle.std.proofs.Common.{◌≡◌, ℕ, ◌<◌, pos, length, None, refl}
-use Rattle.inc_value.specs.declared.function.FnKind.{FnKind}
-use Rattle.inc_value.specs.declared.function.FnRef.{FnRef}
+use Rattle.std.proofs.Common.{◌≡◌, ℕ, refl}
 use Rattle.inc_value.specs.declared.node.NodeId.{NodeId}
 use Rattle.inc_value.specs.declared.ty.Ty.{Ty}
-use Rattle.inc_terms.specs.Graph as graph
-use Rattle.inc_terms.specs.Graph.{Graph}
-use Rattle.inc_terms.specs.Term.{Functions}
 use Rattle.script_model.specs.Values.{Value, Int, Bool, Text, Reference}
 use Rattle.script_model.specs.Formula.{State}
-use Rattle.script_model.specs.Valid.{ValueHasType, KeepToTypes, Valid}
-use Rattle.transfer.specs.Both.{Both, graph_value}
-use Rattle.transfer.specs.Shows.{Fits}
-use Rattle.transfer.specs.Keeping.{TermsStay, RowsStay, NodesApart}
+use Rattle.script_model.specs.Valid.{ValueHasType}
+use Rattle.transfer.specs.Both.{graph_value}
+use Rattle.transfer.specs.Keeping.{NodesApart}
 
 -- ---- the nodes of known values tell them apart
 
@@ -29,11 +23,3 @@ same_known s nodes apart n m t u (Int a) (Int b) g h e = let same : a ≡ b = cc
 same_known s nodes apart n m t u (Bool a) (Bool b) g h e = let same : a ≡ b = cc in rw same refl
 same_known s nodes apart n m t u (Text a) (Text b) g h e = let same : a ≡ b = cc in rw same refl
 same_known s nodes apart n m t u v w g h e = absurd (cc)
-
--- ---- one command
-
-module _ (x : Both) (fits : Fits x) (before : Valid x.meanings x.state) (H : Functions)
-    (Q : FnKind → FnRef → Type 0) (terms : TermsStay x H Q) (G : Graph) (s : State) (nodes : ℕ → NodeId)
-    (same : (k : ℕ) → k < length x.state.entries → nodes k ≡ x.nodes k) (kept : RowsStay x.graph G)
-    (none_dead : (n : NodeId) → x.died n ≡ None) (clock : G.now ≡ pos s.now) (keep : KeepToTypes x.meanings)
-    (valid : Valid x.meanings s) where

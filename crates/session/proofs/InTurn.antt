@@ -1,1 +1,0 @@
--- Formulas one after the other.
