@@ -1,9 +1,11 @@
 -- Bodies over which the same functions are known, and make the same right sides, make the same one for one.
 use Rattle.std.proofs.Common.{◌≡◌, ◌&&◌, ℕ, suc, Bool, true, false, List, [], ◌∷◌, Option, None, Some, slice_get, length, refl, ap, sym, ◌∙◌}
 use Rattle.inc_value.specs.Sig.{Signature}
-use Rattle.inc_value.specs.Ty.{same_ty, same_types}
+use Rattle.inc_value.specs.Ty.{same_base, same_ty, same_types}
 use Rattle.inc_value.specs.declared.function.FnKind.TheVariants as kind
 use Rattle.inc_value.specs.declared.function.FnRef.{FnRef}
+use Rattle.inc_value.specs.declared.ty.Base.{Base}
+use Rattle.inc_value.specs.declared.ty.Base.TheVariants as base
 use Rattle.inc_value.specs.declared.ty.Ty.{Ty}
 use Rattle.inc_value.specs.declared.ty.Ty.TheVariants as ty
 use Rattle.inc_value.proofs.SameTypes.{ty_true, types_true}
@@ -11,7 +13,6 @@ use Rattle.node_arena.specs.Meanings.{SameKnown}
 use Rattle.node_arena.specs.RightSide.{RightSide, SameSides}
 use Rattle.script_functions.specs.Bodies.{Body}
 use Rattle.script_functions.specs.Keeping.{Maker, has_types, is_known, makers, same_signature, side_in, side_made}
-use Rattle.script_functions.proofs.MoreBodies.{ty_itself}
 
 -- ---- signatures
 
@@ -23,6 +24,17 @@ are_true : (a b : Bool) → (a && b) ≡ true → (a ≡ true) × (b ≡ true)
 are_true true true is = (refl, refl)
 are_true true false is = absurd (cc)
 are_true false b is = absurd (cc)
+
+base_itself : (a : Base) → same_base a a ≡ true
+base_itself base.Int = refl
+base_itself base.Bool = refl
+base_itself base.Text = refl
+
+pub ty_itself : (a : Ty) → same_ty a a ≡ true
+ty_itself ty.Int = refl
+ty_itself ty.Bool = refl
+ty_itself ty.Text = refl
+ty_itself (ty.Node a) = base_itself a
 
 types_itself : (tys : List Ty) → same_types tys tys ≡ true
 types_itself [] = refl

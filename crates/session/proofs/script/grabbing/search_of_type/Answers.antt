@@ -4,7 +4,7 @@ use Rattle.formula_lang.specs.NamesView.{declared_view}
 use Rattle.inc_value.proofs.SameTypes.{ty_same, ty_true}
 use Rattle.inc_value.specs.Ty.{same_ty}
 use Rattle.session.proofs.Grabbing.{none_more, own_typed, type_of_own}
-use Rattle.script_functions.proofs.MoreBodies.{ty_itself}
+use Rattle.session.proofs.SameMakers.{ty_itself}
 use Rattle.session.proofs.script.grabbing.search_of_type.Goals as goal
 use Rattle.session.proofs.script.grabbing.search_of_type.Goals.{else-is_own_node-via-then-is_own_node+else-eq, else-is_own_node-via-else-is_own_node}
 use Rattle.session.specs.Grabbed.{IsOwnOfType}
