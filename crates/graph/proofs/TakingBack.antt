@@ -88,8 +88,8 @@ module _ (known : FnRef → Bool) (right : FnRef → RightSide) (old new : Arena
 module _ {F : Type 0} {Of : NodeId → Type 0} (old new : GraphView F) (keeps : KeepsBeside Of old new) where
   -- none more is
   pub needed_still : (p : Point) → IsNeeded new p → IsNeeded old p
-  needed_still = needed_has new (IsNeeded old) (λ p is. needed_root old p (let r = keeps.roots p in omega (arith, r, is)))
-      (λ a b link need. needed_linked old a b need (let l = keeps.links a b in omega (arith, l, link)))
+  needed_still = needed_has new (IsNeeded old) (λ p is. needed_root old p (let r = keeps.need.roots p in omega (arith, r, is)))
+      (λ a b link need. needed_linked old a b need (let l = keeps.need.links a b in omega (arith, l, link)))
 
   -- what is needed stays below a count of ids
   pub below_still : (count : ℕ) → ((p : Point) → IsNeeded old p → p.node.gen_ < count) → (p : Point) → IsNeeded new p → p.node.gen_ < count
