@@ -24,7 +24,7 @@ added_still (Err e) old new row adds keeps = keeps.beside
 -- the functions stay
 pub functions_after : {F E : Type 0} (r : Result NodeId E) (old new : GraphView F) (row : Row) → IfOk r (λ id. Adds old new id row)
     → OnErr r (KeepsAll old new) → new.functions ≡ old.functions
-functions_after r old new row adds keeps = (added_still r old new row adds keeps).functions
+functions_after r old new row adds keeps = (added_still r old new row adds keeps).top.functions
 
 -- who stands in no scope still does
 pub unscoped_after : {F E : Type 0} (r : Result NodeId E) (old new : GraphView F) (row : Row) (count : ℕ)
