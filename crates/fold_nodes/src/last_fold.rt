@@ -1,5 +1,5 @@
 //! The children's values from which a fold was last computed.
-ghost use Rattle.std.specs.Prelude.{◌≡◌, ◌↔◌, false, Some, None, IsTrue, option_copied};
+ghost use Rattle.std.specs.Prelude.{◌≡◌, ◌↔◌, false, Some, None, IfSome, IsTrue, option_copied};
 ghost use Rattle.map_nodes.specs.Kept.{IsStale};
 
 use inc_value::Value;
@@ -40,9 +40,10 @@ impl LastFold {
         }
     }
 
-    /// Keeps the children's values in place of those before. This takes no memory.
-    pub fn keep(&mut self, kids: SmallVec<Value, 2>)
-        ensures { self.new ≡ Some kids.items }
+    /// Keeps the children's values of a list in place of those before, which the list gets. This takes no memory.
+    pub fn keep(&mut self, kids: &mut SmallVec<Value, 2>)
+        ensures kept { self.new ≡ Some kids.old.items }
+        ensures given { IfSome self.old (λ before. kids.new.items ≡ before) }
     {
         self.kids.keep(kids);
     }

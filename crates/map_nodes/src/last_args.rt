@@ -1,5 +1,5 @@
 //! The values on which a function was last called.
-ghost use Rattle.std.specs.Prelude.{◌≡◌, ◌↔◌, false, Some, None, IsTrue, option_copied};
+ghost use Rattle.std.specs.Prelude.{◌≡◌, ◌↔◌, false, Some, None, IfSome, IsTrue, option_copied};
 ghost use Rattle.map_nodes.specs.Kept.{IsStale};
 
 use crate::kept::are_kept;
@@ -7,6 +7,7 @@ use inc_value::Value;
 use smallvec::SmallVec;
 use std::alloc::Global;
 use std::marker::Model;
+use std::mem;
 
 /// The values on which a function was last called, if it was called. Two values that are no texts take no memory of
 /// their own.
@@ -44,11 +45,12 @@ impl LastArgs {
         }
     }
 
-    /// Keeps the values in place of those before. This takes no memory.
-    pub fn keep(&mut self, args: SmallVec<Value, 2>)
-        ensures { self.new ≡ Some args.items }
+    /// Keeps the values of a list in place of those before, which the list gets. This takes no memory.
+    pub fn keep(&mut self, args: &mut SmallVec<Value, 2>)
+        ensures kept { self.new ≡ Some args.old.items }
+        ensures given { IfSome self.old (λ before. args.new.items ≡ before) }
     {
-        self.args = args;
+        mem::swap(&mut self.args, args);
         self.any = true;
     }
 

@@ -41,10 +41,7 @@ pub(crate) fn call_map<F: Functions>(
     if ran.reserve(1).is_err() {
         return Err(AllocError);
     }
-    let mut arguments = match SmallVec::with_capacity(alloc, kids.len()) {
-        Ok(arguments) => arguments,
-        Err(AllocError) => return Err(AllocError),
-    };
+    let mut arguments = SmallVec::new(alloc);
     if fill_shown(alloc, rows, kids, &mut arguments).is_err() {
         drop(arguments);
         return Err(AllocError);
@@ -64,7 +61,8 @@ pub(crate) fn call_map<F: Functions>(
             return Err(AllocError);
         }
     };
-    keep_map(rows, Point::main(node), arguments, value);
+    keep_map(rows, Point::main(node), &mut arguments, value);
+    drop(arguments);
     ran.push_reserved(node);
     Ok(Outcome::Val(copy))
 }
@@ -96,10 +94,7 @@ pub(crate) fn call_fold<F: Functions>(
     if ran.reserve(1).is_err() {
         return Err(AllocError);
     }
-    let mut arguments = match SmallVec::with_capacity(alloc, kids.len()) {
-        Ok(arguments) => arguments,
-        Err(AllocError) => return Err(AllocError),
-    };
+    let mut arguments = SmallVec::new(alloc);
     if fill_shown(alloc, rows, kids, &mut arguments).is_err() {
         drop(arguments);
         return Err(AllocError);
@@ -122,7 +117,8 @@ pub(crate) fn call_fold<F: Functions>(
     if !arguments.is_empty() {
         ran.push_reserved(node);
     }
-    keep_fold(rows, Point::main(node), arguments, value);
+    keep_fold(rows, Point::main(node), &mut arguments, value);
+    drop(arguments);
     Ok(Outcome::Val(copy))
 }
 

@@ -82,9 +82,9 @@ impl LastCall {
         }
     }
 
-    /// Keeps a call of a map's function.
-    pub(crate) fn keep_map(&mut self, arguments: SmallVec<Value, 2>, value: Value)
-        ensures { self.new ≡ Some (record { arguments = arguments.items; result = value }) }
+    /// Keeps a call of a map's function on the values of a list, which gets those before.
+    pub(crate) fn keep_map(&mut self, arguments: &mut SmallVec<Value, 2>, value: Value)
+        ensures { self.new ≡ Some (record { arguments = arguments.old.items; result = value }) }
     {
         if let Kept::Map(kept, given) = &mut self.kept {
             kept.keep(arguments);
@@ -96,9 +96,9 @@ impl LastCall {
         drop(mem::replace(&mut self.kept, Kept::Map(kept, value)));
     }
 
-    /// Keeps the calls of a fold's function.
-    pub(crate) fn keep_fold(&mut self, kids: SmallVec<Value, 2>, value: Value)
-        ensures { self.new ≡ Some (record { arguments = kids.items; result = value }) }
+    /// Keeps the calls of a fold's function on the values of a list, which gets those before.
+    pub(crate) fn keep_fold(&mut self, kids: &mut SmallVec<Value, 2>, value: Value)
+        ensures { self.new ≡ Some (record { arguments = kids.old.items; result = value }) }
     {
         if let Kept::Fold(kept, given) = &mut self.kept {
             kept.keep(kids);

@@ -159,29 +159,29 @@ pub fn forget_outcome(rows: &mut PointMap<Progress>, p: Point)
     row.outcome = None;
 }
 
-/// Keeps the last call of a map's function.
+/// Keeps the last call of a map's function, on the values of a list, which gets those before.
 pub(crate) fn keep_map(
     rows: &mut PointMap<Progress>,
     p: Point,
-    arguments: SmallVec<Value, 2>,
+    arguments: &mut SmallVec<Value, 2>,
     value: Value,
 )
     requires there { Holds rows.old p }
-    ensures { IsRewritten rows.old rows.new p (with_call (record { arguments = arguments.items; result = value })) }
+    ensures { IsRewritten rows.old rows.new p (with_call (record { arguments = arguments.old.items; result = value })) }
 {
     let row = rows.get_mut(p).unwrap();
     row.last.keep_map(arguments, value);
 }
 
-/// Keeps the last calls of a fold's function.
+/// Keeps the last calls of a fold's function, on the values of a list, which gets those before.
 pub(crate) fn keep_fold(
     rows: &mut PointMap<Progress>,
     p: Point,
-    kids: SmallVec<Value, 2>,
+    kids: &mut SmallVec<Value, 2>,
     value: Value,
 )
     requires there { Holds rows.old p }
-    ensures { IsRewritten rows.old rows.new p (with_call (record { arguments = kids.items; result = value })) }
+    ensures { IsRewritten rows.old rows.new p (with_call (record { arguments = kids.old.items; result = value })) }
 {
     let row = rows.get_mut(p).unwrap();
     row.last.keep_fold(kids, value);

@@ -107,7 +107,21 @@ pub(crate) fn show(rows: &PointMap<Progress>, nodes: &[NodeId], values: &[Value]
     true
 }
 
-/// Fills an empty list with copies of the values that the nodes show. Copies of values that are no texts take no memory.
+/// Makes room for so many values in an empty list. This takes memory only where the list lacks the room.
+fn make_room(values: &mut SmallVec<Value, 2>, n: usize) -> Result<(), AllocError>
+    requires empty { values.old.items ≡ [] }
+    ensures items { values.new.items ≡ [] }
+    ensures room { OnOk result (n ≤ values.new.capacity) }
+    ensures had_room { n ≤ values.old.capacity → IsOk result }
+{
+    if n <= values.capacity() {
+        return Ok(());
+    }
+    values.reserve_exact(n)
+}
+
+/// Fills an empty list with copies of the values that the nodes show. Where it has room for them, copies of values that
+/// are no texts take no memory.
 pub(crate) fn fill_shown(
     alloc: Global,
     rows: &PointMap<Progress>,
@@ -115,10 +129,11 @@ pub(crate) fn fill_shown(
     values: &mut SmallVec<Value, 2>,
 ) -> Result<(), AllocError>
     requires empty { values.old.items ≡ [] }
-    requires room { length nodes.now ≤ values.old.capacity }
     ensures values { OnOk result (values.new.items ≡ filter_map (shown_in rows.now) nodes.now) }
-    ensures scalar { HasNoText (filter_map (shown_in rows.now) nodes.now) → IsOk result }
+    ensures scalar { length nodes.now ≤ values.old.capacity → HasNoText (filter_map (shown_in rows.now) nodes.now)
+        → IsOk result }
 {
+    make_room(values, nodes.len())?;
     for node in nodes {
         if let Some(value) = value_shown(rows, *node) {
             values.push_reserved(value.copy(alloc)?);

@@ -30,7 +30,7 @@ loop-node-preserved c =
     ]
 
 pub returns-in_err-copy-clause-scalar : goal.returns-in_err-copy-clause-scalar
-returns-in_err-copy-clause-scalar c none =
+returns-in_err-copy-clause-scalar c room none =
     let rows = c.args.rows.now in let nodes = c.args.nodes.now in let i = c.loop-node.node-index in
     let shown : value_shown rows (get_or nodes i (record { slot = 0; gen_ = 0 })) ≡ Some c.in-Some.value.now =
     sym (rw c.in-Some.is at c.value_shown.ensures) in
