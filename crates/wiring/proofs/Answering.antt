@@ -11,18 +11,18 @@ use Rattle.node_outcomes.specs.declared.row.Progress.{Progress}
 use Rattle.node_outcomes.specs.declared.row.Stage.{Stage}
 use Rattle.node_outcomes.specs.declared.row.Stage.TheVariants as code
 use Rattle.point_map.specs.Rows.{Rows, at}
-use Rattle.wiring.specs.Answers.{WireAnswers, TakenAnswers, PassesGate, GateAnswers, AsksGate, ConnectAnswers}
+use Rattle.wiring.specs.Answers.{EndsWired, WireAnswers, TakenAnswers, PassesGate, GateAnswers, AsksGate, ConnectAnswers}
 use Rattle.wiring.specs.Growing.{Grows}
 use Rattle.wiring.specs.Kept.{IsKept}
 use Rattle.wiring.specs.Stands.{PointInHand, hand}
-use Rattle.wiring.specs.Wiring.{Wires, WiresTaken, WireRefused, StaysInHand, KeepsPlaces}
+use Rattle.wiring.specs.Wiring.{Wires, WiresTaken, StaysInHand, KeepsPlaces}
 use Rattle.wiring.specs.declared.refused.Refused.{Refused}
 use Rattle.wiring.specs.declared.work.Work.{Work}
 use Rattle.wiring.proofs.Gating.{lacks_gated, ran_gate}
 use Rattle.wiring.proofs.Growing.{grows_then}
 use Rattle.wiring.proofs.Holding.{has_links_same}
 use Rattle.wiring.proofs.Lifting.{Lifts, DueAfter, lifted_wires, lifted_refused, one_on, one_gone, one_refused, stays_wires, stays_refused, wires_taken}
-use Rattle.wiring.proofs.Raising.{only_rows, staged_places, staged_grows}
+use Rattle.wiring.proofs.Raising.{staged_places, staged_grows}
 use Rattle.wiring.proofs.TakingAll.{places_then}
 
 -- ---- what stays
@@ -55,40 +55,42 @@ pub staged_owed : (arena : Arena) (old : Work) (rows : Rows Progress) (p : Point
     → IsOwed arena old (record old { rows = rows }) p links
 staged_owed arena old rows p st links w lifts = record {
   lifts = lifts;
-  places = staged_places old (record old { rows = rows }) p st w (only_rows old rows);
-  grows = λ next g. staged_grows old (record old { rows = rows }) p st w (only_rows old rows) next g;
+  places = staged_places old rows p st w;
+  grows = λ next g. staged_grows old rows p st w next g;
 }
 
--- ---- nothing was done
+-- ---- answers
 
+pub ends_ok : {A wires : Type 0} {refuses : Refused → Type 0} (x : A) (arena : Arena) (old new : Work) → wires → KeepsPlaces old new → IsKept arena new
+    → Grows old new → EndsWired wires refuses arena old new (Ok x)
+ends_ok x arena old new wires places kept grows = record { wired = wires; refused = tt; places = places; kept = kept; pushed = grows }
+
+pub ends_refused : {A wires : Type 0} {refuses : Refused → Type 0} (r : Result A Refused) (e : Refused) (arena : Arena) (old new : Work)
+    → IsErrAnd r (λ y. y ≡ e) → refuses e → KeepsPlaces old new → IsKept arena new → EndsWired wires refuses arena old new r
+ends_refused (Ok x) e arena old new is h places kept = absurd is
+ends_refused {refuses = refuses} (Err y) e arena old new is h places kept =
+    record { wired = tt; refused = subst refuses (sym is) h; places = places; kept = kept; pushed = tt }
+
+-- what is answered from where something was done before
+ends_as : {A wires wires' : Type 0} {refuses refuses' : Refused → Type 0} (r : Result A Refused) (arena : Arena) (old mid new : Work)
+    → (wires → wires') → ((e : Refused) → refuses e → refuses' e) → KeepsPlaces old mid → (Grows mid new → Grows old new)
+    → EndsWired wires refuses arena mid new r → EndsWired wires' refuses' arena old new r
+ends_as (Ok x) arena old mid new on off places grows a =
+    record { wired = on a.wired; refused = tt; places = places_then old mid new places a.places; kept = a.kept; pushed = grows a.pushed }
+ends_as (Err e) arena old mid new on off places grows a =
+    record { wired = tt; refused = off e a.refused; places = places_then old mid new places a.places; kept = a.kept; pushed = tt }
+
+-- nothing was done
 pub done_answers : {A : Type 0} (x : A) (arena : Arena) (work : Work) (p : Point) → IsKept arena work → Wires arena work work (Some (hand p []))
     → WireAnswers arena work work (Some (hand p [])) (Ok x)
-done_answers x arena work p kept wires = record {
-  wired = wires;
-  refused = tt;
-  places = same_places work;
-  kept = kept;
-  pushed = grows_here work;
-}
+done_answers x arena work p kept wires = ends_ok x arena work work wires (same_places work) kept (grows_here work)
 
--- ---- all that it is owed was asked for
-
+-- all that it is owed was asked for
 pub owed_answers : {A : Type 0} (r : Result A Refused) (arena : Arena) (old mid new : Work) (p : Point) (links : List Point)
     → IsOwed arena old mid p links → WireAnswers arena mid new (Some (hand p links)) r → WireAnswers arena old new (Some (hand p [])) r
-owed_answers (Ok x) arena old mid new p links owed a = record {
-  wired = lifted_wires arena old mid p links owed.lifts new a.wired;
-  refused = tt;
-  places = places_then old mid new owed.places a.places;
-  kept = a.kept;
-  pushed = owed.grows new a.pushed;
-}
-owed_answers (Err e) arena old mid new p links owed a = record {
-  wired = tt;
-  refused = lifted_refused arena old mid p links owed.lifts new e a.refused;
-  places = places_then old mid new owed.places a.places;
-  kept = a.kept;
-  pushed = tt;
-}
+owed_answers r arena old mid new p links owed a =
+    ends_as r arena old mid new (lifted_wires arena old mid p links owed.lifts new) (lifted_refused arena old mid p links owed.lifts new) owed.places
+    (owed.grows new) a
 
 -- ---- the one link that it is owed was
 
@@ -96,14 +98,8 @@ module _ (arena : Arena) (old mid : Work) (p q : Point) (owed : IsOwed arena old
   -- it was refused
   pub refusal_answers : {A : Type 0} (r : Result A Refused) (e : Refused) → IsErrAnd r (λ y. y ≡ e) → ConnectAnswers arena mid con p q (Err e)
       → WireAnswers arena old con (Some (hand p [])) r
-  refusal_answers (Ok x) e is a = absurd is
-  refusal_answers (Err y) e is a = record {
-    wired = tt;
-    refused = subst (WireRefused arena old con (Some (hand p []))) (sym is) (one_refused arena old mid p q owed.lifts due con e a.refused);
-    places = places_then old mid con owed.places a.places;
-    kept = a.kept;
-    pushed = tt;
-  }
+  refusal_answers r e is a = ends_refused r e arena old con is (one_refused arena old mid p q owed.lifts due con e a.refused)
+      (places_then old mid con owed.places a.places) a.kept
 
   pub refusal_gates : (r : Result Bool Refused) (e : Refused) → IsErrAnd r (λ y. y ≡ e) → ConnectAnswers arena mid con p q (Err e)
       → GateAnswers arena old con p r
@@ -125,7 +121,7 @@ module _ (arena : Arena) (old mid : Work) (p q : Point) (owed : IsOwed arena old
     gone_wires off = one_gone arena old mid p q owed.lifts due con (a.gone off).0
 
     pub gone_answers : {A : Type 0} (x : A) → IsFalse on → WireAnswers arena old con (Some (hand p [])) (Ok x)
-    gone_answers x off = record { wired = gone_wires off; refused = tt; places = link_places; kept = a.kept; pushed = link_grows }
+    gone_answers x off = ends_ok x arena old con (gone_wires off) link_places a.kept link_grows
 
     pub gone_gates : (off : Bool) → IsFalse on → IsFalse off → GateAnswers arena old con p (Ok off)
     gone_gates off f is = record {
@@ -144,13 +140,8 @@ module _ (arena : Arena) (old mid : Work) (p q : Point) (owed : IsOwed arena old
     -- and what follows is done
     pub then_answers : {A : Type 0} (x : A) → IsTrue on → (new : Work) → Wires arena con new (Some (hand p [])) → KeepsPlaces con new
         → IsKept arena new → Grows con new → WireAnswers arena old new (Some (hand p [])) (Ok x)
-    then_answers x t new wires places kept grows = record {
-      wired = stays_wires arena old con new p (link_stays t) wires;
-      refused = tt;
-      places = places_then old con new link_places places;
-      kept = kept;
-      pushed = grows_along old con new link_places link_grows grows;
-    }
+    then_answers x t new wires places kept grows = ends_ok x arena old new (stays_wires arena old con new p (link_stays t) wires)
+        (places_then old con new link_places places) kept (grows_along old con new link_places link_grows grows)
 
   -- nothing is to follow
   pub link_answers : {A : Type 0} (x : A) (on : Bool) → ConnectAnswers arena mid con p q (Ok on) → (IsTrue on → Wires arena con con (Some (hand p [])))
@@ -199,52 +190,22 @@ gate_asked on arena old mid new p bind stays places grows need gated row a = rec
 
 pub taken_answers : {A : Type 0} (r : Result A Refused) (arena : Arena) (old new : Work) (p : Point) → WireAnswers arena old new (Some (hand p [])) r
     → TakenAnswers arena old new p r
-taken_answers (Ok x) arena old new p a = record {
-  wired = wires_taken arena old new p a.wired;
-  refused = tt;
-  places = a.places;
-  kept = a.kept;
-  pushed = a.pushed;
-}
-taken_answers (Err e) arena old new p a = record { wired = tt; refused = a.refused; places = a.places; kept = a.kept; pushed = tt }
+taken_answers r arena old new p a = ends_as r arena old old new (wires_taken arena old new p) (λ e h. h) (same_places old) (λ g. g) a
 
 -- its gate's link was refused
 pub gate_refused : {A : Type 0} (r : Result A Refused) (e : Refused) (arena : Arena) (old new : Work) (p : Point) → IsErrAnd r (λ y. y ≡ e)
     → GateAnswers arena old new p (Err e) → TakenAnswers arena old new p r
-gate_refused (Ok x) e arena old new p is a = absurd is
-gate_refused (Err y) e arena old new p is a = record {
-  wired = tt;
-  refused = subst (WireRefused arena old new (Some (hand p []))) (sym is) a.refused;
-  places = a.places;
-  kept = a.kept;
-  pushed = tt;
-}
+gate_refused r e arena old new p is a = ends_refused r e arena old new is a.refused a.places a.kept
 
 -- it doesn't pass
 pub gate_left : {A : Type 0} (x : A) (on : Bool) (arena : Arena) (old new : Work) (p : Point) → IsFalse on → GateAnswers arena old new p (Ok on)
     → TakenAnswers arena old new p (Ok x)
-gate_left x on arena old new p off a = record { wired = a.left off; refused = tt; places = a.places; kept = a.kept; pushed = a.pushed }
+gate_left x on arena old new p off a = ends_ok x arena old new (a.left off) a.places a.kept a.pushed
 
 -- it passes, and is given its other links
 pub gate_passed : {A : Type 0} (r : Result A Refused) (on : Bool) (arena : Arena) (old mid new : Work) (p : Point) → IsTrue on
     → GateAnswers arena old mid p (Ok on) → WireAnswers arena mid new (Some (hand p [])) r → TakenAnswers arena old new p r
-gate_passed {A} r on arena old mid new p t a w = taken_answers r arena old new p (by r w)
-  where
-    stays : StaysInHand arena old mid p
-    stays = (a.passes t).in_hand
-
-    by : (r : Result A Refused) → WireAnswers arena mid new (Some (hand p [])) r → WireAnswers arena old new (Some (hand p [])) r
-    by (Ok x) w = record {
-      wired = stays_wires arena old mid new p stays w.wired;
-      refused = tt;
-      places = places_then old mid new a.places w.places;
-      kept = w.kept;
-      pushed = grows_along old mid new a.places a.pushed w.pushed;
-    }
-    by (Err e) w = record {
-      wired = tt;
-      refused = stays_refused arena old mid new p stays e w.refused;
-      places = places_then old mid new a.places w.places;
-      kept = w.kept;
-      pushed = tt;
-    }
+gate_passed r on arena old mid new p t a w =
+    let stays = (a.passes t).in_hand in
+    taken_answers r arena old new p (ends_as r arena old mid new (stays_wires arena old mid new p stays) (stays_refused arena old mid new p stays) a.places
+    (grows_along old mid new a.places a.pushed) w)

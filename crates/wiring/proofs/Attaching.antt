@@ -1,7 +1,7 @@
 -- A main that waits is linked to its right side.
 use Rattle.std.proofs.Common.{◌≡◌, inl, inr, ◌++◌, true, List, [], ◌∷◌, map, Option, None, Some, refl, sym, ap, subst, ◌∙◌, arith}
-use Rattle.std.specs.Prelude.{is_some, IsSome}
-use Rattle.std.proofs.lemmas.Option.{none-some}
+use Rattle.std.specs.Prelude.{IsSome}
+use Rattle.std.proofs.lemmas.Option.{none-some, same_Some}
 use Rattle.inc_value.specs.declared.node.NodeId.{NodeId}
 use Rattle.inc_value.specs.declared.node.Part.TheVariants.{Main, Change}
 use Rattle.inc_value.specs.declared.node.Point.{Point}
@@ -26,7 +26,7 @@ use Rattle.stabilize_round.proofs.Machine.{moves_keep}
 use Rattle.stabilize_round.proofs.Points.{at_same, count_append}
 use Rattle.node_outcomes.specs.Computing.{has_part}
 use Rattle.wiring.specs.Kept.{IsKept}
-use Rattle.node_outcomes.specs.Row.{IsRewritten, with_stage, settled_in, stage_in, stage_of, outcome_in}
+use Rattle.node_outcomes.specs.Row.{IsRewritten, with_stage, settled_in, stage_in, outcome_in}
 use Rattle.wiring.specs.Stands.{MatchesState, hand, Counts}
 use Rattle.node_outcomes.specs.Choosing.{right_by, right_in}
 use Rattle.wiring.specs.Turning.{IsWaiting}
@@ -36,10 +36,10 @@ use Rattle.node_outcomes.specs.declared.row.Progress.{Progress}
 use Rattle.node_outcomes.specs.declared.row.Stage.{Stage}
 use Rattle.node_outcomes.specs.declared.row.Stage.TheVariants as code
 use Rattle.wiring.specs.declared.work.Work.{Work}
-use Rattle.wiring.proofs.Linking.{some_or_none}
 use Rattle.wiring.proofs.Lifting.{full_finishes}
-use Rattle.wiring.proofs.Raising.{wired_before, wired_after, owed_none, only_rows, staged_kept, staged_now, up_wiring, up_stands, leaves_hand, own_alone, row_of_state, stage_is}
+use Rattle.wiring.proofs.Raising.{wired_before, wired_after, staged_now, up_stands, leaves_hand, hand_empty, own_alone}
 use Rattle.wiring.proofs.InHand.{nothing}
+use Rattle.wiring.proofs.Staying.{staged_row, row_of_state, stage_is, stage_was, out_is}
 use Rattle.wiring.proofs.Unlinked.{raised_unlinked}
 use Rattle.wiring.proofs.Holding.{right_at, targets_at}
 use Rattle.wiring.specs.Graph.{graph_at}
@@ -50,27 +50,7 @@ pub stays_off : (arena : Arena) (work : Work) (n : NodeId) → (Needed work.grap
 stays_off arena work n not rowed F z s counts t = (
   s,
   plainly here,
-  record {
-    graph = on.graph;
-    out = on.out;
-    last = on.last;
-    never = on.never;
-    stale = on.stale;
-    links = on.links;
-    root = on.root;
-    needed = on.needed;
-    height = on.height;
-    heap = on.heap;
-    settled = on.settled;
-    stage = on.stage;
-    owed = λ a. on.owed a ∙ owed_none (main n) a;
-    todo = λ a h. elim (on.todo a h) [ inl k ↦ inl k | inr e ↦ absurd (waits_not a e h) ];
-    retries = on.retries;
-    died = on.died;
-    ran = on.ran;
-    counts = on.counts;
-    given = on.given;
-  },
+  hand_empty s arena work counts (main n) on (λ h. waits_not (main n) refl h),
   λ a h need. elim (t.unlinked a h need) [
     | inl b ↦ inl b
     | inr k ↦ elim k [ inl g ↦ inr (inl g) | inr e ↦ absurd (waits_not a e h) ]
@@ -80,20 +60,11 @@ stays_off arena work n not rowed F z s counts t = (
     on : MatchesState arena work counts (Some (hand (main n) [])) s
     on = t.stands
 
-    static_of : (x : Stage) → stage_of x ≡ machine.Static → x ≡ code.Static
-    static_of code.Bare e = absurd (cc)
-    static_of code.Gated e = absurd (cc)
-    static_of code.Static e = refl
-    static_of code.Full e = absurd (cc)
-
-    out : (x : Option Progress) → at work.rows (main n) ≡ x → is_some x ≡ true → Needed work.graph (main n) → s.stage (main n) ≡ machine.Static → ⊥
-    out None e some need stage = cc
-    out (Some k) e some need stage = not need k e (static_of k.stage (sym (on.stage (main n) k e) ∙ stage))
-
     waits_not : (a : Point) → a ≡ main n → s.todo a ≡ true → ⊥
     waits_not a e h =
         let o = t.only (subst (λ (x : Point). s.todo x ≡ true) e h) in
-        out (at work.rows (main n)) refl rowed ((on.needed (main n)).0 o.0) o.1
+        let k = staged_row (at work.rows (main n)) code.Static (stage_was on (main n) code.Static rowed o.1) in
+        not ((on.needed (main n)).0 o.0) k.0 k.1 k.2
 
 -- a needed main that waited for its node's change, which ran, has this stage now: all links
 pub record WasRaised (arena : Arena) (n : NodeId) (r : Row) (old : Work) (rows : Rows Progress) : Type 0 where
@@ -110,15 +81,12 @@ pub was_raised : (arena : Arena) (n : NodeId) (old : Work) (rows : Rows Progress
     → WasRaised arena n r old rows
 was_raised arena n old rows p r is given found kept own waited w = record {
   row = sym found;
-  two = subst (λ (x : Row). IsSome (subject_of x.def)) (same given.0 (sym given.1 ∙ sym found)) given.2;
+  two = subst (λ (x : Row). IsSome (subject_of x.def)) (same_Some given.0 r (sym given.1 ∙ sym found)) given.2;
   kept = kept;
   own = own;
   waited = waited;
   rewritten = subst (λ (x : Point). IsRewritten old.rows rows x (with_stage code.Full)) is w;
 }
-  where
-    same : (x : Row) → ◌≡◌ {A = Option Row} (Some x) (Some r) → x ≡ r
-    same x e = cc
 
 module _ (arena : Arena) (n : NodeId) (r : Row) (old : Work) (rows : Rows Progress) (was : WasRaised arena n r old rows) where
   row : row_at arena n ≡ Some r
@@ -136,9 +104,6 @@ module _ (arena : Arena) (n : NodeId) (r : Row) (old : Work) (rows : Rows Progre
 
   abbrev mid : Work
   mid = record old { rows = rows }
-
-  pub full_kept : IsKept arena mid
-  full_kept = staged_kept old mid (main n) code.Full w (only_rows old rows) arena kept
 
   abbrev right : Option NodeId
   right = right_in old.rows old.roots n r.def
@@ -172,23 +137,20 @@ module _ (arena : Arena) (n : NodeId) (r : Row) (old : Work) (rows : Rows Progre
     on = t.stands
 
     row_is : s.graph.row n ≡ Some r
-    row_is = row_of_state s arena old counts (main n) [] n on ∙ row
+    row_is = row_of_state on n ∙ row
 
     is_static : s.stage (main n) ≡ machine.Static
-    is_static = stage_is s arena old counts (main n) [] code.Static on was.waited.stage
+    is_static = stage_is on (main n) code.Static was.waited.stage
 
     is_needed : s.needed (main n) ≡ true
     is_needed = (on.needed (main n)).1 was.waited.needed
 
-    out_is : s.out (change n) ≡ outcome_in (at old.rows (change n))
-    out_is = elim (some_or_none (at old.rows (change n))) [
-      | inl k ↦ on.out (change n) k.0 k.1 ∙ ap outcome_in (sym k.1)
-      | inr none ↦ absurd (let e = kept.rows (change n) ∙ (ap (λ (x : Option Row). has_part x Change) row ∙ was.two) in let f = ap is_some none in cc)
-    ]
+    own_rowed : Holds old.rows (change n)
+    own_rowed = kept.rows (change n) ∙ (ap (λ (x : Option Row). has_part x Change) row ∙ was.two)
 
     pub targets_are_owed : targets s.graph n r.def (s.out (change n)) ≡ owed
     targets_are_owed =
-        ap (targets s.graph n r.def) out_is
+        ap (targets s.graph n r.def) (out_is on (change n) own_rowed)
         ∙ (ap (λ (G : Graph). targets G n r.def (outcome_in (at old.rows (change n)))) on.graph ∙ targets_at arena old n r row)
 
     pub raise_is : Raise s (main n) machine.Full owed
@@ -216,10 +178,10 @@ module _ (arena : Arena) (n : NodeId) (r : Row) (old : Work) (rows : Rows Progre
     full = raised s (main n) machine.Full owed
 
     pub full_moves : Reaches (Wiring F z) s full
-    full_moves = up_wiring old mid (main n) code.Full w (only_rows old rows) F z s arena counts owed on raise_is
+    full_moves = step (move.raise raise_is refl, tt) here
 
     pub on_full : MatchesState arena mid counts (Some (hand (main n) owed)) full
-    on_full = up_stands old mid (main n) code.Full w (only_rows old rows) F z s arena counts owed on raise_is
+    on_full = up_stands old rows (main n) code.Full w s arena counts owed on
 
     full_inv : Invariant F z full
     full_inv = moves_keep F z s full (step (move.raise raise_is refl) here) t.holds
@@ -255,7 +217,7 @@ module _ (arena : Arena) (n : NodeId) (r : Row) (old : Work) (rows : Rows Progre
     }
 
   pub full_in : stage_in (at rows (main n)) ≡ Some code.Full
-  full_in = staged_now old mid (main n) code.Full w (only_rows old rows) rowed
+  full_in = staged_now old rows (main n) code.Full w rowed
 
   -- there is no right side
   pub none_attached : right ≡ None → Attaches arena old mid n

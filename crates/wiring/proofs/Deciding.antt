@@ -1,5 +1,5 @@
 -- The test of need is exact.
-use Rattle.std.proofs.Common.{◌≡◌, ◌⊎◌, inl, inr, ℕ, zero, suc, ◌+◌, ◌<◌, ◌≤◌, ◌&&◌, Bool, true, cond, List, [], ◌∷◌, refl, subst, arith}
+use Rattle.std.proofs.Common.{◌≡◌, ◌⊎◌, inl, inr, ℕ, zero, suc, ◌+◌, ◌<◌, ◌≤◌, ◌&&◌, Bool, true, false, cond, List, [], ◌∷◌, refl, sym, subst, ◌∙◌, arith}
 use Rattle.std.specs.Prelude.{◌==◌, ◌↔◌, Contains}
 use Rattle.std.specs.List.{list_any}
 use Rattle.std.proofs.lemmas.Bool.Decides.{nat_tests}
@@ -7,9 +7,9 @@ use Rattle.inc_value.specs.declared.node.Point.{Point}
 use Rattle.point_map.specs.Rows.{same_point}
 use Rattle.point_map.proofs.Places.{same_point_eq, same_point_self}
 use Rattle.link_table.specs.declared.link.Link.{Link}
-use Rattle.link_table.specs.Links.{link, same_link, Reads}
+use Rattle.link_table.specs.Links.{link, same_link, Reads, KeepsLinks}
 use Rattle.height_order.specs.Levels.{level}
-use Rattle.necessity.specs.Need.{root_times}
+use Rattle.necessity.specs.Need.{root_times, KeepsRoots}
 use Rattle.necessity.proofs.Counts.{split, both, counted, same_link_self}
 use Rattle.necessary_graph.specs.Part.{NecessaryPart, Needed, IsInStep}
 use Rattle.necessary_graph.proofs.Found.{link_found}
@@ -96,3 +96,12 @@ module _ (g : NecessaryPart) where
 -- the same roots and links need the same
 pub need_same : (g h : NecessaryPart) → h.links ≡ g.links → h.roots ≡ g.roots → (p : Point) → Needed g p → Needed h p
 need_same g h links roots p n = needed_more g h (λ a r. rw roots r) (λ a b l. rw links l) p n
+
+pub same_need : (g h : NecessaryPart) → KeepsRoots g.roots h.roots → KeepsLinks g.links h.links → (p : Point) → Needed h p ↔ Needed g p
+same_need g h roots links p = (
+  λ n. needed_more h g (λ a r. let e = roots a in omega (arith, e, r)) (λ a b r. let e = links a b in omega (arith, e, r)) p n,
+  λ n. needed_more g h (λ a r. let e = roots a in omega (arith, e, r)) (λ a b r. let e = links a b in omega (arith, e, r)) p n,
+)
+
+pub not_both : (b : Bool) → b ≡ false → b ≡ true → ⊥
+not_both b f t = absurd (let e = sym f ∙ t in cc)

@@ -30,35 +30,40 @@ right_same old new n def e roots = ap (λ (x : Option Progress). right_by def n 
     ∙ ap (λ (m : Rows NodeId). right_by def n (outcome_in (at old.rows (change n))) (at m (change n))) roots
 
 -- the main has its stage, and the right side is off
-pub detached : (old mid new : Work) (n : NodeId) (def : Def) (right : Option NodeId) → IsEnqueued old mid (main n) → mid ≡ record old { graph = mid.graph }
-    → IsRewritten mid.rows new.rows (main n) (with_stage code.Static) → new ≡ record mid { graph = new.graph; rows = new.rows }
+pub detached : (old mid new : Work) (n : NodeId) (def : Def) (right : Option NodeId) (p : Point) → p ≡ main n → IsEnqueued old mid p
+    → mid ≡ record old { graph = mid.graph } → IsRewritten mid.rows new.rows p (with_stage code.Static) → new ≡ record mid { graph = new.graph; rows = new.rows }
     → right ≡ right_in new.rows new.roots n def → IsOff (rowless new) mid.graph new.graph n right → IsDetached old new n (right_in old.rows old.roots n def)
-detached old mid new n def right enqueued rest rows last is off = record {
-  rows = subst (λ (m : Rows Progress). IsRewritten m new.rows (main n) (with_stage code.Static)) rows_of rows;
+detached old mid new n def right p at_main enqueued rest rows last is off = record {
+  rows = subst (λ (m : Rows Progress). IsRewritten m new.rows (main n) (with_stage code.Static)) rows_of written;
   mid = mid;
-  enqueued = enqueued;
+  enqueued = subst (λ (x : Point). IsEnqueued old mid x) at_main enqueued;
   rest = rest;
   off = subst (λ (x : Option NodeId). IsOff (rowless new) mid.graph new.graph n x) (is ∙ same) off;
   last = last;
 }
   where
+    written : IsRewritten mid.rows new.rows (main n) (with_stage code.Static)
+    written = subst (λ (x : Point). IsRewritten mid.rows new.rows x (with_stage code.Static)) at_main rows
+
     rows_of : mid.rows ≡ old.rows
     rows_of = ap (λ (w : Work). w.rows) rest
 
     same : right_in new.rows new.roots n def ≡ right_in old.rows old.roots n def
-    same = right_same old new n def (rows.others (change n) (change_is_other n) ∙ ap (λ (m : Rows Progress). at m (change n)) rows_of)
+    same = right_same old new n def (written.others (change n) (change_is_other n) ∙ ap (λ (m : Rows Progress). at m (change n)) rows_of)
         (ap (λ (w : Work). w.roots) last ∙ ap (λ (w : Work). w.roots) rest)
 
 -- so it is where the link was there
-pub detached_off : (old mid new : Work) (rows : Rows Progress) (n m : NodeId) (def : Def) → IsEnqueued old mid (main n) → mid ≡ record old { graph = mid.graph }
-    → IsRewritten mid.rows rows (main n) (with_stage code.Static) → new ≡ record mid { graph = new.graph; rows = rows }
-    → Some m ≡ right_in rows mid.roots n def → IsUnlinked (rowless (record mid { rows = rows })) mid.graph new.graph (main n) (main m)
+pub detached_off : (old mid new : Work) (rows : Rows Progress) (n m : NodeId) (def : Def) (p q : Point) → p ≡ main n → q ≡ main m → IsEnqueued old mid p
+    → mid ≡ record old { graph = mid.graph } → IsRewritten mid.rows rows p (with_stage code.Static) → new ≡ record mid { graph = new.graph; rows = rows }
+    → Some m ≡ right_in rows mid.roots n def → IsUnlinked (rowless (record mid { rows = rows })) mid.graph new.graph p q
     → IsDetached old new n (right_in old.rows old.roots n def)
-detached_off old mid new rows n m def enqueued rest written last is unlinked = detached old mid new n def (Some m) enqueued rest
-    (subst (λ (x : Rows Progress). IsRewritten mid.rows x (main n) (with_stage code.Static)) (sym rows_are) written)
+detached_off old mid new rows n m def p q at_main at_right enqueued rest written last is unlinked = detached old mid new n def (Some m) p at_main enqueued rest
+    (subst (λ (x : Rows Progress). IsRewritten mid.rows x p (with_stage code.Static)) (sym rows_are) written)
     (last ∙ ap (λ (x : Rows Progress). record mid { graph = new.graph; rows = x }) (sym rows_are))
     (is ∙ sym (ap (λ (w : Work). right_in w.rows w.roots n def) last))
-    (inl (subst (λ (x : Rows Progress). IsUnlinked (λ (a : Point). not (is_some (at x a))) mid.graph new.graph (main n) (main m)) (sym rows_are) unlinked))
+    (inl (subst (λ (x : Rows Progress). IsUnlinked (λ (a : Point). not (is_some (at x a))) mid.graph new.graph (main n) (main m)) (sym rows_are)
+    (subst (λ (x : Point). IsUnlinked (rowless (record mid { rows = rows })) mid.graph new.graph x (main m)) at_main
+    (subst (λ (y : Point). IsUnlinked (rowless (record mid { rows = rows })) mid.graph new.graph p y) at_right unlinked))))
   where
     rows_are : new.rows ≡ rows
     rows_are = ap (λ (w : Work). w.rows) last

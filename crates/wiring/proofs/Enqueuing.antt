@@ -1,5 +1,5 @@
 -- Points that come into the heap.
-use Rattle.std.proofs.Common.{◌≡◌, ◌⊎◌, inl, inr, ℕ, ◌++◌, Bool, true, false, List, [], ◌∷◌, Option, None, Some, refl, sym, ap, subst, ◌∙◌, arith, Vec, Global}
+use Rattle.std.proofs.Common.{◌≡◌, ◌⊎◌, inl, inr, ℕ, ◌++◌, Bool, true, false, [], ◌∷◌, Option, None, Some, refl, sym, ap, subst, ◌∙◌, arith, Vec, Global}
 use Rattle.std.specs.Prelude.{is_some, IsSome, option_map}
 use Rattle.std.proofs.lemmas.Bool.{cases_lt}
 use Rattle.inc_value.specs.Choice.{Among}
@@ -13,6 +13,7 @@ use Rattle.necessary_graph.proofs.Standing.{has_level, put_in_step}
 use Rattle.stabilize_round.proofs.Parts.{bool_cases}
 use Rattle.node_outcomes.specs.Row.{IsRewritten, settled_in, with_stage}
 use Rattle.wiring.specs.Graph.{HasLinks, died_at}
+use Rattle.wiring.proofs.Placing.{among_before, among_last}
 use Rattle.wiring.specs.Wiring.{KeepsGraph, IsEnqueued, AreEnqueued, IsNewlyNeeded}
 use Rattle.node_outcomes.specs.declared.row.Progress.{Progress}
 use Rattle.node_outcomes.specs.declared.row.Stage.TheVariants.{Bare}
@@ -45,44 +46,44 @@ inserted old new q e ch step needed unsettled =
 
 -- ---- the points that read one
 
--- the point reads it and wasn't settled, or not
-is_told : (links : Links) (q r : Point) (settled : Bool) → (Reads links r q × (settled ≡ false)) ⊎ (Reads links r q → settled ≡ false → ⊥)
+-- the point reads it and isn't passed over, or not
+is_told : (links : Links) (q r : Point) (over : Bool) → (Reads links r q × (over ≡ false)) ⊎ (Reads links r q → over ≡ false → ⊥)
 is_told links q r true = inr (λ _ e. cc)
 is_told links q r false = elim (cases_lt 0 (times links r q)) [ inl h ↦ inl (h, refl) | inr none ↦ inr (λ h _. omega (arith, h, none)) ]
 
--- they were inserted, but for those that were settled
-module _ (old new : Work) (q : Point) (e : new.graph ≡ record old.graph { heap = new.graph.heap }) (step : IsInStep old.graph)
-    (so : HasReaders old.graph.heights old.graph.links q (λ (r : Point). settled_in old.round (at old.rows r)) old.graph.heap new.graph.heap) where
-  abbrev settled : Point → Bool
-  settled r = settled_in old.round (at old.rows r)
-
-  put : (r : Point) → Reads old.graph.links r q → settled r ≡ false → Holds new.graph.heap r
+-- they were inserted, but for those that are passed over
+module _ (old new : Work) (q : Point) (step : IsInStep old.graph) (over : Point → Bool)
+    (so : HasReaders old.graph.heights old.graph.links q over old.graph.heap new.graph.heap) where
+  put : (r : Point) → Reads old.graph.links r q → over r ≡ false → Holds new.graph.heap r
   put r reads f = ap is_some (so.put r reads f) ∙ step.there r (step.readers r q reads)
 
-  pub readers_enqueued : AreEnqueued old new q
-  readers_enqueued = record {
-    graph = keeps_graph old.graph new.graph e;
-    kept = λ r h. elim (is_told old.graph.links q r (settled r)) [
-      | inl told ↦ put r told.0 told.1
-      | inr none ↦ ap is_some (so.others r none) ∙ h
-    ];
-    told = λ r reads. elim (bool_cases (settled r)) [ inl t ↦ inr t | inr f ↦ inl (put r reads f) ];
-    only = λ r h. elim (is_told old.graph.links q r (settled r)) [
-      | inl told ↦ inr told
-      | inr none ↦ inl (sym (ap is_some (so.others r none)) ∙ h)
-    ];
-  }
+  pub readers_kept : (r : Point) → Holds old.graph.heap r → Holds new.graph.heap r
+  readers_kept r h = elim (is_told old.graph.links q r (over r)) [
+    | inl told ↦ put r told.0 told.1
+    | inr none ↦ ap is_some (so.others r none) ∙ h
+  ]
+
+  pub readers_told : (r : Point) → Reads old.graph.links r q → Holds new.graph.heap r ⊎ (over r ≡ true)
+  readers_told r reads = elim (bool_cases (over r)) [ inl t ↦ inr t | inr f ↦ inl (put r reads f) ]
+
+  pub readers_only : (r : Point) → Holds new.graph.heap r → Holds old.graph.heap r ⊎ (Reads old.graph.links r q × (over r ≡ false))
+  readers_only r h = elim (is_told old.graph.links q r (over r)) [
+    | inl told ↦ inr told
+    | inr none ↦ inl (sym (ap is_some (so.others r none)) ∙ h)
+  ]
+
+-- so it is where those are passed over that were settled
+pub readers_enqueued : (old new : Work) (q : Point) → new.graph ≡ record old.graph { heap = new.graph.heap } → IsInStep old.graph
+    → HasReaders old.graph.heights old.graph.links q (λ (r : Point). settled_in old.round (at old.rows r)) old.graph.heap new.graph.heap → AreEnqueued old new q
+readers_enqueued old new q e step so =
+    let over = λ (r : Point). settled_in old.round (at old.rows r) in record {
+      graph = keeps_graph old.graph new.graph e;
+      kept = readers_kept old new q step over so;
+      told = readers_told old new q step over so;
+      only = readers_only old new q step over so;
+    }
 
 -- ---- a point that is newly needed
-
-among_before : (p q : Point) (points : List Point) → Among p points → Among p (points ++ q ∷ [])
-among_before p q [] a = elim a [ ]
-among_before p q (x ∷ xs) (inl e) = inl e
-among_before p q (x ∷ xs) (inr a) = inr (among_before p q xs a)
-
-among_last : (q : Point) (points : List Point) → Among q (points ++ q ∷ [])
-among_last q [] = inl refl
-among_last q (x ∷ xs) = inr (among_last q xs)
 
 settled_bare : (round : ℕ) (row : Option Progress) → settled_in round (option_map (with_stage Bare) row) ≡ settled_in round row
 settled_bare round None = refl

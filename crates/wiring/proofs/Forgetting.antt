@@ -1,7 +1,7 @@
 -- What is kept of a node that died goes, and what reads it is told.
-use Rattle.std.proofs.Common.{◌≡◌, ◌≢◌, ◌⊎◌, inl, inr, ℕ, Bool, true, false, Option, None, Some, arith, refl, sym, ap, subst, ◌∙◌}
+use Rattle.std.proofs.Common.{◌≡◌, ◌≢◌, ◌⊎◌, inl, inr, ℕ, Bool, None, refl, sym, ap, subst, ◌∙◌}
 use Rattle.std.specs.Prelude.{is_some, IsSome, ◌||◌}
-use Rattle.std.proofs.lemmas.Bool.{cases_lt}
+use Rattle.std.proofs.lemmas.Bool.{or_parts, or_from}
 use Rattle.inc_value.specs.declared.node.NodeId.{NodeId}
 use Rattle.inc_value.specs.declared.node.Part.{Part}
 use Rattle.inc_value.specs.declared.node.Part.TheVariants.{Main, Change}
@@ -9,7 +9,6 @@ use Rattle.inc_value.specs.declared.node.Point.{Point}
 use Rattle.inc_terms.specs.Depend.{main, change}
 use Rattle.point_map.specs.Rows.{Rows, at, Holds, Changes}
 use Rattle.point_map.proofs.Places.{point_cases}
-use Rattle.link_table.specs.Links.{Links, times, Reads}
 use Rattle.necessary_graph.specs.Part.{NecessaryPart, Needed, IsInStep}
 use Rattle.necessary_graph.specs.Readers.{HasReaders}
 use Rattle.node_lists.specs.Listed.{Listed}
@@ -18,56 +17,37 @@ use Rattle.node_outcomes.specs.declared.row.Progress.{Progress}
 use Rattle.stabilize_round.proofs.Parts.{bool_cases}
 use Rattle.stabilize_round.proofs.Points.{node_or_other}
 use Rattle.wiring.specs.Graph.{died_at}
-use Rattle.wiring.specs.Scoped.{AreTold, IsPointForgotten, IsForgotten}
+use Rattle.wiring.specs.Scoped.{AreTold, IsPointForgotten, IsForgotten, IsElsewhere}
 use Rattle.wiring.specs.declared.work.Work.{Work}
-use Rattle.wiring.proofs.Deciding.{need_same}
-use Rattle.wiring.proofs.Enqueuing.{keeps_graph}
+use Rattle.wiring.proofs.Deciding.{need_same, not_both}
+use Rattle.wiring.proofs.Enqueuing.{keeps_graph, readers_kept, readers_told, readers_only}
+use Rattle.wiring.proofs.Linking.{none_if}
 use Rattle.wiring.proofs.Placing.{both_gone}
 use Rattle.wiring.proofs.Releasing.{main_or_change, main_apart}
 
 -- ---- the readers that live on
 
-pub not_there : {A : Type 0} (x : Option A) → is_some x ≡ false → x ≡ None
-not_there None h = refl
-not_there (Some y) h = absurd (let e = h in cc)
-
-neither : (a b : Bool) → a || b ≡ false → (a ≡ false) × (b ≡ false)
-neither true b h = absurd (let e = h in cc)
-neither false b h = (refl, h)
-
-nor : (a b : Bool) → a ≡ false → b ≡ false → a || b ≡ false
-nor a b e f = rw (e, f) refl
-
 -- the points that aren't told
-abbrev pub untold : Work → Point → Bool
+abbrev untold : Work → Point → Bool
 untold old r = settled_in old.round (at old.rows r) || is_some (died_at old r.node)
 
--- the point reads it and is to be told, or not
-to_tell : (links : Links) (q r : Point) (over : Bool) → (Reads links r q × (over ≡ false)) ⊎ (Reads links r q → over ≡ false → ⊥)
-to_tell links q r true = inr (λ _ e. cc)
-to_tell links q r false = elim (cases_lt 0 (times links r q)) [ inl h ↦ inl (h, refl) | inr none ↦ inr (λ h _. omega (arith, h, none)) ]
-
-module _ (old new : Work) (q : Point) (e : new.graph ≡ record old.graph { heap = new.graph.heap }) (step : IsInStep old.graph)
-    (so : HasReaders old.graph.heights old.graph.links q (untold old) old.graph.heap new.graph.heap) where
-  put : (r : Point) → Reads old.graph.links r q → untold old r ≡ false → Holds new.graph.heap r
-  put r reads f = ap is_some (so.put r reads f) ∙ step.there r (step.readers r q reads)
-
-  pub survivors_told : AreTold old new q
-  survivors_told = record {
-    graph = keeps_graph old.graph new.graph e;
-    kept = λ r h. elim (to_tell old.graph.links q r (untold old r)) [
-      | inl told ↦ put r told.0 told.1
-      | inr none ↦ ap is_some (so.others r none) ∙ h
-    ];
-    told = λ r reads. elim (bool_cases (settled_in old.round (at old.rows r))) [
-      | inl t ↦ inr (inl t)
-      | inr f ↦ elim (bool_cases (is_some (died_at old r.node))) [ inl d ↦ inr (inr d) | inr l ↦ inl (put r reads (nor _ _ f l)) ]
-    ];
-    only = λ r h. elim (to_tell old.graph.links q r (untold old r)) [
-      | inl told ↦ inr (let both = neither _ _ told.1 in (told.0, both.0, not_there (died_at old r.node) both.1))
-      | inr none ↦ inl (sym (ap is_some (so.others r none)) ∙ h)
-    ];
-  }
+pub survivors_told : (old new : Work) (q : Point) → new.graph ≡ record old.graph { heap = new.graph.heap } → IsInStep old.graph
+    → HasReaders old.graph.heights old.graph.links q (untold old) old.graph.heap new.graph.heap → AreTold old new q
+survivors_told old new q e step so = record {
+  graph = keeps_graph old.graph new.graph e;
+  kept = readers_kept old new q step (untold old) so;
+  told = λ r reads. elim (bool_cases (settled_in old.round (at old.rows r))) [
+    | inl t ↦ inr (inl t)
+    | inr f ↦ elim (bool_cases (is_some (died_at old r.node))) [
+      | inl d ↦ inr (inr d)
+      | inr l ↦ elim (readers_told old new q step (untold old) so r reads) [ inl h ↦ inl h | inr over ↦ absurd (not_both _ (or_from _ _ f l) over) ]
+    ]
+  ];
+  only = λ r h. elim (readers_only old new q step (untold old) so r h) [
+    | inl was ↦ inl was
+    | inr k ↦ inr (let both = or_parts _ _ k.1 in (k.0, both.0, none_if (died_at old r.node) both.1))
+  ];
+}
 
 -- ---- one point
 
@@ -158,16 +138,6 @@ other_node p q n is other e = other (ap (λ (x : Point). x.node) e ∙ is)
 
 -- ---- a node
 
--- the lists, and all that isn't of a node's points, are as they were
-pub record IsElsewhere (old new : Work) : Type 0 where
-  pub deaths : new.deaths ≡ old.deaths
-  pub pairs : new.pairs.nodes ≡ old.pairs.nodes
-  pub scoped : new.scoped.nodes ≡ old.scoped.nodes
-  pub todo : new.todo ≡ old.todo
-  pub ran : new.ran ≡ old.ran
-  pub retries : new.retries ≡ old.retries
-  pub round : new.round ≡ old.round
-
 -- rows stay while readers are told
 pub told_rows : (old told : Work) → told ≡ record old { graph = told.graph } → told.rows ≡ old.rows
 told_rows old told e = ap (λ (w : Work). w.rows) e
@@ -228,13 +198,7 @@ module _ (old told gone : Work) (n : NodeId) (died : IsSome (died_at old n)) (t 
       | inr k ↦ inr k
     ];
     only = λ p h. t.only p (heap_was told gone (main n) b p h);
-    deaths = beside.deaths;
-    pairs = beside.pairs;
-    scoped = beside.scoped;
-    todo = beside.todo;
-    ran = beside.ran;
-    retries = beside.retries;
-    round = beside.round;
+    elsewhere = beside;
   }
     where
       now : (part : Part) → at gone.rows (record { node = n; part = part }) ≡ None
@@ -289,13 +253,7 @@ module _ (old told gone : Work) (n : NodeId) (died : IsSome (died_at old n)) (t 
         | inr k ↦ inr k
       ];
       only = λ p h. t.only p (heap_was told gone (main n) b p (heap_was gone last (change n) second p h));
-      deaths = beside.deaths;
-      pairs = beside.pairs;
-      scoped = beside.scoped;
-      todo = beside.todo;
-      ran = beside.ran;
-      retries = beside.retries;
-      round = beside.round;
+      elsewhere = beside;
     }
 
 -- ---- as the code goes

@@ -1,6 +1,7 @@
 -- A point in a scope is linked to its gate, and waits for it.
 use Rattle.std.proofs.Common.{◌≡◌, ◌⊎◌, inl, inr, ◌<◌, true, false, [], ◌∷◌, Option, None, Some, refl, sym, ap, ◌∙◌, arith}
 use Rattle.std.specs.Prelude.{is_some, IsSome}
+use Rattle.std.proofs.lemmas.Option.{same_Some}
 use Rattle.inc_value.specs.declared.node.NodeId.{NodeId}
 use Rattle.inc_value.specs.declared.node.Part.{Part}
 use Rattle.inc_value.specs.declared.node.Part.TheVariants.{Main, Change}
@@ -9,15 +10,17 @@ use Rattle.inc_value.specs.Choice.{here, step}
 use Rattle.inc_terms.specs.Depend.{gate, main, change, subject_of}
 use Rattle.inc_terms.specs.Graph.{Row}
 use Rattle.inc_terms.specs.Plan.{gate_of}
+use Rattle.inc_terms.specs.Term.{Functions}
+use Rattle.stabilize_round.specs.Invariant.{Invariant}
 use Rattle.inc_terms.specs.Within.{Given}
 use Rattle.point_map.specs.Rows.{Rows, at, Holds}
 use Rattle.necessary_graph.specs.Part.{Needed}
 use Rattle.node_arena.specs.Arena.{Arena, row_at}
 use Rattle.stabilize_round.specs.Machine as move
 use Rattle.stabilize_round.specs.State as machine
-use Rattle.stabilize_round.specs.State.{count, planned, plan_at}
+use Rattle.stabilize_round.specs.State.{State, Start, count, planned, plan_at}
 use Rattle.stabilize_round.specs.Steps.{plainly}
-use Rattle.stabilize_round.specs.Wire.{raised, Raise, Finish}
+use Rattle.stabilize_round.specs.Wire.{Raise, Finish}
 use Rattle.stabilize_round.proofs.Low.{among_gate}
 use Rattle.stabilize_round.proofs.Points.{at_same, among_count}
 use Rattle.node_outcomes.specs.Computing.{has_part}
@@ -26,14 +29,14 @@ use Rattle.node_outcomes.specs.declared.row.Progress.{Progress}
 use Rattle.node_outcomes.specs.declared.row.Stage.{Stage}
 use Rattle.node_outcomes.specs.declared.row.Stage.TheVariants as code
 use Rattle.wiring.specs.Kept.{IsKept}
-use Rattle.wiring.specs.Stands.{MatchesState, hand}
+use Rattle.wiring.specs.Stands.{MatchesState, hand, Counts}
 use Rattle.wiring.specs.Wiring.{IsMarked, IsTarget, LacksLinks, GateRan, Wires, WiresTaken}
 use Rattle.wiring.specs.declared.work.Work.{Work}
-use Rattle.wiring.proofs.Lifting.{Lifts, DueAfter}
-use Rattle.wiring.proofs.Raising.{only_rows, staged_kept, staged_now, up_wiring, up_stands, leaves_hand, no_change, one_row, row_of_state, stage_is, staged_row, owed_none}
+use Rattle.wiring.proofs.Lifting.{Lifts, DueAfter, staged_lifts}
+use Rattle.wiring.proofs.Raising.{staged_now, leaves_hand, hand_empty, no_change, one_row}
 use Rattle.wiring.proofs.InHand.{nothing}
+use Rattle.wiring.proofs.Staying.{row_of_state, stage_is, stage_was, staged_row}
 use Rattle.wiring.proofs.Scheduling.{put_in, put_stands, scheduled}
-use Rattle.wiring.proofs.Unlinked.{raised_unlinked}
 
 -- ---- points that may be linked to
 
@@ -92,119 +95,63 @@ pub ran_gate : (arena : Arena) (work : Work) (p : Point) (bind : NodeId) → ((r
     → settled_in work.round (at work.rows (change bind)) ≡ true → GateRan arena work p
 ran_gate arena work p bind row settled r' b e scope =
     let same = ap (λ (x : Row). x.scope) (one_row arena p.node row.0 r' row.1 e) in
-    let is : b ≡ bind = some_node (sym scope ∙ (same ∙ row.2)) in
+    let is : b ≡ bind = same_Some b bind (sym scope ∙ (same ∙ row.2)) in
     ap (λ (x : NodeId). settled_in work.round (at work.rows (change x))) is ∙ settled
-  where
-    some_node : ◌≡◌ {A = Option NodeId} (Some b) (Some bind) → b ≡ bind
-    some_node h = cc
 
 -- ---- a point that was taken from the worklist and has more leaves it
 
 pub more_wires : (arena : Arena) (work : Work) (p : Point) → Holds work.rows p → Needed work.graph p
     → (stage_in (at work.rows p) ≡ Some code.Bare → ⊥) → (stage_in (at work.rows p) ≡ Some code.Gated → ⊥) → WiresTaken arena work work p
-more_wires arena work p rowed need not_bare not_gated F z s counts inv on unlinked = (s, plainly here, left, unlinked)
+more_wires arena work p rowed need not_bare not_gated F z s counts inv on unlinked = (s, plainly here, hand_empty s arena work counts p on out, unlinked)
   where
-    has : (x : machine.Stage) → s.stage p ≡ x → (x ≡ machine.Bare) ⊎ (x ≡ machine.Gated) → ⊥
-    has x e low = by (at work.rows p) refl rowed
-      where
-        of : (k : Progress) → at work.rows p ≡ Some k → (y : Stage) → k.stage ≡ y → ⊥
-        of k is code.Bare st = not_bare (ap stage_in is ∙ ap (λ (y : Stage). Some y) st)
-        of k is code.Gated st = not_gated (ap stage_in is ∙ ap (λ (y : Stage). Some y) st)
-        of k is code.Static st =
-            let now = stage_is s arena work counts p [] code.Static on (ap stage_in is ∙ ap (λ (y : Stage). Some y) st) in
-            elim low [ inl b ↦ cc | inr g ↦ cc ]
-        of k is code.Full st =
-            let now = stage_is s arena work counts p [] code.Full on (ap stage_in is ∙ ap (λ (y : Stage). Some y) st) in
-            elim low [ inl b ↦ cc | inr g ↦ cc ]
-
-        by : (o : Option Progress) → at work.rows p ≡ o → is_some o ≡ true → ⊥
-        by None is some = absurd (cc)
-        by (Some k) is some = of k is k.stage refl
-
     out : s.todo p ≡ true → ⊥
     out t = elim (unlinked p t ((on.needed p).1 need)) [
-      | inl b ↦ has (s.stage p) refl (inl b)
-      | inr k ↦ elim k [ inl g ↦ has (s.stage p) refl (inr g) | inr none ↦ none ]
+      | inl b ↦ not_bare (stage_was on p code.Bare rowed b)
+      | inr k ↦ elim k [ inl g ↦ not_gated (stage_was on p code.Gated rowed g) | inr none ↦ none ]
     ]
-
-    left : MatchesState arena work counts None s
-    left = record {
-      graph = on.graph;
-      out = on.out;
-      last = on.last;
-      never = on.never;
-      stale = on.stale;
-      links = on.links;
-      root = on.root;
-      needed = on.needed;
-      height = on.height;
-      heap = on.heap;
-      settled = on.settled;
-      stage = on.stage;
-      owed = λ a. on.owed a ∙ owed_none p a;
-      todo = λ a t. elim (on.todo a t) [
-        | inl k ↦ inl k
-        | inr e ↦ absurd (out (ap s.todo (sym e) ∙ t))
-      ];
-      retries = on.retries;
-      died = on.died;
-      ran = on.ran;
-      counts = on.counts;
-      given = on.given;
-    }
 
 -- ---- it is linked to its gate
 
 module _ (arena : Arena) (p : Point) (bind : NodeId) (r : Row) (row : row_at arena p.node ≡ Some r) (scope : r.scope ≡ Some bind)
     (old : Work) (need : Needed old.graph p) (bare : stage_in (at old.rows p) ≡ Some code.Bare) (rows : Rows Progress)
     (w : IsRewritten old.rows rows p (with_stage code.Gated)) (rowed : Holds old.rows p) where
-  abbrev pub gated_work : Work
+  abbrev gated_work : Work
   gated_work = record old { rows = rows }
 
-  pub gate_kept : IsKept arena old → IsKept arena gated_work
-  gate_kept kept = staged_kept old gated_work p code.Gated w (only_rows old rows) arena kept
-
   pub is_gated_now : stage_in (at rows p) ≡ Some code.Gated
-  is_gated_now = staged_now old gated_work p code.Gated w (only_rows old rows) rowed
+  is_gated_now = staged_now old rows p code.Gated w rowed
 
   pub gate_lifts : Lifts arena old gated_work p (change bind ∷ [])
-  gate_lifts F z s counts inv on unlinked = (
-    raised s p machine.Gated (change bind ∷ []),
-    up_wiring old gated_work p code.Gated w (only_rows old rows) F z s arena counts (change bind ∷ []) on raises,
-    up_stands old gated_work p code.Gated w (only_rows old rows) F z s arena counts (change bind ∷ []) on raises,
-    raised_unlinked s p machine.Gated (change bind ∷ []) unlinked,
-  )
+  gate_lifts = staged_lifts arena old rows p code.Gated (change bind ∷ []) w raises
     where
-      row_is : s.graph.row p.node ≡ Some r
-      row_is = row_of_state s arena old counts p [] p.node on ∙ row
-
-      is_bare : s.stage p ≡ machine.Bare
-      is_bare = stage_is s arena old counts p [] code.Bare on bare
-
-      raises : Raise s p machine.Gated (change bind ∷ [])
-      raises = record {
-        todo = inv.rows.bare p ((on.needed p).1 need) is_bare;
-        owed = on.owed p ∙ at_same p [] nothing;
-        plan = λ b.
-            let all : count b (plan_at s.graph s.out s.died p (s.graph.row p.node) machine.Gated) ≡ count b (change bind ∷ []) =
-            ap (λ (x : Option Row). count b (plan_at s.graph s.out s.died p x machine.Gated)) row_is
-            ∙ ap (λ (x : Option NodeId). count b (gate_of x)) scope in
-            let before : count b (planned s p) ≡ 0 =
-            ap (λ (x : machine.Stage). count b (plan_at s.graph s.out s.died p (s.graph.row p.node) x)) is_bare
-            ∙ ap (λ (x : Option Row). count b (plan_at s.graph s.out s.died p x machine.Bare)) row_is in
-            omega (arith, all, before);
-        lower = λ e. let b = is_bare in cc;
-        gates = λ more. absurd (elim more [ inl e ↦ cc | inr e ↦ cc ]);
-        rights = λ full. absurd (let e = full in cc);
-      }
+      raises : (F : Functions) (z : Start) (s : State) (counts : Counts) → Invariant F z s → MatchesState arena old counts (Some (hand p [])) s
+          → Raise s p machine.Gated (change bind ∷ [])
+      raises F z s counts inv on =
+          let row_is : s.graph.row p.node ≡ Some r = row_of_state on p.node ∙ row in
+          let is_bare : s.stage p ≡ machine.Bare = stage_is on p code.Bare bare in
+          record {
+            todo = inv.rows.bare p ((on.needed p).1 need) is_bare;
+            owed = on.owed p ∙ at_same p [] nothing;
+            plan = λ b.
+                let all : count b (plan_at s.graph s.out s.died p (s.graph.row p.node) machine.Gated) ≡ count b (change bind ∷ []) =
+                ap (λ (x : Option Row). count b (plan_at s.graph s.out s.died p x machine.Gated)) row_is
+                ∙ ap (λ (x : Option NodeId). count b (gate_of x)) scope in
+                let before : count b (planned s p) ≡ 0 =
+                ap (λ (x : machine.Stage). count b (plan_at s.graph s.out s.died p (s.graph.row p.node) x)) is_bare
+                ∙ ap (λ (x : Option Row). count b (plan_at s.graph s.out s.died p x machine.Bare)) row_is in
+                omega (arith, all, before);
+            lower = λ e. cc;
+            gates = λ more. absurd (elim more [ inl e ↦ cc | inr e ↦ cc ]);
+            rights = λ full. absurd (let e = full in cc);
+          }
 
   pub gate_due : DueAfter arena old gated_work p (change bind)
   gate_due F z s t counts before same inv on unlinked = record {
     holds = inv;
     stands = on;
-    depends = gate {r = r} {b = bind} (row_of_state t arena gated_work counts p (change bind ∷ []) p.node on ∙ row) scope refl;
+    depends = gate {r = r} {b = bind} (row_of_state on p.node ∙ row) scope refl;
     confirmed = record {
-      gate = λ r' b e scope'. inl (ap change (is_bind r' b (sym (row_of_state t arena gated_work counts p (change bind ∷ []) p.node on) ∙ e) scope'));
+      gate = λ r' b e scope'. inl (ap change (is_bind r' b (sym (row_of_state on p.node) ∙ e) scope'));
       right = λ r' e main among. absurd (no_change t.graph p.node r'.def (t.out (change p.node)) bind among);
     };
     gate = λ r' b e scope' among more. absurd (let g = is_gated_now in elim more [ inl x ↦ cc | inr x ↦ cc ]);
@@ -213,10 +160,7 @@ module _ (arena : Arena) (p : Point) (bind : NodeId) (r : Row) (row : row_at are
     where
       is_bind : (r' : Row) (b : NodeId) → row_at arena p.node ≡ Some r' → r'.scope ≡ Some b → bind ≡ b
       is_bind r' b e scope' =
-          some_node (sym scope ∙ (sym (ap (λ (x : Row). x.scope) (one_row arena p.node r r' row e)) ∙ scope'))
-        where
-          some_node : ◌≡◌ {A = Option NodeId} (Some bind) (Some b) → bind ≡ b
-          some_node h = cc
+          same_Some bind b (sym scope ∙ (sym (ap (λ (x : Row). x.scope) (one_row arena p.node r r' row e)) ∙ scope'))
 
 -- ---- and waits for it
 
@@ -230,10 +174,10 @@ module _ (arena : Arena) (p : Point) (bind : NodeId) (r : Row) (row : row_at are
       (out.0, plainly (step (move.schedule (scheduled (change bind) old new marked rest s arena counts (Some (hand p [])) on gate_need may) refl, tt) out.1), out.2, out.3)
     where
       row_is : s.graph.row p.node ≡ Some r
-      row_is = row_of_state s arena old counts p [] p.node on ∙ row
+      row_is = row_of_state on p.node ∙ row
 
       is_gated : s.stage p ≡ machine.Gated
-      is_gated = stage_is s arena old counts p [] code.Gated on gated
+      is_gated = stage_is on p code.Gated gated
 
       -- it has the link
       linked : 0 < s.links p (change bind)
@@ -257,7 +201,7 @@ module _ (arena : Arena) (p : Point) (bind : NodeId) (r : Row) (row : row_at are
           × (s.stage (main bind) ≡ machine.Static))))
       may =
           let k = gate_row arena old p.node bind r kept row scope in
-          inr (k.0, row_of_state s arena old counts p [] bind on ∙ k.1, inv.web.onto p (change bind) linked, inl is_unsettled)
+          inr (k.0, row_of_state on bind ∙ k.1, inv.web.onto p (change bind) linked, inl is_unsettled)
 
       finishes : Finish (put_in (change bind) old new marked rest s arena counts (Some (hand p [])) on) p
       finishes = record {
@@ -265,7 +209,7 @@ module _ (arena : Arena) (p : Point) (bind : NodeId) (r : Row) (row : row_at are
         bare = λ n e. let g = is_gated in cc;
         gated = λ r' e n g. (
           bind,
-          ap (λ (x : Row). x.scope) (one_row arena p.node r r' row (sym (row_of_state s arena old counts p [] p.node on) ∙ e)) ∙ scope,
+          ap (λ (x : Row). x.scope) (one_row arena p.node r r' row (sym (row_of_state on p.node) ∙ e)) ∙ scope,
           is_unsettled,
           marked.told gate_need,
         );

@@ -1,6 +1,5 @@
 -- A point of a dead node has its gate's link, if the node died in this round, and else none.
-use Rattle.std.proofs.Common.{◌≡◌, inl, inr, ◌+◌, false, List, [], ◌∷◌, Option, None, Some, refl, sym, ap, ◌∙◌, arith}
-use Rattle.std.specs.Prelude.{is_some}
+use Rattle.std.proofs.Common.{◌≡◌, inl, inr, ◌+◌, List, [], ◌∷◌, Option, None, Some, refl, sym, ap, ◌∙◌, arith}
 use Rattle.std.proofs.lemmas.Option.{none-some}
 use Rattle.inc_value.specs.declared.node.NodeId.{NodeId}
 use Rattle.inc_value.specs.declared.node.Point.{Point}
@@ -24,18 +23,16 @@ use Rattle.wiring.specs.Stands.{MatchesState, hand, Counts}
 use Rattle.wiring.specs.Wiring.{IsTarget, Wires, AreUnlinked}
 use Rattle.wiring.specs.declared.work.Work.{Work}
 use Rattle.wiring.proofs.Gating.{rowed_target, change_rowed}
+use Rattle.wiring.proofs.Linking.{none_if}
 use Rattle.wiring.proofs.Lifting.{Lifts, DueAfter, done_wires}
-use Rattle.wiring.proofs.Raising.{rowless_stands, leaves_hand, row_of_state}
+use Rattle.wiring.proofs.Raising.{rowless_stands, leaves_hand}
+use Rattle.wiring.proofs.Staying.{row_of_state}
 use Rattle.wiring.proofs.InHand.{nothing}
 use Rattle.wiring.proofs.Unlinked.{raised_unlinked}
 
 -- a point of a dead node has no row
 pub dead_rowless : (arena : Arena) (work : Work) (p : Point) → IsKept arena work → row_at arena p.node ≡ None → at work.rows p ≡ None
-dead_rowless arena work p kept dead = none_by (at work.rows p) (kept.rows p ∙ ap (λ (x : Option Row). has_part x p.part) dead)
-  where
-    none_by : {A : Type 0} (o : Option A) → is_some o ≡ false → o ≡ None
-    none_by None h = refl
-    none_by (Some x) h = absurd (let e = h in cc)
+dead_rowless arena work p kept dead = none_if (at work.rows p) (kept.rows p ∙ ap (λ (x : Option Row). has_part x p.part) dead)
 
 -- what is needed of a live node has a row
 pub live_rowed : (arena : Arena) (work : Work) (p : Point) (r : Row) → IsKept arena work → Needed work.graph p → row_at arena p.node ≡ Some r
@@ -62,7 +59,7 @@ module _ (arena : Arena) (work : Work) (p : Point) (dead : row_at arena p.node �
 
   module _ (s : State) (counts : Counts) (owed : List Point) (on : MatchesState arena work counts (Some (hand p owed)) s) where
     row_none : s.graph.row p.node ≡ None
-    row_none = row_of_state s arena work counts p owed p.node on ∙ dead
+    row_none = row_of_state on p.node ∙ dead
 
     no_row : (r : Row) → s.graph.row p.node ≡ Some r → ⊥
     no_row r e = none-some r (sym row_none ∙ e)
@@ -111,7 +108,7 @@ module _ (arena : Arena) (work : Work) (p : Point) (dead : row_at arena p.node �
       by : (x : machine.Stage) → s.stage p ≡ x
           → (t : State) × Wired F z s t × MatchesState arena work counts None t × AreUnlinked None t
       by machine.Bare e =
-          let out = leaves (raised s p machine.Full []) (rowless_stands F z s arena work counts p machine.Full [] on rowless)
+          let out = leaves (raised s p machine.Full []) (rowless_stands s arena work counts p machine.Full [] on rowless)
           (raised_unlinked s p machine.Full [] unlinked) (λ b. let f = at_same p machine.Full s.stage in cc) in
           (out.0, plainly (step (move.raise (raises e) refl, tt) out.1), out.2, out.3)
       by machine.Gated e = let out = leaves s on unlinked (λ b. cc) in (out.0, plainly out.1, out.2, out.3)
@@ -144,7 +141,7 @@ module _ (arena : Arena) (work : Work) (p : Point) (dead : row_at arena p.node �
     ghost_lifts need off F z s counts inv on unlinked = (
       raised s p machine.Gated (change bind ∷ []),
       step (move.raise raises refl, tt) here,
-      rowless_stands F z s arena work counts p machine.Gated (change bind ∷ []) on rowless,
+      rowless_stands s arena work counts p machine.Gated (change bind ∷ []) on rowless,
       raised_unlinked s p machine.Gated (change bind ∷ []) unlinked,
     )
       where

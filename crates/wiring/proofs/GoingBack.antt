@@ -1,12 +1,12 @@
 -- A point goes back to a lower stage: what is kept.
 use Rattle.std.proofs.Common.{◌≡◌, ◌⊎◌, inl, inr, ℕ, ◌≤◌, true, false, not, Option, None, Some, refl, sym, ap, subst, ◌∙◌, arith}
 use Rattle.std.specs.Prelude.{is_some, option_map}
-use Rattle.std.proofs.lemmas.Option.{none-some}
+use Rattle.std.proofs.lemmas.Option.{none-some, same_Some}
 use Rattle.inc_value.specs.declared.node.NodeId.{NodeId}
 use Rattle.inc_value.specs.declared.node.Point.{Point}
 use Rattle.inc_value.specs.declared.outcome.Outcome.{Outcome}
 use Rattle.inc_value.specs.Choice.{Among}
-use Rattle.inc_terms.specs.Depend.{main, change, right_of}
+use Rattle.inc_terms.specs.Depend.{main, change}
 use Rattle.inc_terms.specs.Graph.{Graph}
 use Rattle.inc_terms.specs.Plan.{targets}
 use Rattle.point_map.specs.Rows.{Rows, at, Holds}
@@ -25,12 +25,10 @@ use Rattle.node_outcomes.specs.declared.row.Stage.TheVariants as code
 use Rattle.wiring.specs.Graph.{graph_at, rowless}
 use Rattle.wiring.specs.Kept.{IsKept}
 use Rattle.wiring.specs.TakingOff.{LosesLinks}
-use Rattle.wiring.specs.Wiring.{KeepsGraph, KeepsLists, KeepsPlaces, IsMarked, IsEnqueued, OnlyLoses, HasMore, IsBehindGate, IsConfirmedAt}
+use Rattle.wiring.specs.Wiring.{KeepsGraph, KeepsRound, KeepsPlaces, IsMarked, IsEnqueued, OnlyLoses, HasMore, IsBehindGate, IsConfirmedAt}
 use Rattle.wiring.specs.declared.work.Work.{Work}
 use Rattle.wiring.proofs.Deciding.{need_same}
-use Rattle.wiring.proofs.Holding.{graph_staged, died_same, links_same, root_same, pairs_same, scoped_same}
-use Rattle.wiring.proofs.Linking.{row_before, settled_as}
-use Rattle.wiring.proofs.Trying.{rewritten_there}
+use Rattle.wiring.proofs.Staying.{KeepsMost, most_staged, most_settled, most_outcome, most_graph, most_kept, rest_lists, rest_round}
 
 -- the point goes back to a lower stage: the point for which it waits then comes into the heap, and so does it, unless it was settled; links of its own come
 -- off, and what is no longer reached loses all
@@ -149,45 +147,25 @@ module _ (old first mid new : Work) (p waited : Point) (to : Stage) (step_old : 
 
 -- ---- what is kept
 
-outcome_mapped : (to : Stage) (x : Option Progress) → outcome_in (option_map (with_stage to) x) ≡ outcome_in x
-outcome_mapped to None = refl
-outcome_mapped to (Some k) = refl
-
 stage_mapped : (to : Stage) (x : Option Progress) (other : Stage) → stage_in (option_map (with_stage to) x) ≡ Some other → to ≡ other
 stage_mapped to None other e = absurd (none-some other e)
-stage_mapped to (Some k) other e = same e
-  where
-    same : ◌≡◌ {A = Option Stage} (Some to) (Some other) → to ≡ other
-    same h = cc
+stage_mapped to (Some k) other e = same_Some to other e
 
 module _ (arena : Arena) (old new : Work) (p waited : Point) (to : Stage) (links : Links) (l : IsLowered old new p waited to links) where
-  round_is : new.round ≡ old.round
-  round_is = ap (λ (w : Work). w.round) l.rest
+  lowered_round : KeepsRound old new
+  lowered_round = rest_round old new l.rest
 
-  roots_are : new.roots ≡ old.roots
-  roots_are = ap (λ (w : Work). w.roots) l.rest
-
-  deaths_are : new.deaths ≡ old.deaths
-  deaths_are = ap (λ (w : Work). w.deaths) l.rest
-
-  lists_are : KeepsLists old new
-  lists_are = record { pairs = ap (λ (w : Work). w.pairs) l.rest; scoped = ap (λ (w : Work). w.scoped) l.rest }
-
-  held : (a : Point) → is_some (at new.rows a) ≡ is_some (at old.rows a)
-  held = rewritten_there old.rows new.rows p (with_stage to) l.rows
+  pub lowered_most : KeepsMost old new
+  lowered_most = most_staged old new p to l.rows (rest_lists old new l.rest) lowered_round
 
   pub settled_same : (a : Point) → settled_in new.round (at new.rows a) ≡ settled_in old.round (at old.rows a)
-  settled_same a = ap (λ (i : ℕ). settled_in i (at new.rows a)) round_is ∙ settled_as old.rows new.rows p to l.rows old.round a
+  settled_same = most_settled old new lowered_most
 
   pub outcome_same : (a : Point) → outcome_in (at new.rows a) ≡ outcome_in (at old.rows a)
-  outcome_same a = elim (same_or_other p a) [
-    | inl e ↦ subst (λ (x : Point). outcome_in (at new.rows x) ≡ outcome_in (at old.rows x)) e
-        (ap outcome_in l.rows.changed ∙ outcome_mapped to (at old.rows p))
-    | inr ne ↦ ap outcome_in (l.rows.others a (λ e. ne (sym e)))
-  ]
+  outcome_same = most_outcome old new lowered_most
 
   pub graph_same : graph_at arena new ≡ graph_at arena old
-  graph_same = graph_staged arena old new p to l.rows roots_are
+  graph_same = most_graph old new lowered_most arena
 
   -- ---- links and need
 
@@ -218,7 +196,7 @@ module _ (arena : Arena) (old new : Work) (p waited : Point) (to : Stage) (links
   }
 
   pub lowered_places : KeepsPlaces old new
-  lowered_places = record { rows = held; roots = same_roots; deaths = deaths_are; round = round_is }
+  lowered_places = record { rows = lowered_most.held; roots = same_roots; deaths = lowered_round.deaths; round = lowered_round.round }
 
   -- ---- points that are there
 
@@ -228,10 +206,10 @@ module _ (arena : Arena) (old new : Work) (p waited : Point) (to : Stage) (links
     | inr d ↦ absurd (let e : false ≡ true = sym (ap is_some d.gone) ∙ h in cc)
   ]
 
-  there_still : (a : Point) → Holds new.rows a → Holds old.graph.heights a → Holds new.graph.heights a
+  there_still : (a : Point) → Holds old.rows a → Holds old.graph.heights a → Holds new.graph.heights a
   there_still a row h = elim (l.drops.heights a) [
     | inl e ↦ ap is_some (e ∙ ap (λ (m : Rows ℕ). at m a) l.graph.heights) ∙ h
-    | inr d ↦ absurd (let e : true ≡ false = sym d.is_leaf ∙ ap not row in cc)
+    | inr d ↦ absurd (let e : true ≡ false = sym d.is_leaf ∙ ap not (lowered_most.held a ∙ row) in cc)
   ]
 
   -- what is needed still has its height
@@ -242,12 +220,12 @@ module _ (arena : Arena) (old new : Work) (p waited : Point) (to : Stage) (links
   ]
 
   module _ (kept : IsKept arena old) (mine : Holds old.rows p) (other : Needed old.graph waited → Holds old.rows waited) where
-    leaf_or_row : (a : Point) → Holds new.graph.heights a → Holds new.rows a ⊎ ((row_at arena a.node ≡ None) × Needed new.graph a)
-    leaf_or_row a h = elim (bool_cases (is_some (at new.rows a))) [
+    leaf_or_row : (a : Point) → Holds new.graph.heights a → Holds old.rows a ⊎ ((row_at arena a.node ≡ None) × Needed new.graph a)
+    leaf_or_row a h = elim (bool_cases (is_some (at old.rows a))) [
       | inl row ↦ inl row
       | inr none ↦ elim (kept.leaves a (there_before a h)) [
-        | inl row ↦ absurd (let e : false ≡ true = sym none ∙ (held a ∙ row) in cc)
-        | inr leaf ↦ elim (l.drops.leaves a (ap not none) (need_mid a leaf.1)) [
+        | inl row ↦ inl row
+        | inr leaf ↦ elim (l.drops.leaves a (ap not (lowered_most.held a ∙ none)) (need_mid a leaf.1)) [
           | inl n ↦ inr (leaf.0, n)
           | inr gone ↦ absurd (let e : false ≡ true = sym (ap is_some gone) ∙ h in cc)
         ]
@@ -271,32 +249,14 @@ module _ (arena : Arena) (old new : Work) (p waited : Point) (to : Stage) (links
         by_place (Some y) e h = in_mid (ap is_some (l.sweep.heap a y e).0)
 
     pub lowered_kept : IsKept arena new
-    lowered_kept = record {
+    lowered_kept = most_kept old new lowered_most arena kept (record {
       step = l.step;
-      rows = λ a. held a ∙ kept.rows a;
       leaves = leaf_or_row;
-      there = λ a h. there_still a h (kept.there a (sym (held a) ∙ h));
+      there = λ a h. there_still a h (kept.there a h);
       given = λ a h. kept.given a (there_before a h);
-      links = λ a b r. links_same old new held deaths_are a b (kept.links a b (let f = fewer_links a b in omega (arith, r, f)));
-      heap = λ a h. held a ∙ heap_before a h;
-      dead = λ n b e. kept.dead n b (sym (died_same old new deaths_are n) ∙ e);
-      sound = kept.sound;
-      scopes = kept.scopes;
-      older = kept.older;
-      outcomes = λ n r k v row e o. let b = row_before old.rows new.rows p to l.rows (main n) k e in
-          kept.outcomes n r b.row v row b.was (sym b.outcome ∙ o);
-      rights = λ n m r k o row e out right. let b = row_before old.rows new.rows p to l.rows (change n) k e in
-          kept.rights n m r b.row o row b.was (sym b.outcome ∙ out)
-          (subst (λ (G : Graph). right_of G n r.def o ≡ Some m) graph_same right);
-      roots = λ n h. let v = kept.roots n (root_same old new roots_are (change n) h) in (v.0, outcome_same (change n) ∙ v.1);
-      binds = λ n r row h. kept.binds n r row (root_same old new roots_are (change n) h);
-      calls = λ n r k c row e last. let b = row_before old.rows new.rows p to l.rows (main n) k e in
-          kept.calls n r b.row c row b.was (sym b.last ∙ last);
-      rounds = λ a k e. let b = row_before old.rows new.rows p to l.rows a k e in let r = kept.rounds a b.row b.was in let s = b.settled in
-          let q = round_is in omega (arith, r, s, q);
-      pairs = λ n r row some. pairs_same old new lists_are n (kept.pairs n r row some);
-      scoped = λ n r row some. scoped_same old new lists_are n (kept.scoped n r row some);
-    }
+      links = λ a b r. kept.links a b (let f = fewer_links a b in omega (arith, r, f));
+      heap = heap_before;
+    })
 
     pub lowered_stays : LosesLinks arena old new
     lowered_stays = record { kept = lowered_kept; places = lowered_places; loses = lowered_loses; rest = l.rest }

@@ -1,6 +1,7 @@
 -- The worklist is no longer than newly needed points make it.
-use Rattle.std.proofs.Common.{◌≡◌, inl, inr, ◌<◌, ◌≤◌, ◌++◌, Bool, true, false, not, List, [], ◌∷◌, None, Some, refl, sym, ap, arith}
+use Rattle.std.proofs.Common.{◌≡◌, inl, inr, ◌<◌, ◌≤◌, ◌++◌, true, not, List, [], ◌∷◌, None, Some, sym, ap, arith}
 use Rattle.std.specs.Prelude.{is_some}
+use Rattle.std.proofs.lemmas.Bool.{not_from_false, not_from_true, false_from_ne_true}
 use Rattle.inc_value.specs.declared.node.NodeId.{NodeId}
 use Rattle.inc_value.specs.declared.node.Part.{Part}
 use Rattle.inc_value.specs.declared.node.Part.TheVariants.{Main, Change}
@@ -17,24 +18,14 @@ use Rattle.wiring.specs.Deciding.{is_needed}
 use Rattle.wiring.specs.Graph.{HasLinks}
 use Rattle.wiring.specs.Growing.{unneeded, Grows}
 use Rattle.wiring.specs.declared.work.Work.{Work}
-use Rattle.wiring.proofs.Deciding.{decides_needed}
+use Rattle.wiring.proofs.Deciding.{decides_needed, not_both}
 
 -- ---- who isn't needed
 
-not_true : (b : Bool) → (b ≡ true → ⊥) → not b ≡ true
-not_true true h = absurd (h refl)
-not_true false h = refl
-
-true_not : (b : Bool) → b ≡ true → not b ≡ false
-true_not b h = rw h refl
-
-not_fails : (b : Bool) → not b ≡ true → b ≡ true → ⊥
-not_fails true h t = let e = h in cc
-not_fails false h t = let e = t in cc
-
 module _ (g h : NecessaryPart) (g_step : IsInStep g) (h_step : IsInStep h) (more : (p : Point) → Needed g p → Needed h p) where
   still_out : (p : Point) → not (is_needed h p) ≡ true → not (is_needed g p) ≡ true
-  still_out p out = not_true (is_needed g p) (λ t. not_fails (is_needed h p) out ((decides_needed h h_step p).1 (more p ((decides_needed g g_step p).0 t))))
+  still_out p out = not_from_false (is_needed g p) (false_from_ne_true (is_needed g p) (λ t.
+      not_both (not (is_needed h p)) (not_from_true (is_needed h p) ((decides_needed h h_step p).1 (more p ((decides_needed g g_step p).0 t)))) out))
 
   pub no_more_unneeded : (points : List Point) → unneeded h points ≤ unneeded g points
   unfolding unneeded
@@ -43,7 +34,8 @@ module _ (g h : NecessaryPart) (g_step : IsInStep g) (h_step : IsInStep h) (more
   pub fewer_unneeded : (points : List Point) (q : Point) → Among q points → (Needed g q → ⊥) → Needed h q → unneeded h points < unneeded g points
   unfolding unneeded
   fewer_unneeded points q among fresh now = fewer_than (λ (p : Point). not (is_needed g p)) (λ (p : Point). not (is_needed h p)) still_out q points
-      (not_true (is_needed g q) (λ t. fresh ((decides_needed g g_step q).0 t))) (true_not (is_needed h q) ((decides_needed h h_step q).1 now)) among
+      (not_from_false (is_needed g q) (false_from_ne_true (is_needed g q) (λ t. fresh ((decides_needed g g_step q).0 t))))
+      (not_from_true (is_needed h q) ((decides_needed h h_step q).1 now)) among
 
 -- ---- the worklist
 

@@ -26,25 +26,24 @@ use Rattle.wiring.specs.Growing.{Grows}
 use Rattle.wiring.specs.Kept.{IsKept}
 use Rattle.node_outcomes.specs.Row.{stage_in, IsRewritten, with_stage}
 use Rattle.wiring.specs.Stands.{MatchesState, hand, Counts}
-use Rattle.wiring.specs.Wiring.{IsDue, WireRefused, KeepsPlaces, GateRan, AreUnlinked, LacksLinks, IsMarked, Wires}
+use Rattle.wiring.specs.Wiring.{IsDue, KeepsPlaces, GateRan, AreUnlinked, LacksLinks, IsMarked, Wires}
 use Rattle.wiring.specs.declared.refused.Refused.{Refused}
 use Rattle.node_outcomes.specs.declared.row.Stage.TheVariants as code
 use Rattle.wiring.specs.declared.work.Work.{Work}
-use Rattle.wiring.proofs.Flat.{no_targets}
-use Rattle.wiring.proofs.Answering.{same_places, grows_here, grows_along}
-use Rattle.wiring.proofs.Lifting.{fixed_due, gates_after, full_finishes, Lifts, DueAfter}
-use Rattle.wiring.proofs.Raising.{wired_then, wired_after, wired_settled, leaves_hand, only_rows, staged_kept, staged_now, staged_ran, staged_there, up_wiring, up_stands, goes_up, own_alone, no_change, one_row, row_of_state, stage_is}
+use Rattle.wiring.proofs.Agreeing.{code_row, no_target}
+use Rattle.wiring.proofs.Answering.{same_places, grows_here, grows_along, ends_ok, ends_refused}
+use Rattle.wiring.proofs.Lifting.{fixed_due, gates_after, full_finishes, Lifts, DueAfter, staged_lifts}
+use Rattle.wiring.proofs.Raising.{wired_then, wired_after, wired_settled, leaves_hand, goes_up, own_alone, no_change, one_row}
+use Rattle.wiring.proofs.Staying.{row_of_state, stage_is}
 use Rattle.wiring.proofs.InHand.{nothing}
-use Rattle.wiring.proofs.Sight.{code_def}
 use Rattle.wiring.proofs.TakingAll.{places_then}
-use Rattle.std.proofs.lemmas.Option.{none-some}
+use Rattle.std.proofs.lemmas.Option.{none-some, same_Some}
 use Rattle.inc_value.specs.declared.node.Part.{Part}
 use Rattle.inc_terms.specs.Within.{Given}
 use Rattle.stabilize_round.specs.State as machine
-use Rattle.stabilize_round.specs.Wire.{raised, Raise, Finish}
+use Rattle.stabilize_round.specs.Wire.{Finish}
 use Rattle.node_outcomes.specs.Computing.{has_part}
 use Rattle.node_outcomes.specs.declared.row.Progress.{Progress}
-use Rattle.wiring.proofs.Unlinked.{raised_unlinked}
 use Rattle.stabilize_round.specs.Machine as move
 use Rattle.stabilize_round.proofs.Parts.{bool_cases}
 use Rattle.stabilize_round.proofs.Points.{at_same}
@@ -56,9 +55,7 @@ reads_kids G n (form.Const v) one = refl
 reads_kids G n (form.Var v) one = refl
 reads_kids G n (form.Map f ks) one = refl
 reads_kids G n (form.Fold f v ks) one = refl
-reads_kids G n (form.If t a b) one = absurd (cc)
-reads_kids G n (form.Join k) one = absurd (cc)
-reads_kids G n (form.Bind l f caps) one = absurd (cc)
+reads_kids G n _ one = absurd (cc)
 
 -- a point reads these points, and has no right side
 pub record Reads (p : Point) (r : Row) (links : List Point) : Type 0 where
@@ -69,11 +66,11 @@ pub record Reads (p : Point) (r : Row) (links : List Point) : Type 0 where
 pub main_reads : (arena : Arena) (p : Point) (r : Row) → row_at arena p.node ≡ Some r → p.part ≡ Main → subject_of r.def ≡ None
     → Reads p r (map main (kids r.def))
 main_reads arena p r row part one =
-    let d = code_def arena p.node r row in
+    let d = code_row arena p.node r row in
     record {
       fixed = λ G. ap (λ (x : Def). fixed_reads G p.node x p.part) d.1 ∙ (ap (fixed_reads G p.node (def_of d.0)) part
           ∙ (reads_kids G p.node d.0 (ap subject_of (sym d.1) ∙ one) ∙ ap (λ (x : Def). map main (kids x)) (sym d.1)));
-      no_right = λ G x is. no_targets G p.node r.def x one;
+      no_right = λ G x is. no_target G p.node r.def one x;
     }
 
 -- moves lead from where the point is owed all to where it is owed these
@@ -139,47 +136,25 @@ module _ (arena : Arena) (p : Point) (is_main : p.part ≡ Main) (r : Row) (row 
         }
 
         pub kid_gone : {A : Type 0} (x : A) → IsFalse on → WireAnswers arena old new (Some (hand p all)) (Ok x)
-        kid_gone x off = record {
-          wired = λ F z s counts inv on unlinked.
-              let b = kid_due F z s counts inv on unlinked in
-              let d = (a.gone off).0 F z b.0 counts rest b.2 in
-              (d.0, wired_then F z s b.0 d.0 b.1 d.1, d.2, d.3);
-          refused = tt;
-          places = kid_places a.places;
-          kept = a.kept;
-          pushed = kid_grows a.pushed;
-        }
+        kid_gone x off = ends_ok x arena old new (λ F z s counts inv on unlinked.
+            let b = kid_due F z s counts inv on unlinked in
+            let d = (a.gone off).0 F z b.0 counts rest b.2 in
+            (d.0, wired_then F z s b.0 d.0 b.1 d.1, d.2, d.3)) (kid_places a.places) a.kept (kid_grows a.pushed)
 
       pub kid_refused : {A : Type 0} (r : Result A Refused) (e : Refused) → IsErrAnd r (λ y. y ≡ e) → ConnectAnswers arena mid new p q (Err e)
           → WireAnswers arena old new (Some (hand p all)) r
-      kid_refused (Ok x) e is a = absurd is
-      kid_refused (Err y) e is a = record {
-        wired = tt;
-        refused = subst (WireRefused arena old new (Some (hand p all))) (sym is) refuses;
-        places = kid_places a.places;
-        kept = a.kept;
-        pushed = tt;
-      }
-        where
-          refuses : WireRefused arena old new (Some (hand p all)) e
-          refuses F z s counts inv on unlinked =
-              let b = kid_due F z s counts inv on unlinked in
-              let d = a.refused F z b.0 counts rest b.2 in
-              (d.0, Some (hand p (q ∷ rest)), wired_then F z s b.0 d.0 b.1 d.1, d.2, d.3)
+      kid_refused r e is a = ends_refused r e arena old new is (λ F z s counts inv on unlinked.
+          let b = kid_due F z s counts inv on unlinked in
+          let d = a.refused F z b.0 counts rest b.2 in
+          (d.0, Some (hand p (q ∷ rest)), wired_then F z s b.0 d.0 b.1 d.1, d.2, d.3)) (kid_places a.places) a.kept
 
 -- all links are on
 pub handed_last : {A : Type 0} (x : A) (arena : Arena) (old new : Work) (p : Point) (all : List Point) → stage_in (at old.rows p) ≡ Some code.Full
     → IsHanded arena old new p all [] → WireAnswers arena old new (Some (hand p all)) (Ok x)
-handed_last x arena old new p all full so = record {
-  wired = λ F z s counts inv on unlinked.
-      let a = so.hands F z s counts inv on unlinked in
-      let out = leaves_hand F z a.0 arena new counts p a.2 a.3 (full_finishes a.0 arena new counts p a.2 (ap stage_in so.row ∙ full)) in
-      (out.0, wired_after F z s a.0 out.0 a.1 out.1, out.2, out.3);
-  refused = tt;
-  places = so.places;
-  kept = so.kept;
-  pushed = so.grows;
-}
+handed_last x arena old new p all full so = ends_ok x arena old new (λ F z s counts inv on unlinked.
+    let a = so.hands F z s counts inv on unlinked in
+    let out = leaves_hand F z a.0 arena new counts p a.2 a.3 (full_finishes a.0 arena new counts p a.2 (ap stage_in so.row ∙ full)) in
+    (out.0, wired_after F z s a.0 out.0 a.1 out.1, out.2, out.3)) so.places so.kept so.grows
 
 -- ---- lists
 
@@ -234,9 +209,6 @@ never_alone arena work p r kept there row part alone =
 pub main_of : (p : Point) → p.part ≡ Main → main p.node ≡ p
 main_of p e = ap (λ (x : Part). record { node = p.node; part = x }) (sym e)
 
-some_node : (x y : NodeId) → ◌≡◌ {A = Option NodeId} (Some x) (Some y) → x ≡ y
-some_node x y e = cc
-
 every_among : (P : NodeId → Type 0) (ns : List NodeId) (n : NodeId) → Every P ns → Among n ns → P n
 every_among P [] n all among = absurd among
 every_among P (m ∷ ms) n all (inl e) = subst P (sym e) all.0
@@ -244,23 +216,16 @@ every_among P (m ∷ ms) n all (inr among) = every_among P ms n all.1 among
 
 -- a child was given
 pub kid_is_given : (count : ℕ) (d : declared.Def) → NamesGiven count (def_of d) → (n : NodeId) → Among n (kids (def_of d)) → Given count n
-kid_is_given count (form.Const v) names n among = absurd among
-kid_is_given count (form.Var v) names n among = absurd among
 kid_is_given count (form.Map f ks) names n among = every_among (Given count) ks n names.1 among
 kid_is_given count (form.Fold f v ks) names n among = every_among (Given count) ks n names.2 among
-kid_is_given count (form.If t a b) names n among = absurd among
-kid_is_given count (form.Join k) names n among = absurd among
-kid_is_given count (form.Bind l f caps) names n among = absurd among
+kid_is_given count _ names n among = absurd among
 
 -- so was the subject
 pub subject_is_given : (count : ℕ) (d : declared.Def) → NamesGiven count (def_of d) → (m : NodeId) → subject_of (def_of d) ≡ Some m → Given count m
-subject_is_given count (form.Const v) names m is = absurd (none-some m is)
-subject_is_given count (form.Var v) names m is = absurd (none-some m is)
-subject_is_given count (form.Map f ks) names m is = absurd (none-some m is)
-subject_is_given count (form.Fold f v ks) names m is = absurd (none-some m is)
-subject_is_given count (form.If t a b) names m is = subst (Given count) (some_node t m is) names.0
-subject_is_given count (form.Join k) names m is = subst (Given count) (some_node k m is) names
-subject_is_given count (form.Bind l f caps) names m is = subst (Given count) (some_node l m is) names.1
+subject_is_given count (form.If t a b) names m is = subst (Given count) (same_Some t m is) names.0
+subject_is_given count (form.Join k) names m is = subst (Given count) (same_Some k m is) names
+subject_is_given count (form.Bind l f caps) names m is = subst (Given count) (same_Some l m is) names.1
+subject_is_given count _ names m is = absurd (none-some m is)
 
 nothing_more : (xs ys : List Point) → ys ≡ [] → xs ++ ys ≡ xs
 nothing_more [] ys e = e
@@ -293,37 +258,15 @@ module _ (arena : Arena) (p : Point) (r : Row) (row : row_at arena p.node ≡ So
 
   module _ (old : Work) (need : Needed old.graph p) (lacks : LacksLinks arena old p) (ran : GateRan arena old p) (rows : Rows Progress)
       (w : IsRewritten old.rows rows p (with_stage code.Full)) where
-    abbrev pub full_work : Work
-    full_work = record old { rows = rows }
-
-    pub full_kept : IsKept arena old → IsKept arena full_work
-    full_kept kept = staged_kept old full_work p code.Full w (only_rows old rows) arena kept
-
-    pub full_in : Holds old.rows p → stage_in (at rows p) ≡ Some code.Full
-    full_in rowed = staged_now old full_work p code.Full w (only_rows old rows) rowed
-
-    pub full_ran : GateRan arena full_work p
-    full_ran = staged_ran old full_work p code.Full w (only_rows old rows) arena ran
-
-    pub full_there : (a : Point) → is_some (at rows a) ≡ is_some (at old.rows a)
-    full_there = staged_there old full_work p code.Full w (only_rows old rows)
-
-    pub full_lifts : Lifts arena old full_work p links
-    full_lifts F z s counts inv on unlinked = (
-      raised s p machine.Full links,
-      up_wiring old full_work p code.Full w (only_rows old rows) F z s arena counts links on raises,
-      up_stands old full_work p code.Full w (only_rows old rows) F z s arena counts links on raises,
-      raised_unlinked s p machine.Full links unlinked,
-    )
-      where
-        raises : Raise s p machine.Full links
-        raises = goes_up arena p r row old need lacks ran F z s counts inv on machine.Full links (plan_is s.graph s.out)
-            (λ full part q among. rightless s.graph (s.out (change p.node)) part q among)
+    pub full_lifts : Lifts arena old (record old { rows = rows }) p links
+    full_lifts = staged_lifts arena old rows p code.Full links w (λ F z s counts inv on.
+        goes_up arena p r row old need lacks ran F z s counts inv on machine.Full links (plan_is s.graph s.out)
+        (λ full part q among. rightless s.graph (s.out (change p.node)) part q among))
 
     -- where it reads one point
-    pub full_due : (q : Point) → links ≡ q ∷ [] → DueAfter arena old full_work p q
+    pub full_due : (q : Point) → links ≡ q ∷ [] → DueAfter arena old (record old { rows = rows }) p q
     full_due q one F z s t counts before same inv on unlinked =
-        fixed_due F z t arena full_work counts p q [] r row
+        fixed_due F z t arena (record old { rows = rows }) counts p q [] r row
         (subst (λ (xs : List Point). Among q xs) (sym (reads.fixed t.graph ∙ one)) (inl refl))
         (gates_after s t arena old counts p [] r row ran before same)
         (λ part among. rightless t.graph (t.out (change p.node)) part q among) inv on unlinked
@@ -335,31 +278,15 @@ module _ (arena : Arena) (n : NodeId) (r : Row) (row : row_at arena n ≡ Some r
 
   module _ (old : Work) (need : Needed old.graph (main n)) (lacks : LacksLinks arena old (main n)) (ran : GateRan arena old (main n)) (rows : Rows Progress)
       (w : IsRewritten old.rows rows (main n) (with_stage code.Static)) where
-    abbrev pub paired_work : Work
-    paired_work = record old { rows = rows }
+    pub pair_lifts : Lifts arena old (record old { rows = rows }) (main n) (change n ∷ [])
+    pair_lifts = staged_lifts arena old rows (main n) code.Static (change n ∷ []) w (λ F z s counts inv on.
+        goes_up arena (main n) r row old need lacks ran F z s counts inv on machine.Static (change n ∷ [])
+        (ap (λ (xs : List Point). gate_of r.scope ++ xs) (own_alone n (subject_of r.def) (kids_of s.graph n r.def) two))
+        (λ full. absurd (let e = full in cc)))
 
-    pub pair_kept : IsKept arena old → IsKept arena paired_work
-    pair_kept kept = staged_kept old paired_work (main n) code.Static w (only_rows old rows) arena kept
-
-    pub pair_static : Holds old.rows (main n) → stage_in (at rows (main n)) ≡ Some code.Static
-    pair_static rowed = staged_now old paired_work (main n) code.Static w (only_rows old rows) rowed
-
-    pub pair_lifts : Lifts arena old paired_work (main n) (change n ∷ [])
-    pair_lifts F z s counts inv on unlinked = (
-      raised s (main n) machine.Static (change n ∷ []),
-      up_wiring old paired_work (main n) code.Static w (only_rows old rows) F z s arena counts (change n ∷ []) on raises,
-      up_stands old paired_work (main n) code.Static w (only_rows old rows) F z s arena counts (change n ∷ []) on raises,
-      raised_unlinked s (main n) machine.Static (change n ∷ []) unlinked,
-    )
-      where
-        raises : Raise s (main n) machine.Static (change n ∷ [])
-        raises = goes_up arena (main n) r row old need lacks ran F z s counts inv on machine.Static (change n ∷ [])
-            (ap (λ (xs : List Point). gate_of r.scope ++ xs) (own_alone n (subject_of r.def) (kids_of s.graph n r.def) two))
-            (λ full. absurd (let e = full in cc))
-
-    pub pair_due : DueAfter arena old paired_work (main n) (change n)
+    pub pair_due : DueAfter arena old (record old { rows = rows }) (main n) (change n)
     pair_due F z s t counts before same inv on unlinked =
-        fixed_due F z t arena paired_work counts (main n) (change n) [] r row (reads_own t.graph)
+        fixed_due F z t arena (record old { rows = rows }) counts (main n) (change n) [] r row (reads_own t.graph)
         (gates_after s t arena old counts (main n) [] r row ran before same)
         (λ part among. no_change t.graph n r.def (t.out (change n)) n among) inv on unlinked
 
@@ -374,10 +301,10 @@ module _ (arena : Arena) (n : NodeId) (r : Row) (row : row_at arena n ≡ Some r
       (out.0, plainly (step (move.schedule (scheduled (change n) old new marked rest s arena counts (Some (hand (main n) [])) on own_need may) refl, tt) out.1), out.2, out.3)
     where
       row_is : s.graph.row n ≡ Some r
-      row_is = row_of_state s arena old counts (main n) [] n on ∙ row
+      row_is = row_of_state on n ∙ row
 
       is_static : s.stage (main n) ≡ machine.Static
-      is_static = stage_is s arena old counts (main n) [] code.Static on static
+      is_static = stage_is on (main n) code.Static static
 
       may : (s.heap (change n) ≡ true) ⊎ ((x : Row) × (s.graph.row n ≡ Some x) × (s.needed (change n) ≡ true)
           × ((s.settled (change n) ≡ false) ⊎ ((◌≡◌ {A = Part} Change Change) × (s.todo (main n) ≡ true) × (s.stage (main n) ≡ machine.Static))))
@@ -397,6 +324,6 @@ module _ (arena : Arena) (n : NodeId) (r : Row) (row : row_at arena n ≡ Some r
         gated = λ r' e k g. absurd (let x = is_static in cc);
         static = λ r' e k g.
             let m = subject (subject_of r.def) refl two in
-            let same = one_row arena n r r' row (sym (row_of_state s arena old counts (main n) [] n on) ∙ e) in
+            let same = one_row arena n r r' row (sym (row_of_state on n) ∙ e) in
             (refl, m.0, ap (λ (x : Row). subject_of x.def) same ∙ m.1, marked.told own_need);
       }

@@ -1,5 +1,5 @@
 -- What a graph holds beside its nodes stays where changes keep their outcomes and binds their roots.
-use Rattle.std.proofs.Common.{◌≡◌, ◌≢◌, ◌⊎◌, inl, inr, refl, sym, ap, subst, ◌∙◌, map, ℕ, Option, None, Some, Vec, Global}
+use Rattle.std.proofs.Common.{◌≡◌, ◌≢◌, ◌⊎◌, inl, inr, refl, sym, ap, subst, ◌∙◌, map, Option, None, Some}
 use Rattle.std.specs.Prelude.{option_map, is_some}
 use Rattle.inc_value.specs.declared.node.NodeId.{NodeId}
 use Rattle.inc_value.specs.declared.node.Part.TheVariants.{Change}
@@ -23,7 +23,7 @@ use Rattle.stabilize_round.proofs.Points.{same_or_other}
 use Rattle.node_lists.specs.Deaths.{Deaths}
 use Rattle.node_lists.specs.Listed.{Listed}
 use Rattle.wiring.specs.Graph.{held_at, graph_at, died_at, HasLinks}
-use Rattle.wiring.specs.Kept.{IsGhostLink, IsKept}
+use Rattle.wiring.specs.Kept.{IsGhostLink}
 use Rattle.wiring.specs.Wiring.{KeepsLists}
 use Rattle.wiring.specs.declared.work.Work.{Work}
 
@@ -160,28 +160,3 @@ pairs_same old new same n a = subst (λ (l : Listed). Among n l.nodes) (sym same
 
 pub scoped_same : (old new : Work) → KeepsLists old new → (n : NodeId) → Among n old.scoped.nodes → Among n new.scoped.nodes
 scoped_same old new same n a = subst (λ (l : Listed). Among n l.nodes) (sym same.scoped) a
-
--- what is kept doesn't speak of the worklist, nor of how many links may be tried again
-pub beside_kept : (arena : Arena) (work : Work) (todo : Vec Point Global) (left : ℕ) → IsKept arena work
-    → IsKept arena (record work { todo = todo; retries = left })
-beside_kept arena work todo left k = record {
-  step = k.step;
-  rows = k.rows;
-  leaves = k.leaves;
-  there = k.there;
-  given = k.given;
-  links = λ a b l. links_same work (record work { todo = todo; retries = left }) (λ x. refl) refl a b (k.links a b l);
-  heap = k.heap;
-  dead = k.dead;
-  sound = k.sound;
-  scopes = k.scopes;
-  older = k.older;
-  outcomes = k.outcomes;
-  rights = k.rights;
-  roots = k.roots;
-  binds = k.binds;
-  calls = k.calls;
-  rounds = k.rounds;
-  pairs = k.pairs;
-  scoped = k.scoped;
-}

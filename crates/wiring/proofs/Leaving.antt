@@ -1,5 +1,5 @@
 -- Points of the worklist are taken in hand and leave it.
-use Rattle.std.proofs.Common.{◌≡◌, ◌⊎◌, inl, inr, ◌<◌, ◌++◌, List, [], ◌∷◌, length, None, Some, refl, sym, ap, subst, ◌∙◌, arith, length-append, Vec, Global}
+use Rattle.std.proofs.Common.{◌≡◌, ◌<◌, ◌++◌, List, [], ◌∷◌, length, None, Some, refl, sym, ap, subst, ◌∙◌, arith, length-append, Vec, Global}
 use Rattle.inc_value.specs.declared.node.Point.{Point}
 use Rattle.inc_value.specs.Choice.{here, Among, Reaches}
 use Rattle.inc_terms.specs.Term.{Functions}
@@ -19,11 +19,12 @@ use Rattle.wiring.specs.declared.refused.Refused.{Refused}
 use Rattle.wiring.specs.declared.work.Work.{Work}
 use Rattle.wiring.proofs.Growing.{link_points, links_are_listed}
 use Rattle.wiring.proofs.TakingAll.{places_then}
-use Rattle.wiring.proofs.Holding.{beside_kept, has_links_same}
+use Rattle.wiring.proofs.Holding.{has_links_same}
 use Rattle.wiring.proofs.Raising.{wired_then, wired_after, leaves_hand}
 use Rattle.wiring.proofs.InHand.{nothing}
 use Rattle.wiring.proofs.Unlinked.{held_unlinked}
-use Rattle.wiring.proofs.Wiring.{taken_stands, looks_stands}
+use Rattle.wiring.proofs.Placing.{among_cases}
+use Rattle.wiring.proofs.Staying.{beside_kept, round_same, taken_stands, looks_stands}
 
 -- ---- a point that isn't needed leaves the worklist
 
@@ -38,12 +39,6 @@ unneeded_leaves F z s arena work counts p on unlinked unneeded = leaves_hand F z
 })
 
 -- ---- a point is taken off the worklist's end
-
-among_last : (xs : List Point) (p a : Point) → Among a (xs ++ p ∷ []) → Among a xs ⊎ (a ≡ p)
-among_last [] p a (inl e) = inr e
-among_last [] p a (inr h) = absurd h
-among_last (x ∷ xs) p a (inl e) = inl (inl e)
-among_last (x ∷ xs) p a (inr h) = elim (among_last xs p a h) [ inl k ↦ inl (inr k) | inr e ↦ inr e ]
 
 pub todo_kept : (arena : Arena) (work : Work) (todo : Vec Point Global) → IsKept arena work → IsKept arena (record work { todo = todo })
 todo_kept arena work todo k = beside_kept arena work todo work.retries k
@@ -73,9 +68,8 @@ module _ (arena : Arena) (old mid : Work) (todo : Vec Point Global) (p : Point) 
       → (t : State) × Wired F z s t × Invariant F z t × MatchesState arena popped counts (Some (hand p [])) t × AreUnlinked None t
   so_far F z s counts inv on unlinked =
       let a = so.wires F z s counts inv on unlinked in
-      let in_hand = taken_stands a.0 arena mid popped counts p a.2 refl refl
-      (record { roots = refl; deaths = refl; ran = refl; retries = refl; round = refl })
-      (λ b h. among_last todo.items p b (subst (λ (xs : List Point). Among b xs) items h)) in
+      let in_hand = taken_stands a.0 arena mid todo counts p a.2
+      (λ b h. among_cases b p todo.items (subst (λ (xs : List Point). Among b xs) items h)) in
       (a.0, a.1, moves_keep F z s a.0 (wired_moves F z s a.0 a.1) inv, in_hand, a.3)
 
   now_kept : IsKept arena popped
@@ -144,5 +138,5 @@ looks_empty work todo items = record {
   heap = λ p. refl;
   todo = sym items;
   lists = record { pairs = refl; scoped = refl };
-  round = record { roots = refl; deaths = refl; ran = refl; retries = refl; round = refl };
+  round = round_same work work.graph work.rows todo;
 }

@@ -2,8 +2,7 @@ pub mod Enqueuing
 pub mod Linking
 pub mod Rooting
 pub mod Holding
-pub mod Wiring
-pub mod Flat
+pub mod Staying
 pub mod Deciding
 pub mod Growing
 pub mod Handing

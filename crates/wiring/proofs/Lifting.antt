@@ -1,32 +1,36 @@
 -- A point in hand is owed links and gets them: how moves join.
-use Rattle.std.proofs.Common.{◌≡◌, inl, inr, Bool, true, List, [], ◌∷◌, Some, sym, ap, subst, ◌∙◌}
+use Rattle.std.proofs.Common.{◌≡◌, inl, inr, Bool, true, List, [], ◌∷◌, Some, refl, sym, ap, subst, ◌∙◌}
 use Rattle.inc_value.specs.declared.node.NodeId.{NodeId}
 use Rattle.inc_value.specs.declared.node.Part.TheVariants.{Main}
 use Rattle.inc_value.specs.declared.node.Point.{Point}
-use Rattle.inc_value.specs.Choice.{here, Among, Reaches}
+use Rattle.inc_value.specs.Choice.{here, step, Among, Reaches}
 use Rattle.inc_terms.specs.Depend.{change, fixed_reads}
 use Rattle.inc_terms.specs.Graph.{Row}
 use Rattle.inc_terms.specs.Plan.{targets}
 use Rattle.inc_terms.specs.Term.{Functions}
-use Rattle.point_map.specs.Rows.{at}
+use Rattle.point_map.specs.Rows.{Rows, at}
 use Rattle.node_arena.specs.Arena.{Arena, row_at}
 use Rattle.stabilize_round.specs.Invariant.{Invariant}
 use Rattle.stabilize_round.specs.State.{State, Start}
 use Rattle.stabilize_round.specs.Steps.{Wiring, plainly}
-use Rattle.stabilize_round.specs.Wire.{Finish}
+use Rattle.stabilize_round.specs.Machine as move
+use Rattle.stabilize_round.specs.Wire.{raised, Raise, Finish}
 use Rattle.stabilize_round.proofs.Confirmed.{fixed_confirmed}
 use Rattle.stabilize_round.proofs.Machine.{moves_keep}
 use Rattle.stabilize_round.proofs.Points.{at_same}
 use Rattle.stabilize_round.proofs.Steps.{wiring_moves, wired_moves}
-use Rattle.node_outcomes.specs.Row.{stage_in}
+use Rattle.node_outcomes.specs.Row.{IsRewritten, with_stage, stage_in, stage_of}
+use Rattle.node_outcomes.specs.declared.row.Progress.{Progress}
+use Rattle.node_outcomes.specs.declared.row.Stage.{Stage}
 use Rattle.node_outcomes.specs.declared.row.Stage.TheVariants as code
 use Rattle.wiring.specs.Stands.{MatchesState, hand, Counts}
 use Rattle.wiring.specs.Wiring.{IsDue, Connects, LosesNeed, ConnectRefused, Wires, WiresTaken, WireRefused, StaysInHand, GateRan, AreUnlinked}
 use Rattle.wiring.specs.declared.refused.Refused.{Refused}
 use Rattle.wiring.specs.declared.work.Work.{Work}
-use Rattle.wiring.proofs.Raising.{wired_before, wired_then, wired_settled, leaves_hand, stage_is, one_row, row_of_state}
+use Rattle.wiring.proofs.Raising.{wired_before, wired_then, wired_settled, up_stands, leaves_hand, one_row}
+use Rattle.wiring.proofs.Staying.{stage_is, row_of_state}
 use Rattle.wiring.proofs.InHand.{nothing}
-use Rattle.wiring.proofs.Unlinked.{held_unlinked}
+use Rattle.wiring.proofs.Unlinked.{held_unlinked, raised_unlinked}
 
 -- moves lead from where the point in hand is owed nothing to where it is owed these links
 abbrev pub Lifts : Arena → Work → Work → Point → List Point → Type 0
@@ -40,6 +44,18 @@ abbrev pub DueAfter : Arena → Work → Work → Point → Point → Type 0
 DueAfter arena old mid p q =
     (F : Functions) (z : Start) (s t : State) (counts : Counts) → MatchesState arena old counts (Some (hand p [])) s → t.settled ≡ s.settled → Invariant F z t
     → MatchesState arena mid counts (Some (hand p (q ∷ []))) t → AreUnlinked (Some (hand p [])) t → IsDue F z t arena mid counts p q []
+
+-- so it is once the point has another stage
+pub staged_lifts : (arena : Arena) (old : Work) (rows : Rows Progress) (p : Point) (st : Stage) (links : List Point)
+    → IsRewritten old.rows rows p (with_stage st)
+    → ((F : Functions) (z : Start) (s : State) (counts : Counts) → Invariant F z s → MatchesState arena old counts (Some (hand p [])) s
+    → Raise s p (stage_of st) links) → Lifts arena old (record old { rows = rows }) p links
+staged_lifts arena old rows p st links w raises F z s counts inv on unlinked = (
+  raised s p (stage_of st) links,
+  step (move.raise (raises F z s counts inv on) refl, tt) here,
+  up_stands old rows p st w s arena counts links on,
+  raised_unlinked s p (stage_of st) links unlinked,
+)
 
 -- then it gets them
 module _ (arena : Arena) (old mid : Work) (p : Point) (links : List Point) (lifts : Lifts arena old mid p links) (new : Work) where
@@ -116,7 +132,7 @@ done_wires arena work p finishes F z s counts inv on unlinked =
 pub full_finishes : (s : State) (arena : Arena) (work : Work) (counts : Counts) (p : Point) → MatchesState arena work counts (Some (hand p [])) s
     → stage_in (at work.rows p) ≡ Some code.Full → Finish s p
 full_finishes s arena work counts p on full =
-    let is_full = stage_is s arena work counts p [] code.Full on full in
+    let is_full = stage_is on p code.Full full in
     record {
       owed = on.owed p ∙ at_same p [] nothing;
       bare = λ x e. let y = is_full in cc;
@@ -138,7 +154,7 @@ pub fixed_due : (F : Functions) (z : Start) (s : State) (arena : Arena) (work : 
 fixed_due F z s arena work counts p q rest r row among gates never inv on unlinked = record {
   holds = inv;
   stands = on;
-  depends = fixed_confirmed F z s inv p q r (row_of_state s arena work counts p (q ∷ rest) p.node on ∙ row) gates among;
+  depends = fixed_confirmed F z s inv p q r (row_of_state on p.node ∙ row) gates among;
   confirmed = record {
     gate = λ r' b e scope. inr (inl (gates b (scope_of (one_row arena p.node r r' row (from_state r' e)) scope)));
     right = λ r' e main among'. absurd (never main (subst (λ (x : Row). Among q (targets s.graph p.node x.def (s.out (change p.node))))
@@ -149,7 +165,7 @@ fixed_due F z s arena work counts p q rest r row among gates never inv on unlink
 }
   where
     from_state : (r' : Row) → s.graph.row p.node ≡ Some r' → row_at arena p.node ≡ Some r'
-    from_state r' e = sym (row_of_state s arena work counts p (q ∷ rest) p.node on) ∙ e
+    from_state r' e = sym (row_of_state on p.node) ∙ e
 
     scope_of : {r' : Row} {b : NodeId} → r' ≡ r → r'.scope ≡ Some b → r.scope ≡ Some b
     scope_of same scope = sym (ap (λ (x : Row). x.scope) same) ∙ scope

@@ -1,12 +1,11 @@
 -- A link or a root more: how the state follows.
 use Rattle.std.proofs.Common.{◌≡◌, ◌⊎◌, inl, inr, ℕ, suc, ◌<◌, ◌+◌, Bool, true, false, List, [], ◌∷◌, Option, None, Some, refl, sym, ap, subst, ◌∙◌, arith}
-use Rattle.std.specs.Prelude.{is_some, option_map, reverse, ◌↔◌}
-use Rattle.std.proofs.lemmas.Option.{none-some}
+use Rattle.std.specs.Prelude.{is_some, ◌↔◌}
 use Rattle.inc_value.specs.declared.node.NodeId.{NodeId}
 use Rattle.inc_value.specs.declared.node.Point.{Point}
 use Rattle.inc_value.specs.Choice.{here, step, Among, Reaches}
 use Rattle.inc_terms.specs.Term.{Functions}
-use Rattle.inc_terms.specs.Depend.{Depends, main}
+use Rattle.inc_terms.specs.Depend.{Depends}
 use Rattle.inc_terms.specs.Graph.{Row}
 use Rattle.point_map.specs.Rows.{Rows, at, Holds}
 use Rattle.link_table.specs.declared.link.Link as code_link
@@ -23,7 +22,7 @@ use Rattle.stabilize_round.specs.Moves.{Enqueues}
 use Rattle.stabilize_round.specs.Wire.{linked, newly, IsIt, Link, IsConfirmed, raised, Raise, finished, Finish}
 use Rattle.stabilize_round.proofs.Parts.{bool_cases}
 use Rattle.stabilize_round.proofs.Points.{same_or_other, at_same, at_other}
-use Rattle.node_outcomes.specs.Row.{IsRewritten, with_stage, settled_in, stage_of, is_never}
+use Rattle.node_outcomes.specs.Row.{stage_of}
 use Rattle.wiring.specs.Stands.{MatchesState, StandsWith, PointInHand, hand, owed_in, IsInHand, Counts}
 use Rattle.wiring.specs.Graph.{HasLinks, died_at}
 use Rattle.wiring.specs.Wiring.{IsReached, IsNewlyNeeded, AreUnlinked}
@@ -31,8 +30,8 @@ use Rattle.node_outcomes.specs.declared.row.Progress.{Progress}
 use Rattle.node_outcomes.specs.declared.row.Stage.{Stage}
 use Rattle.node_outcomes.specs.declared.row.Stage.TheVariants as code
 use Rattle.wiring.specs.declared.work.Work.{Work}
-use Rattle.wiring.proofs.Unlinked.{newly_unlinked, rested_unlinked}
-use Rattle.wiring.proofs.Holding.{graph_staged, died_same}
+use Rattle.wiring.proofs.Unlinked.{not_off, newly_unlinked, rested_unlinked}
+use Rattle.wiring.proofs.Staying.{row_before, stage_now, most_same, most_staged, most_stands}
 
 -- one link more is one link more in the state
 pub links_more : (links : Point → Point → ℕ) (old new : Links) (p q : Point) → ((a b : Point) → links a b ≡ times old a b) → OneLinkMore old new p q
@@ -55,63 +54,14 @@ pub some_or_none : {A : Type 0} (x : Option A) → ((y : A) × (x ≡ Some y)) �
 some_or_none None = inr refl
 some_or_none (Some y) = inl (y, refl)
 
--- ---- rows
+-- one without a value
+pub none_if : {A : Type 0} (x : Option A) → is_some x ≡ false → x ≡ None
+none_if None e = refl
+none_if (Some y) e = absurd (cc)
 
--- what a rewritten row keeps
-pub record IsBefore (old : Rows Progress) (a : Point) (k : Progress) : Type 0 where
-  pub row : Progress
-  pub was : at old a ≡ Some row
-  pub outcome : k.outcome ≡ row.outcome
-  pub last : k.last ≡ row.last
-  pub cutoff : k.cutoff ≡ row.cutoff
-  pub settled : k.settled ≡ row.settled
-
-mapped : (x : Option Progress) (st : Stage) (k : Progress) → option_map (with_stage st) x ≡ Some k
-    → (row : Progress) × (x ≡ Some row) × (k ≡ with_stage st row)
-mapped None st k e = absurd (none-some k e)
-mapped (Some row) st k e = (row, refl, sym (some_eq e))
-  where
-    some_eq : {a b : Progress} → ◌≡◌ {A = Option Progress} (Some a) (Some b) → a ≡ b
-    some_eq h = cc
-
-module _ (old new : Rows Progress) (q : Point) (st : Stage) (w : IsRewritten old new q (with_stage st)) where
-  pub row_before : (a : Point) (k : Progress) → at new a ≡ Some k → IsBefore old a k
-  row_before a k e = elim (same_or_other q a) [
-    | inl same ↦
-        let here : at new q ≡ Some k = subst (λ (x : Point). at new x ≡ Some k) (sym same) e in
-        let m = mapped (at old q) st k (sym w.changed ∙ here) in
-        record {
-          row = m.0;
-          was = subst (λ (x : Point). at old x ≡ Some m.0) same m.1;
-          outcome = ap (λ (x : Progress). x.outcome) m.2;
-          last = ap (λ (x : Progress). x.last) m.2;
-          cutoff = ap (λ (x : Progress). x.cutoff) m.2;
-          settled = ap (λ (x : Progress). x.settled) m.2;
-        }
-    | inr ne ↦ record { row = k; was = sym (w.others a (λ h. ne (sym h))) ∙ e; outcome = refl; last = refl; cutoff = refl; settled = refl }
-  ]
-
-  settled_mapped : (round : ℕ) (x : Option Progress) → settled_in round (option_map (with_stage st) x) ≡ settled_in round x
-  settled_mapped round None = refl
-  settled_mapped round (Some k) = refl
-
-  pub settled_as : (round : ℕ) (a : Point) → settled_in round (at new a) ≡ settled_in round (at old a)
-  settled_as round a = elim (same_or_other q a) [
-    | inl same ↦ subst (λ (x : Point). settled_in round (at new x) ≡ settled_in round (at old x)) same
-        (ap (settled_in round) w.changed ∙ settled_mapped round (at old q))
-    | inr ne ↦ ap (settled_in round) (w.others a (λ h. ne (sym h)))
-  ]
-
-  pub stage_now : (stage : Point → machine.Stage) → ((a : Point) (k : Progress) → at old a ≡ Some k → stage a ≡ stage_of k.stage)
-      → (a : Point) (k : Progress) → at new a ≡ Some k → at_point q (stage_of st) stage a ≡ stage_of k.stage
-  stage_now stage so a k e = elim (same_or_other q a) [
-    | inl same ↦
-        let here : at new q ≡ Some k = subst (λ (x : Point). at new x ≡ Some k) (sym same) e in
-        let m = mapped (at old q) st k (sym w.changed ∙ here) in
-        subst (λ (x : Point). at_point q (stage_of st) stage x ≡ stage_of k.stage) same
-        (at_same q (stage_of st) stage ∙ sym (ap (λ (x : Progress). stage_of x.stage) m.2))
-    | inr ne ↦ at_other q (stage_of st) stage a ne ∙ so a k (sym (w.others a (λ h. ne (sym h))) ∙ e)
-  ]
+pub is_none : {A : Type 0} (x : Option A) → ((y : A) → x ≡ Some y → ⊥) → x ≡ None
+is_none None not = refl
+is_none (Some y) not = absurd (not y refl)
 
 -- ---- a link
 
@@ -148,27 +98,17 @@ module _ (F : Functions) (z : Start) (s : State) (arena : Arena) (old : Work) (g
 
   pub linked_with : (N : Point → Type 0) → ((a : Point) → (s.needed a ≡ true) ↔ N a) → StandsWith N arena (record old { graph = g }) counts
       (Some (hand p rest)) after
-  linked_with N needed = record {
-    graph = st.graph;
-    out = st.out;
-    last = st.last;
-    never = st.never;
-    stale = st.stale;
+  linked_with N needed = most_stands old (record old { graph = g }) (most_same old g old.todo old.retries) arena s after refl st refl (record {
     links = links_after;
     root = λ a. st.root a ∙ sym (roots a);
     needed = needed;
     height = λ a n. refl;
     heap = λ a. st.heap a ∙ sym (reached.points a);
-    settled = st.settled;
     stage = st.stage;
     owed = owed_after;
     todo = st.todo;
     retries = st.retries;
-    died = st.died;
-    ran = st.ran;
-    counts = st.counts;
-    given = st.given;
-  }
+  })
 
   -- what was needed before
   pub linked_stands : Needed old.graph q → AreUnlinked (Some (hand p [])) s
@@ -252,28 +192,19 @@ module _ (F : Functions) (z : Start) (s : State) (arena : Arena) (mid new : Work
       → ((a : Point) (k : Progress) → at new.rows a ≡ Some k → stage a ≡ stage_of k.stage)
       → ((a : Point) → owed a ≡ owed_in held a)
       → MatchesState arena new counts held (record woken { todo = todo; stage = stage; owed = owed })
-  woken_with todo stage owed todo_is stage_is owed_is = record {
-    graph = st.graph ∙ sym (graph_staged arena mid new q code.Bare w.rows w.round.roots);
-    out = λ a k e. let b = row_before mid.rows new.rows q code.Bare w.rows a k e in st.out a b.row b.was ∙ sym b.outcome;
-    last = λ n k e. let b = row_before mid.rows new.rows q code.Bare w.rows (main n) k e in st.last n b.row b.was ∙ sym b.last;
-    never = λ n k e. let b = row_before mid.rows new.rows q code.Bare w.rows (main n) k e in st.never n b.row b.was ∙ ap is_never (sym b.cutoff);
-    stale = st.stale;
-    links = λ a b. st.links a b ∙ ap (λ (l : Links). times l a b) (sym w.graph.links);
-    root = λ a. st.root a ∙ ap (λ (r : Roots). root_times r a) (sym w.graph.roots);
-    needed = needed_now;
-    height = height_now;
-    heap = λ a. refl;
-    settled = λ a. st.settled a ∙ (sym (settled_as mid.rows new.rows q code.Bare w.rows mid.round a)
-        ∙ ap (λ (n : ℕ). settled_in n (at new.rows a)) (sym w.round.round));
-    stage = stage_is;
-    owed = owed_is;
-    todo = todo_is;
-    retries = st.retries ∙ sym w.round.retries;
-    died = λ n. st.died n ∙ sym (died_same mid new w.round.deaths n);
-    ran = st.ran ∙ ap reverse (sym w.round.ran);
-    counts = st.counts;
-    given = st.given;
-  }
+  woken_with todo stage owed todo_is stage_is owed_is =
+      most_stands mid new (most_staged mid new q code.Bare w.rows w.lists w.round) arena s (record woken { todo = todo; stage = stage; owed = owed }) w.round.ran
+      st refl (record {
+        links = λ a b. st.links a b ∙ ap (λ (l : Links). times l a b) (sym w.graph.links);
+        root = λ a. st.root a ∙ ap (λ (r : Roots). root_times r a) (sym w.graph.roots);
+        needed = needed_now;
+        height = height_now;
+        heap = λ a. refl;
+        stage = stage_is;
+        owed = owed_is;
+        todo = todo_is;
+        retries = st.retries ∙ sym w.round.retries;
+      })
 
   owed_now : (a : Point) → at_point q [] s.owed a ≡ owed_in held a
   owed_now a = elim (same_or_other q a) [
@@ -342,7 +273,7 @@ module _ (F : Functions) (z : Start) (s : State) (arena : Arena) (mid new : Work
     rested_stands : MatchesState arena new counts held rested
     rested_stands = woken_with rested.todo rested.stage rested.owed
         (λ a t. elim (same_or_other q a) [
-          | inl e ↦ absurd (let f = at_same q false woken.todo in let t' : rested.todo q ≡ true = subst (λ (x : Point). rested.todo x ≡ true) (sym e) t in cc)
+          | inl e ↦ absurd (not_off q a woken.todo e t)
           | inr ne ↦ listed a (sym (at_other q true s.todo a ne) ∙ (sym (at_other q false woken.todo a ne) ∙ t))
         ])
         (λ a k e. elim (same_or_other q a) [

@@ -1,9 +1,7 @@
 -- Both points of a node in a scope are put back.
 use Rattle.std.proofs.Common.{◌≡◌, ◌⊎◌, inl, inr, true, false, Option, None, Some, refl, sym, ap, subst, ◌∙◌}
-use Rattle.std.proofs.lemmas.Option.{none-some}
+use Rattle.std.proofs.lemmas.Option.{none-some, same_Some}
 use Rattle.inc_value.specs.declared.node.NodeId.{NodeId}
-use Rattle.inc_value.specs.declared.node.Part.{Part}
-use Rattle.inc_value.specs.declared.node.Part.TheVariants.{Main, Change}
 use Rattle.inc_value.specs.declared.node.Point.{Point}
 use Rattle.inc_terms.specs.Depend.{main, change}
 use Rattle.inc_terms.specs.Graph.{Row}
@@ -15,21 +13,12 @@ use Rattle.node_outcomes.specs.declared.row.Progress.{Progress}
 use Rattle.wiring.specs.Wiring.{OnlyLoses, GoesBack, IsPutBack, IsAtGate, IsBehindGate, HasMore, TakesOne}
 use Rattle.wiring.specs.declared.work.Work.{Work}
 use Rattle.wiring.proofs.InHand.{FallsBack, KeepsSpared, falls_more, change_settled}
-use Rattle.wiring.proofs.TakingAll.{takes_then, back_then, then_back}
-
-abbrev at_part : NodeId → Part → Point
-at_part n part = record { node = n; part = part }
-
--- a node's point is its main or its change
-pub one_of_two : (p : Point) (n : NodeId) → p.node ≡ n → (p ≡ main n) ⊎ (p ≡ change n)
-one_of_two p n e = by p.part refl
-  where
-    is_it : (part : Part) → p.part ≡ part → p ≡ at_part n part
-    is_it part same = ap (λ (x : NodeId). at_part x p.part) e ∙ ap (λ (y : Part). at_part n y) same
-
-    by : (part : Part) → p.part ≡ part → (p ≡ main n) ⊎ (p ≡ change n)
-    by Main same = inl (is_it Main same)
-    by Change same = inr (is_it Change same)
+use Rattle.wiring.proofs.Placing.{change_other}
+use Rattle.wiring.proofs.Releasing.{main_or_change}
+use Rattle.wiring.specs.Kept.{IsKept}
+use Rattle.wiring.specs.TakingOff.{PutsNodeBack}
+use Rattle.wiring.proofs.TakingOne.{nothing_taken}
+use Rattle.wiring.proofs.TakingAll.{loses_nothing, takes_then, back_then, then_back}
 
 -- just the row of this point may have its gate's link alone now
 abbrev pub BackAt : Arena → Work → Work → Point → NodeId → Type 0
@@ -48,17 +37,14 @@ NodeBackAt arena old new n bind = (a : Point) → (at new.rows a ≡ at old.rows
 pub node_falls : (arena : Arena) (old new : Work) (n bind : NodeId) → NodeBackAt arena old new n bind → (a : Point) → FallsBack old new a
 node_falls arena old new n bind rows a = elim (rows a) [ inl e ↦ inl e | inr b ↦ inr b.1.now ]
 
-main_or_change : (n : NodeId) → main n ≡ change n → ⊥
-main_or_change n e = let p = ap (λ (x : Point). x.part) e in cc
-
 -- first the main, then the change
 module _ (arena : Arena) (old mid new : Work) (n bind : NodeId) (first : BackAt arena old mid (main n) bind) (second : BackAt arena mid new (change n) bind)
     (loses : OnlyLoses mid.graph new.graph) where
   change_kept : at mid.rows (change n) ≡ at old.rows (change n)
-  change_kept = elim (first (change n)) [ inl e ↦ e | inr b ↦ absurd (main_or_change n (sym b.0)) ]
+  change_kept = elim (first (change n)) [ inl e ↦ e | inr b ↦ absurd (change_other n n b.0) ]
 
   main_kept : at new.rows (main n) ≡ at mid.rows (main n)
-  main_kept = elim (second (main n)) [ inl e ↦ e | inr b ↦ absurd (main_or_change n b.0) ]
+  main_kept = elim (second (main n)) [ inl e ↦ e | inr b ↦ absurd (change_other n n (sym b.0)) ]
 
   pub node_back : NodeBackAt arena old new n bind
   node_back a = elim (second a) [
@@ -76,7 +62,7 @@ module _ (arena : Arena) (old mid new : Work) (n bind : NodeId) (first : BackAt 
   ]
 
   pub node_at_gate : IsAtGate mid (main n) → IsAtGate new (change n) → (p : Point) → p.node ≡ n → IsAtGate new p
-  node_at_gate main_at change_at p e = elim (one_of_two p n e) [
+  node_at_gate main_at change_at p e = elim (main_or_change p n e) [
     | inl m ↦ subst (λ (x : Point). IsAtGate new x) (sym m)
         (λ need more. main_at (loses.less (main n) need) (subst (λ (x : Option Progress). HasMore (stage_in x)) main_kept more))
     | inr c ↦ subst (λ (x : Point). IsAtGate new x) (sym c) change_at
@@ -100,10 +86,7 @@ module _ (arena : Arena) (work : Work) (n : NodeId) where
   dead_behind dead p e r b row scope need more = absurd (none-some r (sym dead ∙ subst (λ (x : NodeId). row_at arena x ≡ Some r) e row))
 
   same_row : (s r : Row) (p : Point) → row_at arena n ≡ Some s → p.node ≡ n → row_at arena p.node ≡ Some r → s ≡ r
-  same_row s r p is e row = one (sym is ∙ subst (λ (x : NodeId). row_at arena x ≡ Some r) e row)
-    where
-      one : ◌≡◌ {A = Option Row} (Some s) (Some r) → s ≡ r
-      one h = cc
+  same_row s r p is e row = same_Some s r (sym is ∙ subst (λ (x : NodeId). row_at arena x ≡ Some r) e row)
 
   pub alone_behind : (s : Row) → row_at arena n ≡ Some s → s.scope ≡ None → (p : Point) → p.node ≡ n → IsBehindGate arena work p
   alone_behind s is none p e r b row scope need more =
@@ -113,10 +96,7 @@ module _ (arena : Arena) (work : Work) (n : NodeId) where
       → settled_in work.round (at work.rows (change bind)) ≡ true → (p : Point) → p.node ≡ n → IsBehindGate arena work p
   ran_behind s bind is stands ran p e r b row scope need more =
       subst (λ (x : NodeId). settled_in work.round (at work.rows (change x)) ≡ true)
-      (one (sym stands ∙ (ap (λ (x : Row). x.scope) (same_row s r p is e row) ∙ scope))) ran
-    where
-      one : ◌≡◌ {A = Option NodeId} (Some bind) (Some b) → bind ≡ b
-      one h = cc
+      (same_Some bind b (sym stands ∙ (ap (λ (x : Row). x.scope) (same_row s r p is e row) ∙ scope))) ran
 
   pub gate_behind : ((p : Point) → p.node ≡ n → IsAtGate work p) → (p : Point) → p.node ≡ n → IsBehindGate arena work p
   gate_behind at_gate p e r b row scope need more = absurd (at_gate p e need more)
@@ -135,3 +115,14 @@ back_unconfirmed arena old new n bind unsettled rows a = elim (rows a) [
   | inl e ↦ inl e
   | inr b ↦ inr (b.0, record { bind = bind; back = b.1; unsettled = unsettled })
 ]
+
+-- nothing is put back, as none has more
+pub none_put_back : (arena : Arena) (work : Work) (n : NodeId) → IsKept arena work → ((p : Point) → p.node ≡ n → IsBehindGate arena work p)
+    → PutsNodeBack arena work work n
+none_put_back arena work n kept behind = record {
+  stays = loses_nothing arena work kept;
+  taken = nothing_taken arena work kept.step;
+  behind = behind;
+  fewer = λ p h. h;
+  rows = λ p. inl refl;
+}

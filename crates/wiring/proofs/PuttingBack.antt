@@ -24,7 +24,7 @@ use Rattle.stabilize_round.specs.State.{State, Start, Linked, count, one, planne
 use Rattle.stabilize_round.specs.Wire.{Drop}
 use Rattle.stabilize_round.proofs.Points.{same_or_other, at_same, at_other, count_append, count_among, one_same, one_other}
 use Rattle.node_outcomes.specs.Computing.{has_part}
-use Rattle.node_outcomes.specs.Row.{IsRewritten, with_stage, settled_in, stage_in, stage_of}
+use Rattle.node_outcomes.specs.Row.{IsRewritten, with_stage, settled_in, stage_in}
 use Rattle.node_outcomes.specs.declared.row.Progress.{Progress}
 use Rattle.node_outcomes.specs.declared.row.Stage.{Stage}
 use Rattle.node_outcomes.specs.declared.row.Stage.TheVariants as code
@@ -35,6 +35,7 @@ use Rattle.wiring.specs.Wiring.{IsMarked, IsEnqueued, HasMore, IsAtGate, GoesBac
 use Rattle.wiring.specs.declared.work.Work.{Work}
 use Rattle.wiring.proofs.GoingBack.{IsLowered, lowered, fewer_links}
 use Rattle.wiring.proofs.InHand.{nothing, still_not}
+use Rattle.wiring.proofs.Staying.{stage_is}
 use Rattle.wiring.proofs.TakingOff.{MayLower, scheduled, row_at_stage, takes, stands_off}
 
 -- ---- as the code does it
@@ -113,9 +114,6 @@ pub more_isnt_gated : (x : Option Stage) → HasMore x → is_gated x ≡ false
 more_isnt_gated x (inl e) = ap is_gated e
 more_isnt_gated x (inr e) = ap is_gated e
 
-one_stage : (a b : Stage) → ◌≡◌ {A = Option Stage} (Some a) (Some b) → a ≡ b
-one_stage a b e = cc
-
 -- what has more than its gate's link has a row
 pub more_there : (x : Option Progress) → HasMore (stage_in x) → is_some x ≡ true
 more_there None (inl e) = absurd (none-some code.Static e)
@@ -169,14 +167,8 @@ module _ (arena : Arena) (old new : Work) (p : Point) (bind : NodeId) (r : Row) 
     need : s.needed p ≡ true
     need = (st.needed p).1 need_p
 
-    by_stage : (x : Option Progress) → at old.rows p ≡ x → HasMore (stage_in x) → (s.stage p ≡ machine.Static) ⊎ (s.stage p ≡ machine.Full)
-    by_stage None e (inl h) = absurd (none-some code.Static h)
-    by_stage None e (inr h) = absurd (none-some code.Full h)
-    by_stage (Some k) e (inl h) = inl (st.stage p k e ∙ ap stage_of (one_stage k.stage code.Static h))
-    by_stage (Some k) e (inr h) = inr (st.stage p k e ∙ ap stage_of (one_stage k.stage code.Full h))
-
     at_stage : (s.stage p ≡ machine.Static) ⊎ (s.stage p ≡ machine.Full)
-    at_stage = by_stage (at old.rows p) refl more
+    at_stage = elim more [ inl e ↦ inl (stage_is st p code.Static e) | inr e ↦ inr (stage_is st p code.Full e) ]
 
     plan_is : (x : machine.Stage) → s.stage p ≡ x → planned s p ≡ live_plan s.graph s.out p r x
     plan_is x e = ap (λ (y : Option Row). plan_at s.graph s.out s.died p y (s.stage p)) s_row

@@ -1,21 +1,19 @@
 -- A point is raised: what is kept, and how the state follows.
-use Rattle.std.proofs.Common.{◌≡◌, ◌⊎◌, inl, inr, ℕ, ◌++◌, true, false, List, [], ◌∷◌, map, Option, None, Some, refl, sym, ap, subst, ◌∙◌, arith}
-use Rattle.std.specs.Prelude.{Result, Ok, Err, IfErr, IsErrAnd, is_some, IsSome, reverse, option_map}
-use Rattle.std.proofs.lemmas.Option.{none-some}
+use Rattle.std.proofs.Common.{◌≡◌, ◌⊎◌, inl, inr, ◌++◌, true, false, List, [], ◌∷◌, map, Option, None, Some, refl, sym, ap, subst, ◌∙◌, arith}
+use Rattle.std.specs.Prelude.{Result, Ok, Err, IfErr, IsErrAnd, is_some, IsSome, option_map}
+use Rattle.std.proofs.lemmas.Option.{none-some, same_Some}
 use Rattle.inc_value.specs.declared.node.NodeId.{NodeId}
 use Rattle.inc_value.specs.declared.node.Part.TheVariants.{Main}
 use Rattle.inc_value.specs.declared.node.Point.{Point}
 use Rattle.inc_value.specs.declared.outcome.Outcome.{Outcome}
 use Rattle.inc_value.specs.Choice.{here, step, Among, Reaches}
-use Rattle.inc_terms.specs.Depend.{main, change, main_reads, rights_of, right_of}
+use Rattle.inc_terms.specs.Depend.{main, change, main_reads, rights_of}
 use Rattle.inc_terms.specs.Graph.{Graph, Row, Def}
 use Rattle.inc_terms.specs.Plan.{gate_of, targets}
 use Rattle.inc_terms.specs.Term.{Functions}
 use Rattle.point_map.specs.Rows.{Rows, at, Holds}
-use Rattle.link_table.specs.Links.{times, Reads}
-use Rattle.necessity.specs.Need.{root_times}
 use Rattle.height_order.specs.Levels.{level}
-use Rattle.necessary_graph.specs.Part.{NecessaryPart, Needed, IsInStep}
+use Rattle.necessary_graph.specs.Part.{Needed}
 use Rattle.node_arena.specs.Arena.{Arena, row_at}
 use Rattle.stabilize_round.specs.Invariant.{Invariant}
 use Rattle.stabilize_round.specs.Machine as move
@@ -27,20 +25,19 @@ use Rattle.stabilize_round.specs.Wire.{raised, Raise, finished, Finish}
 use Rattle.stabilize_round.proofs.Parts.{bool_cases}
 use Rattle.stabilize_round.proofs.Points.{same_or_other, at_same, at_other, count_append}
 use Rattle.stabilize_round.proofs.Steps.{joined}
-use Rattle.wiring.specs.Growing.{Grows, left_to_wire}
+use Rattle.wiring.specs.Growing.{Grows}
 use Rattle.wiring.specs.Kept.{IsKept}
-use Rattle.node_outcomes.specs.Row.{IsRewritten, with_stage, settled_in, stage_in, outcome_in, stage_of, is_never}
+use Rattle.node_outcomes.specs.Row.{IsRewritten, with_stage, stage_in, stage_of}
 use Rattle.wiring.specs.Stands.{MatchesState, hand, Counts}
-use Rattle.wiring.specs.Wiring.{KeepsRound, KeepsLists, KeepsPlaces, LacksLinks, GateRan, AreUnlinked}
+use Rattle.wiring.specs.Wiring.{KeepsPlaces, LacksLinks, GateRan, AreUnlinked}
 use Rattle.node_outcomes.specs.declared.row.Progress.{Progress}
 use Rattle.node_outcomes.specs.declared.row.Stage.{Stage}
 use Rattle.node_outcomes.specs.declared.row.Stage.TheVariants as code
 use Rattle.wiring.specs.declared.work.Work.{Work}
-use Rattle.wiring.proofs.Linking.{row_before, settled_as, stage_now}
-use Rattle.wiring.proofs.Trying.{rewritten_there}
-use Rattle.wiring.proofs.Unlinked.{finished_unlinked}
-use Rattle.wiring.proofs.Holding.{graph_staged, died_same, has_links_same, links_same, root_same, pairs_same, scoped_same}
-use Rattle.wiring.proofs.InHand.{nothing}
+use Rattle.wiring.proofs.Staying.{KeepsMost, row_of_state, stage_is, stage_now, most_staged, most_same, round_same, most_settled, most_kept_there, most_stands, hand_stands}
+use Rattle.wiring.proofs.Unlinked.{not_off, finished_unlinked}
+use Rattle.wiring.proofs.Holding.{has_links_same}
+use Rattle.wiring.proofs.InHand.{nothing, nothing_at}
 
 -- ---- moves one after the other
 
@@ -57,78 +54,73 @@ wired_then F z s t u (plainly a) b = wired_before F z s t u a b
 wired_then F z s t u (after_refusal {u = x} {v = v} {w = w} a off m h c) b =
     after_refusal {u = x} {v = v} {w = w} a off m h (wired_then F z w t u c b)
 
--- links may be tried again as often as before, and the same is settled
-record IsAsSettled (s t : State) : Type 0 where
-  retries : t.retries ≡ s.retries
-  settled : t.settled ≡ s.settled
+-- ---- what moves keep
 
-as_settled : (s t : State) (u : State) → t ≡ u → u.retries ≡ s.retries → u.settled ≡ s.settled → IsAsSettled s t
-as_settled s t u e retries settled = record { retries = ap (λ (x : State). x.retries) e ∙ retries; settled = ap (λ (x : State). x.settled) e ∙ settled }
+-- the graph, who died, what was settled, what points showed and the point that was taken stay
+pub record Keeps (s t : State) : Type 0 where
+  pub graph : t.graph ≡ s.graph
+  pub died : t.died ≡ s.died
+  pub settled : t.settled ≡ s.settled
+  pub out : t.out ≡ s.out
+  pub taken : t.taken ≡ s.taken
 
-settled_then : (s t u : State) → IsAsSettled s t → IsAsSettled t u → IsAsSettled s u
-settled_then s t u a b = record { retries = b.retries ∙ a.retries; settled = b.settled ∙ a.settled }
+keeps_by : (s t u : State) → t ≡ u → u.graph ≡ s.graph → u.died ≡ s.died → u.settled ≡ s.settled → u.out ≡ s.out → u.taken ≡ s.taken → Keeps s t
+keeps_by s t u e graph died settled out taken =
+    subst (λ (x : State). Keeps s x) (sym e) (record { graph = graph; died = died; settled = settled; out = out; taken = taken })
 
-wiring_one : (F : Functions) (z : Start) (s t : State) (m : Move F z s t) → WiringMove m → IsAsSettled s t
-wiring_one F z s t (move.link x n e) h = as_settled s t _ e refl refl
-wiring_one F z s t (move.link_new x n k e) h = as_settled s t _ e refl refl
-wiring_one F z s t (move.raise x e) h = as_settled s t _ e refl refl
-wiring_one F z s t (move.finish x e) h = as_settled s t _ e refl refl
-wiring_one F z s t (move.schedule x e) h = as_settled s t _ e refl refl
-wiring_one F z s t (move.level x e) h = as_settled s t _ e refl refl
-wiring_one F z s t (move.cut d w e) h = absurd h
-wiring_one F z s t (move.step_main q x e) h = absurd h
-wiring_one F z s t (move.step_change q x e) h = absurd h
-wiring_one F z s t (move.root n e) h = absurd h
-wiring_one F z s t (move.root_new g n k e) h = absurd h
-wiring_one F z s t (move.rebuild r b c e) h = absurd h
-wiring_one F z s t (move.spend u k e) h = absurd h
+pub keeps_then : (s t u : State) → Keeps s t → Keeps t u → Keeps s u
+keeps_then s t u a b = record {
+  graph = b.graph ∙ a.graph;
+  died = b.died ∙ a.died;
+  settled = b.settled ∙ a.settled;
+  out = b.out ∙ a.out;
+  taken = b.taken ∙ a.taken;
+}
 
-off_one : (F : Functions) (z : Start) (s t : State) (m : Move F z s t) → OffMove m → IsAsSettled s t
-off_one F z s t (move.link x n e) h = absurd h
-off_one F z s t (move.link_new x n k e) h = absurd h
-off_one F z s t (move.raise x e) h = absurd h
-off_one F z s t (move.finish x e) h = absurd h
-off_one F z s t (move.schedule x e) h = as_settled s t _ e refl refl
-off_one F z s t (move.level x e) h = absurd h
-off_one F z s t (move.cut d w e) h = as_settled s t _ e refl refl
-off_one F z s t (move.step_main q x e) h = absurd h
-off_one F z s t (move.step_change q x e) h = absurd h
-off_one F z s t (move.root n e) h = absurd h
-off_one F z s t (move.root_new g n k e) h = absurd h
-off_one F z s t (move.rebuild r b c e) h = absurd h
-off_one F z s t (move.spend u k e) h = absurd h
+walk_keeps : (R : State → State → Type 0) → ((s t : State) → R s t → Keeps s t) → (s t : State) → Reaches R s t → Keeps s t
+walk_keeps R one s t here = keeps_by s s s refl refl refl refl refl refl
+walk_keeps R one s t (step {b = u} m rest) = keeps_then s u t (one s u m) (walk_keeps R one u t rest)
 
-spend_settled : (F : Functions) (z : Start) (s t : State) (m : Move F z s t) → Spends m → t.settled ≡ s.settled
-spend_settled F z s t (move.link x n e) h = absurd h
-spend_settled F z s t (move.link_new x n k e) h = absurd h
-spend_settled F z s t (move.raise x e) h = absurd h
-spend_settled F z s t (move.finish x e) h = absurd h
-spend_settled F z s t (move.schedule x e) h = absurd h
-spend_settled F z s t (move.level x e) h = absurd h
-spend_settled F z s t (move.cut d w e) h = absurd h
-spend_settled F z s t (move.step_main q x e) h = absurd h
-spend_settled F z s t (move.step_change q x e) h = absurd h
-spend_settled F z s t (move.root n e) h = absurd h
-spend_settled F z s t (move.root_new g n k e) h = absurd h
-spend_settled F z s t (move.rebuild r b c e) h = absurd h
-spend_settled F z s t (move.spend u k e) h = ap (λ (x : State). x.settled) e
+module _ (F : Functions) (z : Start) where
+  -- moves that wire, that take links off, and after which fewer links may be tried again
+  one_keeps : (s t : State) (m : Move F z s t) → WiringMove m ⊎ OffMove m ⊎ Spends m → Keeps s t
+  one_keeps s t (move.link x n e) h = keeps_by s t _ e refl refl refl refl refl
+  one_keeps s t (move.link_new x n k e) h = keeps_by s t _ e refl refl refl refl refl
+  one_keeps s t (move.raise x e) h = keeps_by s t _ e refl refl refl refl refl
+  one_keeps s t (move.finish x e) h = keeps_by s t _ e refl refl refl refl refl
+  one_keeps s t (move.schedule x e) h = keeps_by s t _ e refl refl refl refl refl
+  one_keeps s t (move.level x e) h = keeps_by s t _ e refl refl refl refl refl
+  one_keeps s t (move.cut d w e) h = keeps_by s t _ e refl refl refl refl refl
+  one_keeps s t (move.spend u k e) h = keeps_by s t _ e refl refl refl refl refl
+  one_keeps s t _ h = absurd (elim h [ inl none ↦ none | inr k ↦ elim k [ inl none ↦ none | inr none ↦ none ] ])
 
-wiring_same : (F : Functions) (z : Start) (s t : State) → Reaches (Wiring F z) s t → IsAsSettled s t
-wiring_same F z s t here = record { retries = refl; settled = refl }
-wiring_same F z s t (step {b = u} m rest) = settled_then s u t (wiring_one F z s u m.0 m.1) (wiring_same F z u t rest)
+  pub wiring_keeps : (s t : State) → Reaches (Wiring F z) s t → Keeps s t
+  wiring_keeps s t r = walk_keeps (Wiring F z) (λ a b m. one_keeps a b m.0 (inl m.1)) s t r
 
-off_same : (F : Functions) (z : Start) (s t : State) → Reaches (TakingOff F z) s t → IsAsSettled s t
-off_same F z s t here = record { retries = refl; settled = refl }
-off_same F z s t (step {b = u} m rest) = settled_then s u t (off_one F z s u m.0 m.1) (off_same F z u t rest)
+  pub off_keeps : (s t : State) → Reaches (TakingOff F z) s t → Keeps s t
+  off_keeps s t r = walk_keeps (TakingOff F z) (λ a b m. one_keeps a b m.0 (inr (inl m.1))) s t r
 
-pub wiring_retries : (F : Functions) (z : Start) (s t : State) → Reaches (Wiring F z) s t → t.retries ≡ s.retries
-wiring_retries F z s t w = (wiring_same F z s t w).retries
+  pub spend_keeps : (s t : State) (m : Move F z s t) → Spends m → Keeps s t
+  spend_keeps s t m h = one_keeps s t m (inr (inr h))
 
--- what was settled is, and no more
-pub wired_settled : (F : Functions) (z : Start) (s t : State) → Wired F z s t → t.settled ≡ s.settled
-wired_settled F z s t (plainly a) = (wiring_same F z s t a).settled
-wired_settled F z s t (after_refusal {u = u} {v = v} {w = w} a off m h b) =
-    wired_settled F z w t b ∙ (spend_settled F z v w m h ∙ ((off_same F z u v off).settled ∙ (wiring_same F z s u a).settled))
+  -- what was settled is, and no more
+  pub wired_settled : (s t : State) → Wired F z s t → t.settled ≡ s.settled
+  wired_settled s t (plainly a) = (wiring_keeps s t a).settled
+  wired_settled s t (after_refusal {u = u} {v = v} {w = w} a off m h b) =
+      wired_settled w t b ∙ ((spend_keeps v w m h).settled ∙ ((off_keeps u v off).settled ∙ (wiring_keeps s u a).settled))
+
+  one_retries : (s t : State) (m : Move F z s t) → WiringMove m → t.retries ≡ s.retries
+  one_retries s t (move.link x n e) h = ap (λ (a : State). a.retries) e
+  one_retries s t (move.link_new x n k e) h = ap (λ (a : State). a.retries) e
+  one_retries s t (move.raise x e) h = ap (λ (a : State). a.retries) e
+  one_retries s t (move.finish x e) h = ap (λ (a : State). a.retries) e
+  one_retries s t (move.schedule x e) h = ap (λ (a : State). a.retries) e
+  one_retries s t (move.level x e) h = ap (λ (a : State). a.retries) e
+  one_retries s t _ h = absurd h
+
+  pub wiring_retries : (s t : State) → Reaches (Wiring F z) s t → t.retries ≡ s.retries
+  wiring_retries s t here = refl
+  wiring_retries s t (step {b = u} m rest) = wiring_retries u t rest ∙ one_retries s u m.0 m.1
 
 -- where the error is this one
 pub if_refusal : {T E : Type 0} (P : E → Type 0) (e : E) (r : Result T E) → IsErrAnd r (λ y. y ≡ e) → P e → IfErr r P
@@ -145,49 +137,38 @@ owed_raised s p links st before a = elim (same_or_other p a) [
   | inr ne ↦ at_other p links s.owed a ne ∙ (before a ∙ (at_other p [] nothing a ne ∙ sym (at_other p links nothing a ne)))
 ]
 
--- nothing is owed to anyone
-pub owed_none : (p a : Point) → at_point p [] nothing a ≡ []
-owed_none p a = elim (same_or_other p a) [
-  | inl e ↦ subst (λ (x : Point). at_point p [] nothing x ≡ []) e (at_same p [] nothing)
-  | inr ne ↦ at_other p [] nothing a ne
-]
+-- a point is raised, where rows keep all but their stages
+pub raised_stands : (s : State) (arena : Arena) (work : Work) (rows : Rows Progress) (counts : Counts) (p : Point) (st : machine.Stage) (links : List Point)
+    → MatchesState arena work counts (Some (hand p [])) s → KeepsMost work (record work { rows = rows })
+    → ((a : Point) (k : Progress) → at rows a ≡ Some k → at_point p st s.stage a ≡ stage_of k.stage)
+    → MatchesState arena (record work { rows = rows }) counts (Some (hand p links)) (raised s p st links)
+raised_stands s arena work rows counts p st links on most stages =
+    most_stands work (record work { rows = rows }) most arena s (raised s p st links) refl on refl (record {
+      links = on.links;
+      root = on.root;
+      needed = on.needed;
+      height = on.height;
+      heap = on.heap;
+      stage = stages;
+      owed = owed_raised s p links st on.owed;
+      todo = on.todo;
+      retries = on.retries;
+    })
 
 -- ---- a stage
 
--- only rows may be others
-pub record IsRowed (old new : Work) : Type 0 where
-  pub graph : new.graph ≡ old.graph
-  pub round : KeepsRound old new
-  pub lists : KeepsLists old new
-  pub todo : new.todo.items ≡ old.todo.items
+module _ (old : Work) (rows : Rows Progress) (p : Point) (st : Stage) (w : IsRewritten old.rows rows p (with_stage st)) where
+  abbrev staged : Work
+  staged = record old { rows = rows }
 
-pub only_rows : (old : Work) (rows : Rows Progress) → IsRowed old (record old { rows = rows })
-only_rows old rows = record {
-  graph = refl;
-  round = record { roots = refl; deaths = refl; ran = refl; retries = refl; round = refl };
-  lists = record { pairs = refl; scoped = refl };
-  todo = refl;
-}
+  staged_most : KeepsMost old staged
+  staged_most = most_staged old staged p st w (record { pairs = refl; scoped = refl }) (round_same old old.graph rows old.todo)
 
-module _ (old new : Work) (p : Point) (st : Stage) (w : IsRewritten old.rows new.rows p (with_stage st)) (same : IsRowed old new) where
-  pub staged_there : (a : Point) → is_some (at new.rows a) ≡ is_some (at old.rows a)
-  staged_there = rewritten_there old.rows new.rows p (with_stage st) w
-
-  pub staged_settled : (a : Point) → settled_in new.round (at new.rows a) ≡ settled_in old.round (at old.rows a)
-  staged_settled a = ap (λ (n : ℕ). settled_in n (at new.rows a)) same.round.round ∙ settled_as old.rows new.rows p st w old.round a
-
-  staged_out : (a : Point) → outcome_in (at new.rows a) ≡ outcome_in (at old.rows a)
-  staged_out a = elim (same_or_other p a) [
-    | inl e ↦ subst (λ (x : Point). outcome_in (at new.rows x) ≡ outcome_in (at old.rows x)) e (ap outcome_in w.changed ∙ of (at old.rows p))
-    | inr ne ↦ ap outcome_in (w.others a (λ e. ne (sym e)))
-  ]
-    where
-      of : (x : Option Progress) → outcome_in (option_map (with_stage st) x) ≡ outcome_in x
-      of None = refl
-      of (Some k) = refl
+  pub staged_there : (a : Point) → is_some (at rows a) ≡ is_some (at old.rows a)
+  staged_there = staged_most.held
 
   -- its own stage is the one that it was given
-  pub staged_now : Holds old.rows p → stage_in (at new.rows p) ≡ Some st
+  pub staged_now : Holds old.rows p → stage_in (at rows p) ≡ Some st
   staged_now there = ap stage_in w.changed ∙ of (at old.rows p) there
     where
       of : (x : Option Progress) → is_some x ≡ true → stage_in (option_map (with_stage st) x) ≡ Some st
@@ -195,115 +176,32 @@ module _ (old new : Work) (p : Point) (st : Stage) (w : IsRewritten old.rows new
       of (Some k) e = refl
 
   -- the gate ran as before
-  pub staged_ran : (arena : Arena) → GateRan arena old p → GateRan arena new p
-  staged_ran arena ran r b row scope = staged_settled (change b) ∙ ran r b row scope
+  pub staged_ran : (arena : Arena) → GateRan arena old p → GateRan arena staged p
+  staged_ran arena ran r b row scope = most_settled old staged staged_most (change b) ∙ ran r b row scope
 
-  pub staged_places : KeepsPlaces old new
-  staged_places = record {
-    rows = staged_there;
-    roots = λ a. ap (λ (g : NecessaryPart). root_times g.roots a) same.graph;
-    deaths = same.round.deaths;
-    round = same.round.round;
-  }
+  pub staged_places : KeepsPlaces old staged
+  staged_places = record { rows = staged_there; roots = λ a. refl; deaths = refl; round = refl }
 
   -- what follows is left to wire as before
-  pub staged_grows : (next : Work) → Grows new next → Grows old next
-  staged_grows next grows points covers =
-      let more = grows points (λ a h. covers a (has_links_same new old (λ x. sym (staged_there x)) (sym same.round.deaths) a h)) in
-      let as_before : left_to_wire new points ≡ left_to_wire old points = rw (same.round.retries, same.todo, same.graph) refl in
-      omega (arith, more, as_before)
+  pub staged_grows : (next : Work) → Grows staged next → Grows old next
+  staged_grows next grows points covers = grows points (λ a h. covers a (has_links_same staged old (λ x. sym (staged_there x)) refl a h))
 
-  pub staged_kept : (arena : Arena) → IsKept arena old → IsKept arena new
-  staged_kept arena k = record {
-    step = subst IsInStep (sym same.graph) k.step;
-    rows = λ a. staged_there a ∙ k.rows a;
-    leaves = λ a h. elim (k.leaves a (subst (λ (g : NecessaryPart). Holds g.heights a) same.graph h)) [
-      | inl r ↦ inl (staged_there a ∙ r)
-      | inr d ↦ inr (d.0, subst (λ (g : NecessaryPart). Needed g a) (sym same.graph) d.1)
-    ];
-    there = λ a h. subst (λ (g : NecessaryPart). Holds g.heights a) (sym same.graph) (k.there a (sym (staged_there a) ∙ h));
-    given = λ a h. k.given a (subst (λ (g : NecessaryPart). Holds g.heights a) same.graph h);
-    links = λ a b l. links_same old new staged_there same.round.deaths a b (k.links a b (subst (λ (g : NecessaryPart). Reads g.links a b) same.graph l));
-    heap = λ a h. staged_there a ∙ k.heap a (subst (λ (g : NecessaryPart). Holds g.heap a) same.graph h);
-    dead = λ n b e. k.dead n b (sym (died_same old new same.round.deaths n) ∙ e);
-    sound = k.sound;
-    scopes = k.scopes;
-    older = k.older;
-    outcomes = λ n r x v row e o. let b = row_before old.rows new.rows p st w (main n) x e in k.outcomes n r b.row v row b.was (sym b.outcome ∙ o);
-    rights = λ n m r x o row e out right. let b = row_before old.rows new.rows p st w (change n) x e in
-        k.rights n m r b.row o row b.was (sym b.outcome ∙ out)
-        (subst (λ (G : Graph). right_of G n r.def o ≡ Some m) (graph_staged arena old new p st w same.round.roots) right);
-    roots = λ n h. let v = k.roots n (root_same old new same.round.roots (change n) h) in (v.0, staged_out (change n) ∙ v.1);
-    binds = λ n r row h. k.binds n r row (root_same old new same.round.roots (change n) h);
-    calls = λ n r x c row e l. let b = row_before old.rows new.rows p st w (main n) x e in k.calls n r b.row c row b.was (sym b.last ∙ l);
-    rounds = λ a x e. let b = row_before old.rows new.rows p st w a x e in let r = k.rounds a b.row b.was in let s = b.settled in let q = same.round.round in
-        omega (arith, r, s, q);
-    pairs = λ n r row some. pairs_same old new same.lists n (k.pairs n r row some);
-    scoped = λ n r row some. scoped_same old new same.lists n (k.scoped n r row some);
-  }
+  pub staged_kept : (arena : Arena) → IsKept arena old → IsKept arena staged
+  staged_kept arena k = most_kept_there old staged staged_most arena k k.step (λ a. refl) (λ a n. n) (λ a b l. l) k.heap
 
-  module _ (F : Functions) (z : Start) (s : State) (arena : Arena) (counts : Counts) (links : List Point) (on : MatchesState arena old counts (Some (hand p [])) s)
-      (raises : Raise s p (stage_of st) links) where
-    abbrev up : State
-    up = raised s p (stage_of st) links
-
-    pub up_wiring : Reaches (Wiring F z) s up
-    up_wiring = step (move.raise raises refl, tt) here
-
-    pub up_stands : MatchesState arena new counts (Some (hand p links)) up
-    up_stands = record {
-      graph = on.graph ∙ sym (graph_staged arena old new p st w same.round.roots);
-      out = λ a k e. let b = row_before old.rows new.rows p st w a k e in on.out a b.row b.was ∙ sym b.outcome;
-      last = λ n k e. let b = row_before old.rows new.rows p st w (main n) k e in on.last n b.row b.was ∙ sym b.last;
-      never = λ n k e. let b = row_before old.rows new.rows p st w (main n) k e in on.never n b.row b.was ∙ ap is_never (sym b.cutoff);
-      stale = on.stale;
-      links = λ a b. on.links a b ∙ ap (λ (g : NecessaryPart). times g.links a b) (sym same.graph);
-      root = λ a. on.root a ∙ ap (λ (g : NecessaryPart). root_times g.roots a) (sym same.graph);
-      needed = λ a. (
-        λ t. subst (λ (g : NecessaryPart). Needed g a) (sym same.graph) ((on.needed a).0 t),
-        λ n. (on.needed a).1 (subst (λ (g : NecessaryPart). Needed g a) same.graph n),
-      );
-      height = λ a n. on.height a (subst (λ (g : NecessaryPart). Needed g a) same.graph n) ∙ ap (λ (g : NecessaryPart). level g.heights a) (sym same.graph);
-      heap = λ a. on.heap a ∙ ap (λ (g : NecessaryPart). is_some (at g.heap a)) (sym same.graph);
-      settled = λ a. on.settled a ∙ sym (staged_settled a);
-      stage = stage_now old.rows new.rows p st w s.stage on.stage;
-      owed = owed_raised s p links (stage_of st) on.owed;
-      todo = λ a t. subst (λ (xs : List Point). Among a xs ⊎ (a ≡ p)) (sym same.todo) (on.todo a t);
-      retries = on.retries ∙ sym same.round.retries;
-      died = λ n. on.died n ∙ sym (died_same old new same.round.deaths n);
-      ran = on.ran ∙ ap reverse (sym same.round.ran);
-      counts = on.counts;
-      given = on.given;
-    }
+  pub up_stands : (s : State) (arena : Arena) (counts : Counts) (links : List Point) → MatchesState arena old counts (Some (hand p [])) s
+      → MatchesState arena staged counts (Some (hand p links)) (raised s p (stage_of st) links)
+  up_stands s arena counts links on =
+      raised_stands s arena old rows counts p (stage_of st) links on staged_most (stage_now old.rows rows p st w s.stage on.stage)
 
 -- a point without a row is raised: nothing is kept of that
-module _ (F : Functions) (z : Start) (s : State) (arena : Arena) (work : Work) (counts : Counts) (p : Point) (st : machine.Stage) (links : List Point)
-    (on : MatchesState arena work counts (Some (hand p [])) s) (rowless : at work.rows p ≡ None) where
-  pub rowless_stands : MatchesState arena work counts (Some (hand p links)) (raised s p st links)
-  rowless_stands = record {
-    graph = on.graph;
-    out = on.out;
-    last = on.last;
-    never = on.never;
-    stale = on.stale;
-    links = on.links;
-    root = on.root;
-    needed = on.needed;
-    height = on.height;
-    heap = on.heap;
-    settled = on.settled;
-    stage = λ a k e. elim (same_or_other p a) [
+pub rowless_stands : (s : State) (arena : Arena) (work : Work) (counts : Counts) (p : Point) (st : machine.Stage) (links : List Point)
+    → MatchesState arena work counts (Some (hand p [])) s → at work.rows p ≡ None → MatchesState arena work counts (Some (hand p links)) (raised s p st links)
+rowless_stands s arena work counts p st links on rowless =
+    raised_stands s arena work work.rows counts p st links on (most_same work work.graph work.todo work.retries) (λ a k e. elim (same_or_other p a) [
       | inl is ↦ absurd (none-some k (sym rowless ∙ subst (λ (x : Point). at work.rows x ≡ Some k) (sym is) e))
       | inr ne ↦ at_other p st s.stage a ne ∙ on.stage a k e
-    ];
-    owed = owed_raised s p links st on.owed;
-    todo = on.todo;
-    retries = on.retries;
-    died = on.died;
-    ran = on.ran;
-    counts = on.counts;
-    given = on.given;
-  }
+    ])
 
 -- the point in hand is owed nothing, and leaves the worklist
 pub leaves_hand : (F : Functions) (z : Start) (s : State) (arena : Arena) (work : Work) (counts : Counts) (p : Point) → MatchesState arena work counts (Some (hand p [])) s
@@ -311,35 +209,20 @@ pub leaves_hand : (F : Functions) (z : Start) (s : State) (arena : Arena) (work 
 leaves_hand F z s arena work counts p on unlinked finishes = (
   finished s p,
   step (move.finish finishes refl, tt) here,
-  record {
-    graph = on.graph;
-    out = on.out;
-    last = on.last;
-    never = on.never;
-    stale = on.stale;
-    links = on.links;
-    root = on.root;
-    needed = on.needed;
-    height = on.height;
-    heap = on.heap;
-    settled = on.settled;
-    stage = on.stage;
-    owed = λ a. on.owed a ∙ owed_none p a;
-    todo = λ a t. elim (same_or_other p a) [
-      | inl e ↦ absurd (
-          let f = at_same p false s.todo in
-          let t' : at_point p false s.todo p ≡ true = subst (λ (x : Point). at_point p false s.todo x ≡ true) (sym e) t in
-          cc)
-      | inr ne ↦ elim (on.todo a (sym (at_other p false s.todo a ne) ∙ t)) [ inl k ↦ inl k | inr k ↦ absurd (ne (sym k)) ]
-    ];
-    retries = on.retries;
-    died = on.died;
-    ran = on.ran;
-    counts = on.counts;
-    given = on.given;
-  },
+  hand_stands s arena work counts (Some (hand p [])) None work.todo s.owed (at_point p false s.todo) on (λ a. on.owed a ∙ nothing_at p a)
+      (λ a t. elim (same_or_other p a) [
+        | inl e ↦ absurd (not_off p a s.todo e t)
+        | inr ne ↦ elim (on.todo a (sym (at_other p false s.todo a ne) ∙ t)) [ inl k ↦ inl k | inr k ↦ absurd (ne (sym k)) ]
+      ]),
   finished_unlinked s p unlinked,
 )
+
+-- it isn't in the worklist, and nothing is in hand
+pub hand_empty : (s : State) (arena : Arena) (work : Work) (counts : Counts) (p : Point) → MatchesState arena work counts (Some (hand p [])) s
+    → (s.todo p ≡ true → ⊥) → MatchesState arena work counts None s
+hand_empty s arena work counts p on out =
+    hand_stands s arena work counts (Some (hand p [])) None work.todo s.owed s.todo on (λ a. on.owed a ∙ nothing_at p a)
+    (λ a t. elim (on.todo a t) [ inl k ↦ inl k | inr e ↦ absurd (out (ap s.todo (sym e) ∙ t)) ])
 
 -- ---- stages and links, by cases
 
@@ -350,13 +233,6 @@ no_links (Some b) e = absurd (cc)
 pub own_alone : (n : NodeId) (x : Option NodeId) (kids : List NodeId) → IsSome x → main_reads n x kids ≡ change n ∷ []
 own_alone n None kids some = absurd (cc)
 own_alone n (Some m) kids some = refl
-
-pub staged_row : (x : Option Progress) (st : Stage) → stage_in x ≡ Some st → (k : Progress) × (x ≡ Some k) × (k.stage ≡ st)
-staged_row None st e = absurd (none-some st e)
-staged_row (Some k) st e = (k, refl, same e)
-  where
-    same : ◌≡◌ {A = Option Stage} (Some k.stage) (Some st) → k.stage ≡ st
-    same h = cc
 
 -- no right side is a change
 no_change_of : (xs : List NodeId) (n : NodeId) → Among (change n) (map main xs) → ⊥
@@ -372,34 +248,21 @@ no_change G n d (Some o) m among = no_change_of (rights_of G n d o) m among
 
 -- a node has one row
 pub one_row : (arena : Arena) (n : NodeId) (r r' : Row) → row_at arena n ≡ Some r → row_at arena n ≡ Some r' → r' ≡ r
-one_row arena n r r' e e' = some_row (sym e' ∙ e)
-  where
-    some_row : ◌≡◌ {A = Option Row} (Some r') (Some r) → r' ≡ r
-    some_row h = cc
-
--- the state's row is the arena's
-pub row_of_state : (s : State) (arena : Arena) (work : Work) (counts : Counts) (p : Point) (owed : List Point) (n : NodeId)
-    → MatchesState arena work counts (Some (hand p owed)) s → s.graph.row n ≡ row_at arena n
-row_of_state s arena work counts p owed n on = ap (λ (G : Graph). G.row n) on.graph
-
--- its stage is the one in its row
-pub stage_is : (s : State) (arena : Arena) (work : Work) (counts : Counts) (p : Point) (owed : List Point) (st : Stage)
-    → MatchesState arena work counts (Some (hand p owed)) s → stage_in (at work.rows p) ≡ Some st → s.stage p ≡ stage_of st
-stage_is s arena work counts p owed st on e = let k = staged_row (at work.rows p) st e in on.stage p k.0 k.1 ∙ ap stage_of k.2
+one_row arena n r r' e e' = same_Some r' r (sym e' ∙ e)
 
 module _ (arena : Arena) (p : Point) (r : Row) (row : row_at arena p.node ≡ Some r) (old : Work) (need : Needed old.graph p) (lacks : LacksLinks arena old p)
     (ran : GateRan arena old p) (F : Functions) (z : Start) (s : State) (counts : Counts) (inv : Invariant F z s)
     (on : MatchesState arena old counts (Some (hand p [])) s) where
   row_is : s.graph.row p.node ≡ Some r
-  row_is = row_of_state s arena old counts p [] p.node on ∙ row
+  row_is = row_of_state on p.node ∙ row
 
   pub gate_settled : (b : NodeId) → r.scope ≡ Some b → s.settled (change b) ≡ true
   gate_settled b scope = on.settled (change b) ∙ ran r b row scope
 
   low : (s.stage p ≡ machine.Gated) ⊎ ((s.stage p ≡ machine.Bare) × (r.scope ≡ None))
   low = elim (lacks r row) [
-    | inl g ↦ inl (stage_is s arena old counts p [] code.Gated on g)
-    | inr b ↦ inr (stage_is s arena old counts p [] code.Bare on b.0, b.1)
+    | inl g ↦ inl (stage_is on p code.Gated g)
+    | inr b ↦ inr (stage_is on p code.Bare b.0, b.1)
   ]
 
   in_todo : s.todo p ≡ true
@@ -448,4 +311,4 @@ module _ (arena : Arena) (p : Point) (r : Row) (row : row_at arena p.node ≡ So
   }
     where
       same : (r' : Row) → s.graph.row p.node ≡ Some r' → r' ≡ r
-      same r' e = one_row arena p.node r r' row (sym (row_of_state s arena old counts p [] p.node on) ∙ e)
+      same r' e = one_row arena p.node r r' row (sym (row_of_state on p.node) ∙ e)

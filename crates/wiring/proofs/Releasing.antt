@@ -1,7 +1,7 @@
 -- Links to gates come off one after the other, and all is one sweep.
-use Rattle.std.proofs.Common.{◌≡◌, ◌≢◌, ◌⊎◌, inl, inr, ℕ, ◌-◌, Bool, true, Option, None, Some, List, [], arith, refl, sym, ap, subst, ◌∙◌}
+use Rattle.std.proofs.Common.{◌≡◌, ◌≢◌, ◌⊎◌, inl, inr, ℕ, ◌-◌, Bool, None, Some, List, [], arith, refl, sym, ap, subst, ◌∙◌}
 use Rattle.std.specs.Prelude.{is_some, not, map}
-use Rattle.std.proofs.lemmas.Bool.{cases_lt}
+use Rattle.std.proofs.lemmas.Bool.{cases_lt, false_from_ne_true}
 use Rattle.inc_value.specs.Choice.{Among}
 use Rattle.inc_value.specs.declared.node.NodeId.{NodeId}
 use Rattle.inc_value.specs.declared.node.Part.{Part}
@@ -19,6 +19,7 @@ use Rattle.node_lists.specs.Deaths.{Deaths, AreDeaths}
 use Rattle.node_outcomes.specs.declared.row.Progress.{Progress}
 use Rattle.stabilize_round.proofs.Points.{node_or_other}
 use Rattle.wiring.specs.Graph.{died_at, rowless}
+use Rattle.wiring.proofs.Linking.{none_if}
 use Rattle.wiring.specs.Scoped.{IsReleased}
 use Rattle.wiring.specs.declared.work.Work.{Work}
 
@@ -206,14 +207,10 @@ releasing_more old now new n b mid so died popped rows first step second last =
 
 -- all let go
 module _ (old new : Work) (so : IsReleasing old new) (nodes : new.deaths.nodes ≡ []) (told : AreDeaths new.deaths.nodes new.deaths.scopes) where
-  none_of : (x : Option NodeId) → (is_some x ≡ true → ⊥) → x ≡ None
-  none_of None h = refl
-  none_of (Some y) h = absurd (h refl)
-
   none_left : (n : NodeId) → died_at new n ≡ None
-  none_left n = none_of (died_at new n) (λ h.
+  none_left n = none_if (died_at new n) (false_from_ne_true (is_some (died_at new n)) (λ h.
       let among : Among (main n) (map main new.deaths.nodes) = (told.rows (main n)).0 h in
-      subst (λ (xs : List NodeId). Among (main n) (map main xs)) nodes among)
+      subst (λ (xs : List NodeId). Among (main n) (map main xs)) nodes among))
 
   kept_links : (p q : Point) → died_at old p.node ≡ None → IsLetGo old new so.links p → times so.links p q ≡ times old.graph.links p q
   kept_links p q lives (as_was same links) = links q

@@ -2,7 +2,7 @@
 use Rattle.std.proofs.Common.{◌≡◌, ◌⊎◌, inl, inr, ℕ, ◌+◌, ◌<◌, ◌≤◌, Bool, true, false, cond, List, [], ◌∷◌, length, Option, None, Some, refl, sym, ap, subst, ◌∙◌, arith}
 use Rattle.std.specs.Prelude.{not, option_map, Ok, Err}
 use Rattle.std.proofs.lemmas.Nat.{mul-le}
-use Rattle.std.proofs.lemmas.Option.{none-some}
+use Rattle.std.proofs.lemmas.Option.{none-some, same_Some}
 use Rattle.inc_value.specs.declared.node.NodeId.{NodeId}
 use Rattle.inc_value.specs.declared.node.Point.{Point}
 use Rattle.inc_value.specs.declared.outcome.Outcome.{Outcome}
@@ -14,20 +14,18 @@ use Rattle.inc_terms.specs.Term.{Functions}
 use Rattle.point_map.specs.Rows.{at}
 use Rattle.link_table.specs.Links.{Reads}
 use Rattle.height_order.specs.Levels.{level}
-use Rattle.necessary_graph.specs.Part.{NecessaryPart, Needed, IsInStep}
-use Rattle.necessary_graph.proofs.Reaching.{needed_more}
+use Rattle.necessary_graph.specs.Part.{NecessaryPart, Needed}
 use Rattle.node_arena.specs.Arena.{Arena, row_at}
 use Rattle.stabilize_round.specs.Invariant.{Invariant}
-use Rattle.stabilize_round.specs.Machine.{Move, step_main, step_change, link, link_new, root, root_new, raise, finish, schedule, cut, rebuild, spend}
-use Rattle.stabilize_round.specs.Machine as move
+use Rattle.stabilize_round.specs.Machine.{Move}
 use Rattle.stabilize_round.specs.State as machine
-use Rattle.stabilize_round.specs.State.{State, Start, at_point, count, planned, plan_at, live_plan}
-use Rattle.stabilize_round.specs.Steps.{TakesOff as OffMove, TakingOff, Spends, Wiring, Wired, plainly, after_refusal}
-use Rattle.stabilize_round.specs.Wire.{IsConfirmed, levelled, finished, Finish}
+use Rattle.stabilize_round.specs.State.{State, Start, count, planned, plan_at, live_plan}
+use Rattle.stabilize_round.specs.Steps.{TakingOff, Spends, Wiring, Wired, plainly, after_refusal}
+use Rattle.stabilize_round.specs.Wire.{IsConfirmed, levelled, Finish}
 use Rattle.stabilize_round.proofs.Machine.{moves_keep}
 use Rattle.stabilize_round.proofs.Steps.{off_moves, wiring_moves}
 use Rattle.stabilize_round.proofs.Parts.{bool_cases}
-use Rattle.stabilize_round.proofs.Points.{same_or_other, at_same, at_other}
+use Rattle.stabilize_round.proofs.Points.{at_same}
 use Rattle.stabilize_round.specs.Counts.{number_of}
 use Rattle.wiring.specs.Deciding.{is_needed}
 use Rattle.wiring.specs.Answers.{ConnectAnswers}
@@ -41,74 +39,22 @@ use Rattle.node_outcomes.specs.declared.row.Stage.{Stage}
 use Rattle.node_outcomes.specs.declared.row.Stage.TheVariants as code
 use Rattle.wiring.specs.TakingOff.{RowsSpared, TakesMore}
 use Rattle.wiring.specs.Stands.{MatchesState, PointInHand, hand, Counts}
-use Rattle.wiring.specs.Wiring.{IsDue, IsLevelled, IsSpared, IsPutBack, HasMore, IsTarget, MayRead, KeepsPlaces, TakesOff, Links, is_gated, is_still, hand_now, AreUnlinked}
+use Rattle.wiring.specs.Wiring.{IsDue, IsLevelled, IsSpared, IsPutBack, HasMore, IsTarget, MayRead, KeepsPlaces, Links, is_gated, is_still, hand_now, AreUnlinked}
 use Rattle.wiring.specs.declared.refused.Refused.{Refused}
 use Rattle.wiring.specs.declared.work.Work.{Work}
-use Rattle.wiring.proofs.Deciding.{decides_needed}
+use Rattle.wiring.proofs.Deciding.{decides_needed, same_need}
 use Rattle.wiring.proofs.Growing.{grows_then}
 use Rattle.wiring.proofs.Holding.{has_links_same, links_same}
-use Rattle.wiring.proofs.InHand.{still_same, still_not, still_needed, still_spared, nothing, nothing_at, change_settled}
+use Rattle.wiring.proofs.InHand.{still_same, still_not, still_needed, still_spared, nothing, change_settled}
 use Rattle.wiring.proofs.Levelling.{low_wiring, low_stands, refused_at_once}
 use Rattle.wiring.proofs.PuttingBack.{gate_once, gated_now, more_isnt_gated}
-use Rattle.wiring.proofs.Raising.{wired_then, wired_after}
+use Rattle.wiring.proofs.Raising.{Keeps, keeps_then, wiring_keeps, off_keeps, spend_keeps, wired_then, wired_after, leaves_hand}
+use Rattle.wiring.proofs.Staying.{row_of_state, stage_is}
 use Rattle.wiring.proofs.Telling.{barred_before}
 use Rattle.wiring.proofs.TakingAll.{rows_keep, places_then}
-use Rattle.wiring.proofs.Unlinked.{off_unlinked, spend_unlinked, finished_unlinked}
+use Rattle.wiring.proofs.Unlinked.{off_unlinked, spend_unlinked}
 
--- ---- what the moves that take off keep
-
-pub record Keeps (s t : State) : Type 0 where
-  pub graph : t.graph ≡ s.graph
-  pub died : t.died ≡ s.died
-  pub settled : t.settled ≡ s.settled
-  pub out : t.out ≡ s.out
-  pub taken : t.taken ≡ s.taken
-
-keeps_self : (s : State) → Keeps s s
-keeps_self s = record { graph = refl; died = refl; settled = refl; out = refl; taken = refl }
-
-keeps_then : (s t u : State) → Keeps s t → Keeps t u → Keeps s u
-keeps_then s t u a b = record {
-  graph = b.graph ∙ a.graph;
-  died = b.died ∙ a.died;
-  settled = b.settled ∙ a.settled;
-  out = b.out ∙ a.out;
-  taken = b.taken ∙ a.taken;
-}
-
-off_keeps_one : (F : Functions) (z : Start) (s t : State) (m : Move F z s t) → OffMove m → Keeps s t
-off_keeps_one F z s t (schedule x e) h = subst (λ (u : State). Keeps s u) (sym e) (record { graph = refl; died = refl; settled = refl; out = refl; taken = refl })
-off_keeps_one F z s t (cut d w e) h = subst (λ (u : State). Keeps s u) (sym e) (record { graph = refl; died = refl; settled = refl; out = refl; taken = refl })
-off_keeps_one F z s t (step_main q x e) h = absurd h
-off_keeps_one F z s t (step_change q x e) h = absurd h
-off_keeps_one F z s t (link x n e) h = absurd h
-off_keeps_one F z s t (link_new x n k e) h = absurd h
-off_keeps_one F z s t (root n e) h = absurd h
-off_keeps_one F z s t (root_new g n k e) h = absurd h
-off_keeps_one F z s t (raise x e) h = absurd h
-off_keeps_one F z s t (finish x e) h = absurd h
-off_keeps_one F z s t (rebuild r b k e) h = absurd h
-off_keeps_one F z s t (move.level x e) h = absurd h
-off_keeps_one F z s t (spend u k e) h = absurd h
-
-pub off_keeps : (F : Functions) (z : Start) (s t : State) → Reaches (TakingOff F z) s t → Keeps s t
-off_keeps F z s t here = keeps_self s
-off_keeps F z s t (step {b = u} m rest) = keeps_then s u t (off_keeps_one F z s u m.0 m.1) (off_keeps F z u t rest)
-
-spends_keep : (F : Functions) (z : Start) (s t : State) (m : Move F z s t) → Spends m → Keeps s t
-spends_keep F z s t (spend u k e) h = subst (λ (x : State). Keeps s x) (sym e) (record { graph = refl; died = refl; settled = refl; out = refl; taken = refl })
-spends_keep F z s t (schedule x e) h = absurd h
-spends_keep F z s t (cut d w e) h = absurd h
-spends_keep F z s t (step_main q x e) h = absurd h
-spends_keep F z s t (step_change q x e) h = absurd h
-spends_keep F z s t (link x n e) h = absurd h
-spends_keep F z s t (link_new x n k e) h = absurd h
-spends_keep F z s t (root n e) h = absurd h
-spends_keep F z s t (root_new g n k e) h = absurd h
-spends_keep F z s t (raise x e) h = absurd h
-spends_keep F z s t (finish x e) h = absurd h
-spends_keep F z s t (rebuild r b k e) h = absurd h
-spends_keep F z s t (move.level x e) h = absurd h
+-- ---- what stays
 
 still_confirmed : (s t : State) (p q : Point) → Keeps s t → IsConfirmed s p q → IsConfirmed t p q
 still_confirmed s t p q k c = record {
@@ -134,10 +80,6 @@ still_depends F s t p q k d = subst (λ (G : Graph). Depends F G t.died p q) (sy
     (subst (λ (f : NodeId → Option NodeId). Depends F s.graph f p q) (sym k.died) d)
 
 -- ---- the link is tried again
-
-pub not_both : (b : Bool) → b ≡ false → b ≡ true → ⊥
-not_both true f t = cc
-not_both false f t = cc
 
 -- who may read what stays
 pub may_read : (old new : Work) → KeepsPlaces old new → (p q : Point) → MayRead old p q → MayRead new p q
@@ -171,186 +113,6 @@ kept_row arena old new p rows spared still = elim (rows p spared) [
       (still.1 (ap stage_in b.back.now ∙ gated_for (at old.rows p) b.back.more)))
 ]
 
-module _ (F : Functions) (z : Start) (s : State) (arena : Arena) (old mid new : Work) (counts : Counts) (p q : Point) (rest : List Point)
-    (due : IsDue F z s arena old counts p q rest) (l : IsLevelled old mid) (some : 0 < old.retries) (need : Needed mid.graph p)
-    (spared : IsSpared arena mid p) (off : TakesOff arena mid new) (in_step : IsInStep new.graph) (rows : RowsSpared arena mid new)
-    (round : new.round ≡ mid.round) where
-  abbrev pub held : Option PointInHand
-  held = Some (hand p (q ∷ rest))
-
-  abbrev pub first : State
-  first = levelled s (level mid.graph.heights)
-
-  first_stands : MatchesState arena mid counts held first
-  first_stands = low_stands F z s arena old mid counts held due.stands l
-
-  first_wiring : Reaches (Wiring F z) s first
-  first_wiring = low_wiring F z s arena old mid counts held due.stands l
-
-  first_inv : Invariant F z first
-  first_inv = moves_keep F z s first (wiring_moves F z s first first_wiring) due.holds
-
-  gate_ran : (r : Row) (b : NodeId) → row_at arena p.node ≡ Some r → r.scope ≡ Some b → Among (change b) (q ∷ rest)
-      → HasMore (stage_in (at mid.rows p)) → settled_in mid.round (at mid.rows (change b)) ≡ true
-  gate_ran r b row scope among more = ap (λ (i : ℕ). settled_in i (at mid.rows (change b))) l.round.round
-      ∙ (ap (settled_in old.round) (l.rows (change b))
-      ∙ due.gate r b row scope among (subst (λ (x : Option Progress). HasMore (stage_in x)) (l.rows p) more))
-
-  pub was : (t u : State) × Reaches (TakingOff F z) first t × ((m : Move F z t u) × Spends m) × MatchesState arena new counts (hand_now mid new held) u
-  was = off F z first counts held first_inv (subst (λ (i : ℕ). 0 < i) (sym due.stands.retries) some)
-      (record { spared = spared; needed = inr need; gate = gate_ran }) first_stands
-
-  abbrev pub then : State
-  then = was.1
-
-  keeps : Keeps s then
-  keeps = keeps_then s was.0 then (keeps_then s first was.0 (record { graph = refl; died = refl; settled = refl; out = refl; taken = refl })
-      (off_keeps F z first was.0 was.2)) (spends_keep F z was.0 then was.3.0 was.3.1)
-
-  then_inv : Invariant F z then
-  then_inv = moves_keep F z was.0 then (step was.3.0 here) (moves_keep F z first was.0 (off_moves F z first was.0 was.2) first_inv)
-
-  wired_on : (t : State) → Reaches (Wiring F z) then t → Wired F z s t
-  wired_on t more = after_refusal {u = first} {v = was.0} {w = then} first_wiring was.2 was.3.0 was.3.1 (plainly more)
-
-  unlinked : AreUnlinked (Some (hand p [])) then
-  unlinked = spend_unlinked F z (Some (hand p [])) was.0 then was.3.0 was.3.1 (off_unlinked F z (Some (hand p [])) first was.0 was.2 due.unlinked)
-
-  settled_still : (b : NodeId) → settled_in new.round (at new.rows (change b)) ≡ settled_in mid.round (at mid.rows (change b))
-  settled_still b = change_settled arena mid new (rows_keep arena mid new rows) round (change b)
-
-  -- the reader is needed still, and wasn't put back
-  module _ (still : Needed new.graph p) (same : at new.rows p ≡ at mid.rows p) where
-    held_still : hand_now mid new held ≡ held
-    held_still = ap (λ (b : Bool). cond b held (Some (hand p []))) (still_same mid new p same ∙ (decides_needed new.graph in_step p).1 still)
-
-    pub due_again : IsDue F z then arena new counts p q rest
-    due_again = record {
-      holds = then_inv;
-      stands = subst (λ (h : Option PointInHand). MatchesState arena new counts h then) held_still was.4;
-      depends = still_depends F s then p q keeps due.depends;
-      confirmed = still_confirmed s then p q keeps due.confirmed;
-      gate = λ r b row scope among more. settled_still b
-          ∙ gate_ran r b row scope among (subst (λ (x : Option Progress). HasMore (stage_in x)) same more);
-      unlinked = unlinked;
-    }
-
-    -- the link may be tried again
-    pub again : (t : State) × Wired F z s t × IsDue F z t arena new counts p q rest
-    again = (then, wired_on then here, due_again)
-
-  -- it isn't needed any more, or waits for its gate, and leaves the worklist
-  module _ (gone : is_still mid new p ≡ false) where
-    at_hand : MatchesState arena new counts (Some (hand p [])) then
-    at_hand = subst (λ (b : Bool). MatchesState arena new counts (cond b held (Some (hand p []))) then) gone was.4
-
-    owes_nothing : then.owed p ≡ []
-    owes_nothing = at_hand.owed p ∙ at_same p [] nothing
-
-    left : Finish then p → (t : State) × Wired F z s t × MatchesState arena new counts None t × AreUnlinked None t
-    left leaves = (
-      finished then p,
-      wired_on (finished then p) (step (finish leaves refl, tt) here),
-      record {
-        graph = at_hand.graph;
-        out = at_hand.out;
-        last = at_hand.last;
-        never = at_hand.never;
-        stale = at_hand.stale;
-        links = at_hand.links;
-        root = at_hand.root;
-        needed = at_hand.needed;
-        height = at_hand.height;
-        heap = at_hand.heap;
-        settled = at_hand.settled;
-        stage = at_hand.stage;
-        owed = λ a. at_hand.owed a ∙ nothing_at p a;
-        todo = λ a t. elim (same_or_other p a) [
-          | inl e ↦ absurd (
-              let f = at_same p false then.todo in
-              let t' : at_point p false then.todo p ≡ true = subst (λ (x : Point). at_point p false then.todo x ≡ true) (sym e) t in
-              cc)
-          | inr ne ↦ elim (at_hand.todo a (sym (at_other p false then.todo a ne) ∙ t)) [ inl k ↦ inl k | inr k ↦ absurd (ne (sym k)) ]
-        ];
-        retries = at_hand.retries;
-        died = at_hand.died;
-        ran = at_hand.ran;
-        counts = at_hand.counts;
-        given = at_hand.given;
-      },
-      finished_unlinked then p unlinked,
-    )
-
-  pub lost_need : (Needed new.graph p → ⊥) → (t : State) × Wired F z s t × MatchesState arena new counts None t × AreUnlinked None t
-  lost_need lost = left gone (record {
-    owed = owes_nothing gone;
-    bare = λ n e. lost (need_now n);
-    gated = λ r row n e. absurd (lost (need_now n));
-    static = λ r row n e. absurd (lost (need_now n));
-  })
-    where
-      gone : is_still mid new p ≡ false
-      gone = elim (bool_cases (is_still mid new p)) [
-        | inl t ↦ absurd (lost ((decides_needed new.graph in_step p).0 (still_needed mid new p t)))
-        | inr f ↦ f
-      ]
-
-      need_now : then.needed p ≡ true → Needed new.graph p
-      need_now n = (was.4.needed p).0 n
-
-  pub put_back : (back : IsPutBack arena mid new p) → (t : State) × Wired F z s t × MatchesState arena new counts None t × AreUnlinked None t
-  put_back back = left gone (record {
-    owed = owes_nothing gone;
-    bare = λ n e. let g = stage_is in cc;
-    gated = λ r row n e. (back.bind, scope r row, unsettled, in_heap r row n);
-    static = λ r row n e. absurd (let g = stage_is in cc);
-  })
-    where
-      gone : is_still mid new p ≡ false
-      gone = still_not mid new p (ap (λ (x : Option Progress). is_gated (stage_in x)) back.back.now ∙ gated_now (at mid.rows p) back.back.more)
-          (more_isnt_gated (stage_in (at mid.rows p)) back.back.more)
-
-      by_row : (x : Option Progress) → at mid.rows p ≡ x → HasMore (stage_in x) → then.stage p ≡ machine.Gated
-      by_row None e (inl h) = absurd (none-some code.Static h)
-      by_row None e (inr h) = absurd (none-some code.Full h)
-      by_row (Some k) e h = was.4.stage p (with_stage code.Gated k) (back.back.now ∙ ap (λ (x : Option Progress). option_map (with_stage code.Gated) x) e)
-
-      stage_is : then.stage p ≡ machine.Gated
-      stage_is = by_row (at mid.rows p) refl back.back.more
-
-      same_row : (r : Row) → then.graph.row p.node ≡ Some r → back.back.row ≡ r
-      same_row r row = one (sym back.back.is_row ∙ (sym (ap (λ (G : Graph). G.row p.node) was.4.graph) ∙ row))
-        where
-          one : ◌≡◌ {A = Option Row} (Some back.back.row) (Some r) → back.back.row ≡ r
-          one h = cc
-
-      scope : (r : Row) → then.graph.row p.node ≡ Some r → r.scope ≡ Some back.bind
-      scope r row = subst (λ (x : Row). x.scope ≡ Some back.bind) (same_row r row) back.back.is_scope
-
-      unsettled : then.settled (change back.bind) ≡ false
-      unsettled = was.4.settled (change back.bind) ∙ (settled_still back.bind ∙ back.unsettled)
-
-      reads : (r : Row) → then.graph.row p.node ≡ Some r → then.needed p ≡ true → Reads new.graph.links p (change back.bind)
-      reads r row n =
-          let all = then_inv.rows.links p (change back.bind) n in
-          let none : count (change back.bind) (then.owed p) ≡ 0 = ap (count (change back.bind)) (owes_nothing gone) in
-          let plan : count (change back.bind) (planned then p) ≡ count (change back.bind) (gate_of r.scope) =
-          ap (λ (x : Option Row). count (change back.bind) (plan_at then.graph then.out then.died p x (then.stage p))) row
-          ∙ ap (λ (x : machine.Stage). count (change back.bind) (live_plan then.graph then.out p r x)) stage_is in
-          let once = gate_once back.bind r.scope (scope r row) in
-          let links = was.4.links p (change back.bind) in
-          omega (arith, all, none, plan, once, links)
-
-      in_heap : (r : Row) → then.graph.row p.node ≡ Some r → then.needed p ≡ true → then.heap (change back.bind) ≡ true
-      in_heap r row n = was.4.heap (change back.bind) ∙ back.back.waits ((was.4.needed p).0 n) (reads r row n)
-
-  -- one way or the other
-  pub left_hand : (IsStill mid new p → ⊥) → (t : State) × Wired F z s t × MatchesState arena new counts None t × AreUnlinked None t
-  left_hand lost = elim (rows p spared) [
-    | inl e ↦ lost_need (λ n. lost (n, λ g. ap stage_in (sym e) ∙ g))
-    | inr b ↦ put_back b
-  ]
-
 few_of : (f : Point → Bool) (points : List Point) → number_of f points ≤ length points
 few_of f [] = omega arith
 few_of f (p ∷ ps) = by (f p) refl (few_of f ps)
@@ -378,19 +140,13 @@ levelled_spared arena old new l p spared e full r row sub =
     ap (λ (q : ℕ). settled_in q (at new.rows (change p.node))) l.round.round ∙ (ap (settled_in old.round) (l.rows (change p.node))
     ∙ spared e (ap stage_in (sym (l.rows p)) ∙ full) r row sub)
 
-pub levelled_need : (old new : Work) → IsLevelled old new → (p : Point) → Needed old.graph p → Needed new.graph p
-levelled_need old new l p n = needed_more old.graph new.graph (λ a r. let e = l.roots a in omega (arith, e, r)) (λ a b x. let e = l.links a b in omega (arith, e, x)) p n
-
 -- a link was refused that may be tried again, and some of what wasn't confirmed is off, or all
 pub record IsOffNow (arena : Arena) (old mid new : Work) (p : Point) : Type 0 where
   pub levelled : IsLevelled old mid
   pub some : 0 < old.retries
   pub need : Needed mid.graph p
   pub spared : IsSpared arena mid p
-  pub off : TakesOff arena mid new
-  pub step : IsInStep new.graph
-  pub rows : RowsSpared arena mid new
-  pub round : new.round ≡ mid.round
+  pub more : TakesMore arena mid new
   pub places : KeepsPlaces old new
   pub grows : Grows old new
   pub fewer : new.retries < old.retries
@@ -400,16 +156,154 @@ pub is_off_now : (arena : Arena) (old mid new : Work) (p : Point) → IsLevelled
 is_off_now arena old mid new p l same need spared first more fewer = record {
   levelled = l;
   some = omega (arith, fewer, same);
-  need = levelled_need old mid l p need;
+  need = (same_need old.graph mid.graph l.roots l.links p).1 need;
   spared = levelled_spared arena old mid l p spared;
-  off = more.taken;
-  step = more.kept.step;
-  rows = more.rows;
-  round = more.places.round;
+  more = more;
   places = places_then old mid new first more.places;
   grows = spent_grows old mid new same l.todo fewer (ap (λ (w : Work). w.todo.items) more.rest);
   fewer = omega (arith, fewer, same);
 }
+
+module _ (F : Functions) (z : Start) (s : State) (arena : Arena) (old mid new : Work) (counts : Counts) (p q : Point) (rest : List Point)
+    (due : IsDue F z s arena old counts p q rest) (o : IsOffNow arena old mid new p) where
+  abbrev pub held : Option PointInHand
+  held = Some (hand p (q ∷ rest))
+
+  abbrev pub first : State
+  first = levelled s (level mid.graph.heights)
+
+  first_stands : MatchesState arena mid counts held first
+  first_stands = low_stands F z s arena old mid counts held due.stands o.levelled
+
+  first_wiring : Reaches (Wiring F z) s first
+  first_wiring = low_wiring F z s arena old mid counts held due.stands o.levelled
+
+  first_inv : Invariant F z first
+  first_inv = moves_keep F z s first (wiring_moves F z s first first_wiring) due.holds
+
+  gate_ran : (r : Row) (b : NodeId) → row_at arena p.node ≡ Some r → r.scope ≡ Some b → Among (change b) (q ∷ rest)
+      → HasMore (stage_in (at mid.rows p)) → settled_in mid.round (at mid.rows (change b)) ≡ true
+  gate_ran r b row scope among more = ap (λ (i : ℕ). settled_in i (at mid.rows (change b))) o.levelled.round.round
+      ∙ (ap (settled_in old.round) (o.levelled.rows (change b))
+      ∙ due.gate r b row scope among (subst (λ (x : Option Progress). HasMore (stage_in x)) (o.levelled.rows p) more))
+
+  pub was : (t u : State) × Reaches (TakingOff F z) first t × ((m : Move F z t u) × Spends m) × MatchesState arena new counts (hand_now mid new held) u
+  was = o.more.taken F z first counts held first_inv (subst (λ (i : ℕ). 0 < i) (sym due.stands.retries) o.some)
+      (record { spared = o.spared; needed = inr o.need; gate = gate_ran }) first_stands
+
+  abbrev pub then : State
+  then = was.1
+
+  keeps : Keeps s then
+  keeps = keeps_then s was.0 then (keeps_then s first was.0 (wiring_keeps F z s first first_wiring) (off_keeps F z first was.0 was.2))
+      (spend_keeps F z was.0 then was.3.0 was.3.1)
+
+  then_inv : Invariant F z then
+  then_inv = moves_keep F z was.0 then (step was.3.0 here) (moves_keep F z first was.0 (off_moves F z first was.0 was.2) first_inv)
+
+  wired_on : (t : State) → Reaches (Wiring F z) then t → Wired F z s t
+  wired_on t more = after_refusal {u = first} {v = was.0} {w = then} first_wiring was.2 was.3.0 was.3.1 (plainly more)
+
+  unlinked : AreUnlinked (Some (hand p [])) then
+  unlinked = spend_unlinked F z (Some (hand p [])) was.0 then was.3.0 was.3.1 (off_unlinked F z (Some (hand p [])) first was.0 was.2 due.unlinked)
+
+  settled_still : (b : NodeId) → settled_in new.round (at new.rows (change b)) ≡ settled_in mid.round (at mid.rows (change b))
+  settled_still b = change_settled arena mid new (rows_keep arena mid new o.more.rows) o.more.places.round (change b)
+
+  -- the reader is needed still, and wasn't put back
+  module _ (still : Needed new.graph p) (same : at new.rows p ≡ at mid.rows p) where
+    held_still : hand_now mid new held ≡ held
+    held_still = ap (λ (b : Bool). cond b held (Some (hand p []))) (still_same mid new p same ∙ (decides_needed new.graph o.more.kept.step p).1 still)
+
+    pub due_again : IsDue F z then arena new counts p q rest
+    due_again = record {
+      holds = then_inv;
+      stands = subst (λ (h : Option PointInHand). MatchesState arena new counts h then) held_still was.4;
+      depends = still_depends F s then p q keeps due.depends;
+      confirmed = still_confirmed s then p q keeps due.confirmed;
+      gate = λ r b row scope among more. settled_still b
+          ∙ gate_ran r b row scope among (subst (λ (x : Option Progress). HasMore (stage_in x)) same more);
+      unlinked = unlinked;
+    }
+
+    -- the link may be tried again
+    pub again : (t : State) × Wired F z s t × IsDue F z t arena new counts p q rest
+    again = (then, wired_on then here, due_again)
+
+  -- it isn't needed any more, or waits for its gate, and leaves the worklist
+  module _ (gone : is_still mid new p ≡ false) where
+    at_hand : MatchesState arena new counts (Some (hand p [])) then
+    at_hand = subst (λ (b : Bool). MatchesState arena new counts (cond b held (Some (hand p []))) then) gone was.4
+
+    owes_nothing : then.owed p ≡ []
+    owes_nothing = at_hand.owed p ∙ at_same p [] nothing
+
+    left : Finish then p → (t : State) × Wired F z s t × MatchesState arena new counts None t × AreUnlinked None t
+    left leaves =
+        let out = leaves_hand F z then arena new counts p at_hand unlinked leaves in
+        (out.0, wired_on out.0 out.1, out.2, out.3)
+
+  pub lost_need : (Needed new.graph p → ⊥) → (t : State) × Wired F z s t × MatchesState arena new counts None t × AreUnlinked None t
+  lost_need lost = left gone (record {
+    owed = owes_nothing gone;
+    bare = λ n e. lost (need_now n);
+    gated = λ r row n e. absurd (lost (need_now n));
+    static = λ r row n e. absurd (lost (need_now n));
+  })
+    where
+      gone : is_still mid new p ≡ false
+      gone = elim (bool_cases (is_still mid new p)) [
+        | inl t ↦ absurd (lost ((decides_needed new.graph o.more.kept.step p).0 (still_needed mid new p t)))
+        | inr f ↦ f
+      ]
+
+      need_now : then.needed p ≡ true → Needed new.graph p
+      need_now n = (was.4.needed p).0 n
+
+  pub put_back : (back : IsPutBack arena mid new p) → (t : State) × Wired F z s t × MatchesState arena new counts None t × AreUnlinked None t
+  put_back back = left gone (record {
+    owed = owes_nothing gone;
+    bare = λ n e. let g = is_gated_now in cc;
+    gated = λ r row n e. (back.bind, scope r row, unsettled, in_heap r row n);
+    static = λ r row n e. absurd (let g = is_gated_now in cc);
+  })
+    where
+      gone : is_still mid new p ≡ false
+      gone = still_not mid new p (ap (λ (x : Option Progress). is_gated (stage_in x)) back.back.now ∙ gated_now (at mid.rows p) back.back.more)
+          (more_isnt_gated (stage_in (at mid.rows p)) back.back.more)
+
+      is_gated_now : then.stage p ≡ machine.Gated
+      is_gated_now = stage_is was.4 p code.Gated (ap stage_in back.back.now ∙ gated_for (at mid.rows p) back.back.more)
+
+      same_row : (r : Row) → then.graph.row p.node ≡ Some r → back.back.row ≡ r
+      same_row r row = same_Some back.back.row r (sym back.back.is_row ∙ (sym (row_of_state was.4 p.node) ∙ row))
+
+      scope : (r : Row) → then.graph.row p.node ≡ Some r → r.scope ≡ Some back.bind
+      scope r row = subst (λ (x : Row). x.scope ≡ Some back.bind) (same_row r row) back.back.is_scope
+
+      unsettled : then.settled (change back.bind) ≡ false
+      unsettled = was.4.settled (change back.bind) ∙ (settled_still back.bind ∙ back.unsettled)
+
+      reads : (r : Row) → then.graph.row p.node ≡ Some r → then.needed p ≡ true → Reads new.graph.links p (change back.bind)
+      reads r row n =
+          let all = then_inv.rows.links p (change back.bind) n in
+          let none : count (change back.bind) (then.owed p) ≡ 0 = ap (count (change back.bind)) (owes_nothing gone) in
+          let plan : count (change back.bind) (planned then p) ≡ count (change back.bind) (gate_of r.scope) =
+          ap (λ (x : Option Row). count (change back.bind) (plan_at then.graph then.out then.died p x (then.stage p))) row
+          ∙ ap (λ (x : machine.Stage). count (change back.bind) (live_plan then.graph then.out p r x)) is_gated_now in
+          let once = gate_once back.bind r.scope (scope r row) in
+          let links = was.4.links p (change back.bind) in
+          omega (arith, all, none, plan, once, links)
+
+      in_heap : (r : Row) → then.graph.row p.node ≡ Some r → then.needed p ≡ true → then.heap (change back.bind) ≡ true
+      in_heap r row n = was.4.heap (change back.bind) ∙ back.back.waits ((was.4.needed p).0 n) (reads r row n)
+
+  -- one way or the other
+  pub left_hand : (IsStill mid new p → ⊥) → (t : State) × Wired F z s t × MatchesState arena new counts None t × AreUnlinked None t
+  left_hand lost = elim (o.more.rows p o.spared) [
+    | inl e ↦ lost_need (λ n. lost (n, λ g. ap stage_in (sym e) ∙ g))
+    | inr b ↦ put_back b
+  ]
 
 -- ---- what holds while a link is tried again
 
@@ -459,18 +353,17 @@ module _ (arena : Arena) (old now : Work) (p q : Point) (so : IsTrying arena old
   has_links = has_links_same now old (λ a. sym (so.places.rows a)) (sym so.places.deaths)
 
   -- it is needed still, and wasn't put back
-  pub more_trying : (mid new : Work) → IsOffNow arena now mid new p → IsBarred mid p q → IsKept arena new → IsStill mid new p
-      → IsTrying arena old new p q
-  more_trying mid new o bar kept still =
-      let same = kept_row arena mid new p o.rows o.spared still in record {
+  pub more_trying : (mid new : Work) → IsOffNow arena now mid new p → IsBarred mid p q → IsStill mid new p → IsTrying arena old new p q
+  more_trying mid new o bar still =
+      let same = kept_row arena mid new p o.more.rows o.spared still in record {
         due = λ F z s counts rest due.
             let a = so.due F z s counts rest due in
-            let b = again F z a.0 arena now mid new counts p q rest a.2 o.levelled o.some o.need o.spared o.off o.step o.rows o.round still.0 same in
+            let b = again F z a.0 arena now mid new counts p q rest a.2 o still.0 same in
             (b.0, wired_then F z s a.0 b.0 a.1 b.1, b.2);
         places = places_then old now new so.places o.places;
-        kept = kept;
+        kept = o.more.kept;
         needed = still.0;
-        spared = still_spared arena mid new (rows_keep arena mid new o.rows) o.round p o.spared;
+        spared = still_spared arena mid new (rows_keep arena mid new o.more.rows) o.more.places.round p o.spared;
         row = same ∙ (o.levelled.rows p ∙ so.row);
         grows = grows_then old now new has_links so.grows o.grows;
         retries = let a = so.retries in let b = o.fewer in omega (arith, a, b);
@@ -478,16 +371,16 @@ module _ (arena : Arena) (old now : Work) (p q : Point) (so : IsTrying arena old
       }
 
   -- it isn't, or waits for its gate
-  pub lost_answers : (mid new : Work) → IsOffNow arena now mid new p → (IsStill mid new p → ⊥) → IsBarred mid p q → IsKept arena new
+  pub lost_answers : (mid new : Work) → IsOffNow arena now mid new p → (IsStill mid new p → ⊥) → IsBarred mid p q
       → ConnectAnswers arena old new p q (Ok false)
-  lost_answers mid new o lost bar kept = record {
+  lost_answers mid new o lost bar = record {
     linked = λ t. absurd (let e = t in cc);
     needed = λ t. absurd (let e = t in cc);
     reads = λ t. absurd (let e = t in cc);
     gone = λ f. (
       λ F z s counts rest due.
           let a = so.due F z s counts rest due in
-          let b = left_hand F z a.0 arena now mid new counts p q rest a.2 o.levelled o.some o.need o.spared o.off o.step o.rows o.round lost in
+          let b = left_hand F z a.0 arena now mid new counts p q rest a.2 o lost in
           (b.0, wired_then F z s a.0 b.0 a.1 b.1, b.2, b.3),
       let a = so.retries in let b = o.fewer in omega (arith, a, b),
     );
@@ -495,7 +388,7 @@ module _ (arena : Arena) (old now : Work) (p q : Point) (so : IsTrying arena old
     barred = λ fewer. first_barred mid o.levelled bar;
     row = λ t. absurd (let e = t in cc);
     places = places_then old now new so.places o.places;
-    kept = kept;
+    kept = o.more.kept;
     pushed = grows_then old now new has_links so.grows o.grows;
   }
 

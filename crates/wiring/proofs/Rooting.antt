@@ -31,9 +31,10 @@ use Rattle.wiring.specs.Rooting.{Follows, PutsRootOn}
 use Rattle.wiring.specs.declared.refused.Refused.{Refused}
 use Rattle.wiring.specs.declared.refused.Refused.TheVariants.{Memory}
 use Rattle.wiring.proofs.Levelling.{low, low_wiring, low_stands}
-use Rattle.wiring.proofs.Trying.{IsGrown, grown, grown_kept, same_need, target_row}
+use Rattle.wiring.proofs.Deciding.{same_need}
+use Rattle.wiring.proofs.Staying.{most_same, most_stands, looks_stands}
+use Rattle.wiring.proofs.Trying.{IsGrown, grown, grown_kept, target_row}
 use Rattle.wiring.proofs.Unlinked.{empty_unlinked}
-use Rattle.wiring.proofs.Wiring.{looks_stands}
 
 -- one root more is one root more in the state
 pub roots_more : (root : Point → ℕ) (old new : Roots) (p : Point) → ((a : Point) → root a ≡ root_times old a) → OneRootMore old new p
@@ -52,27 +53,17 @@ module _ (F : Functions) (z : Start) (s : State) (arena : Arena) (old : Work) (g
   high a = level_is a ∙ sym (ap (λ h. level h a) heights)
 
   pub rooted_with : (N : Point → Type 0) → ((a : Point) → (s.needed a ≡ true) ↔ N a) → StandsWith N arena (record old { graph = g }) counts None (rooted s p)
-  rooted_with N needed = record {
-    graph = st.graph;
-    out = st.out;
-    last = st.last;
-    never = st.never;
-    stale = st.stale;
+  rooted_with N needed = most_stands old (record old { graph = g }) (most_same old g old.todo old.retries) arena s (rooted s p) refl st refl (record {
     links = λ a b. st.links a b ∙ sym (links a b);
     root = roots_more s.root old.graph.roots g.roots p st.root more;
     needed = needed;
     height = λ a n. high a;
     heap = λ a. st.heap a ∙ sym (ap (λ h. is_some (at h a)) heap);
-    settled = st.settled;
     stage = st.stage;
     owed = st.owed;
     todo = st.todo;
     retries = st.retries;
-    died = st.died;
-    ran = st.ran;
-    counts = st.counts;
-    given = st.given;
-  }
+  })
 
   pub rooted_stands : Needed old.graph p → AreUnlinked None s
       → (t : State) × Moves F z s t × MatchesState arena (record old { graph = g }) counts None t × AreUnlinked None t
@@ -178,7 +169,7 @@ module _ (old mid new : Work) (g : NecessaryPart) (p : Point) (newly : Bool) (lo
         follows = root_follows arena kept target;
         kept = grown_kept old new p grown_by arena target kept;
         more = root_more;
-        round = grown_by.round;
+        round = grown_by.most.round;
       }
 
 -- ---- then what is newly needed gets its links

@@ -1,12 +1,11 @@
 -- A point that has a row is put into the heap, also one that was settled: what is kept, and how the state follows.
-use Rattle.std.proofs.Common.{◌≡◌, ◌⊎◌, inl, inr, ℕ, ◌≤◌, Bool, true, false, List, length, Option, Some, refl, sym, ap, subst, ◌∙◌, arith}
-use Rattle.std.specs.Prelude.{is_some, reverse}
+use Rattle.std.proofs.Common.{◌≡◌, ◌⊎◌, inl, inr, ℕ, Bool, true, false, length, Option, Some, refl, sym, ap, subst, ◌∙◌, arith}
+use Rattle.std.specs.Prelude.{is_some}
 use Rattle.inc_value.specs.declared.node.Part.TheVariants.{Change}
 use Rattle.inc_value.specs.declared.node.Point.{Point}
-use Rattle.inc_value.specs.Choice.{Among}
-use Rattle.inc_terms.specs.Depend.{main, change, right_of}
-use Rattle.inc_terms.specs.Graph.{Graph, Row}
-use Rattle.point_map.specs.Rows.{Rows, at, Holds}
+use Rattle.inc_terms.specs.Depend.{main}
+use Rattle.inc_terms.specs.Graph.{Row}
+use Rattle.point_map.specs.Rows.{Rows, at, Holds, KeepsRows}
 use Rattle.link_table.specs.Links.{times, Reads}
 use Rattle.necessity.specs.Need.{root_times}
 use Rattle.height_order.specs.Levels.{level}
@@ -16,33 +15,25 @@ use Rattle.stabilize_round.specs.State as machine
 use Rattle.stabilize_round.specs.State.{State}
 use Rattle.stabilize_round.specs.Wire.{heaped, Schedule}
 use Rattle.stabilize_round.proofs.Points.{same_or_other}
-use Rattle.node_outcomes.specs.Row.{settled_in, outcome_in}
 use Rattle.node_outcomes.specs.declared.row.Progress.{Progress}
-use Rattle.wiring.specs.Graph.{graph_at}
 use Rattle.wiring.specs.Growing.{Grows}
 use Rattle.wiring.specs.Kept.{IsKept}
-use Rattle.wiring.specs.Stands.{MatchesState, PointInHand, IsInHand, Counts}
-use Rattle.wiring.specs.Wiring.{IsMarked, KeepsPlaces, KeepsLists}
+use Rattle.wiring.specs.Stands.{MatchesState, PointInHand, Counts}
+use Rattle.wiring.specs.Wiring.{IsMarked, KeepsPlaces}
 use Rattle.wiring.specs.declared.work.Work.{Work}
 use Rattle.wiring.proofs.Growing.{no_more_unneeded}
-use Rattle.wiring.proofs.Holding.{graph_rows, died_same, links_same, root_same, pairs_same, scoped_same}
-use Rattle.wiring.proofs.Trying.{same_need}
+use Rattle.wiring.proofs.Deciding.{same_need}
+use Rattle.wiring.proofs.Staying.{KeepsMost, most_still, most_kept_there, shown_stands, rest_lists, rest_round}
 
 module _ (q : Point) (old new : Work) (marked : IsMarked old.graph new.graph q) (rest : new ≡ record old { graph = new.graph }) where
-  same_rows : new.rows ≡ old.rows
-  same_rows = ap (λ (w : Work). w.rows) rest
+  rows_too : new ≡ record old { graph = new.graph; rows = new.rows }
+  rows_too = rest ∙ ap (λ (m : Rows Progress). record old { graph = new.graph; rows = m }) (sym (ap (λ (w : Work). w.rows) rest))
 
-  row_as : (a : Point) → at new.rows a ≡ at old.rows a
-  row_as a = ap (λ (m : Rows Progress). at m a) same_rows
+  row_as : KeepsRows old.rows new.rows
+  row_as a = ap (λ (w : Work). at w.rows a) rest
 
-  same_deaths : new.deaths ≡ old.deaths
-  same_deaths = ap (λ (w : Work). w.deaths) rest
-
-  same_lists : KeepsLists old new
-  same_lists = record { pairs = ap (λ (w : Work). w.pairs) rest; scoped = ap (λ (w : Work). w.scoped) rest }
-
-  same_graph : (arena : Arena) → graph_at arena new ≡ graph_at arena old
-  same_graph arena = graph_rows arena old new row_as (ap (λ (w : Work). w.roots) rest)
+  marked_most : KeepsMost old new
+  marked_most = most_still old new row_as (rest_lists old new rows_too) (rest_round old new rows_too)
 
   pub marked_need : (a : Point) → (Needed new.graph a → Needed old.graph a) × (Needed old.graph a → Needed new.graph a)
   marked_need a = same_need old.graph new.graph (λ b. ap (λ x. root_times x b) marked.graph.roots) (λ b d. ap (λ x. times x b d) marked.graph.links) a
@@ -51,7 +42,7 @@ module _ (q : Point) (old new : Work) (marked : IsMarked old.graph new.graph q) 
   marked_places = record {
     rows = λ a. ap is_some (row_as a);
     roots = λ a. ap (λ x. root_times x a) marked.graph.roots;
-    deaths = same_deaths;
+    deaths = marked_most.deaths;
     round = ap (λ (w : Work). w.round) rest;
   }
 
@@ -64,34 +55,11 @@ module _ (q : Point) (old new : Work) (marked : IsMarked old.graph new.graph q) 
 
   module _ (arena : Arena) (rowed : Holds old.rows q) (step_new : IsInStep new.graph) where
     pub marked_kept : IsKept arena old → IsKept arena new
-    marked_kept k = record {
-      step = step_new;
-      rows = λ a. ap is_some (row_as a) ∙ k.rows a;
-      leaves = λ a h. elim (k.leaves a (subst (λ (m : Rows ℕ). Holds m a) marked.graph.heights h)) [
-        | inl e ↦ inl (ap is_some (row_as a) ∙ e)
-        | inr d ↦ inr (d.0, (marked_need a).1 d.1)
-      ];
-      there = λ a h. subst (λ (m : Rows ℕ). Holds m a) (sym marked.graph.heights) (k.there a (sym (ap is_some (row_as a)) ∙ h));
-      given = λ a h. k.given a (subst (λ (m : Rows ℕ). Holds m a) marked.graph.heights h);
-      links = λ a b l. links_same old new (λ x. ap is_some (row_as x)) same_deaths a b (k.links a b (subst (λ x. Reads x a b) marked.graph.links l));
-      heap = λ a h. ap is_some (row_as a) ∙ elim (same_or_other q a) [
-        | inl e ↦ subst (λ (x : Point). Holds old.rows x) e rowed
-        | inr ne ↦ k.heap a (sym (ap is_some (marked.others a (λ e. ne (sym e)))) ∙ h)
-      ];
-      dead = λ n b e. k.dead n b (sym (died_same old new same_deaths n) ∙ e);
-      sound = k.sound;
-      scopes = k.scopes;
-      older = k.older;
-      outcomes = λ i x w v at_row e. k.outcomes i x w v at_row (sym (row_as (main i)) ∙ e);
-      rights = λ i j x w o at_row e out right. k.rights i j x w o at_row (sym (row_as (change i)) ∙ e) out
-          (subst (λ (G : Graph). right_of G i x.def o ≡ Some j) (same_graph arena) right);
-      roots = λ n h. let v = k.roots n (root_same old new (ap (λ (w : Work). w.roots) rest) (change n) h) in (v.0, ap outcome_in (row_as (change n)) ∙ v.1);
-      binds = λ n r row h. k.binds n r row (root_same old new (ap (λ (w : Work). w.roots) rest) (change n) h);
-      calls = λ i x w c at_row e. k.calls i x w c at_row (sym (row_as (main i)) ∙ e);
-      rounds = λ a w e. subst (λ (i : ℕ). w.settled ≤ i) (sym (ap (λ (x : Work). x.round) rest)) (k.rounds a w (sym (row_as a) ∙ e));
-      pairs = λ i x at_row some. pairs_same old new same_lists i (k.pairs i x at_row some);
-      scoped = λ i x at_row some. scoped_same old new same_lists i (k.scoped i x at_row some);
-    }
+    marked_kept k = most_kept_there old new marked_most arena k step_new (λ a. ap (λ (m : Rows ℕ). is_some (at m a)) marked.graph.heights)
+        (λ a. (marked_need a).1) (λ a b l. subst (λ x. Reads x a b) marked.graph.links l) (λ a h. elim (same_or_other q a) [
+          | inl e ↦ subst (λ (x : Point). Holds old.rows x) e rowed
+          | inr ne ↦ k.heap a (sym (ap is_some (marked.others a (λ e. ne (sym e)))) ∙ h)
+        ])
 
   module _ (s : State) (arena : Arena) (counts : Counts) (held : Option PointInHand) (on : MatchesState arena old counts held s) where
     abbrev heap' : Point → Bool
@@ -102,27 +70,9 @@ module _ (q : Point) (old new : Work) (marked : IsMarked old.graph new.graph q) 
     put_in = heaped s heap'
 
     pub put_stands : MatchesState arena new counts held put_in
-    put_stands = record {
-      graph = on.graph ∙ sym (same_graph arena);
-      out = λ a k e. on.out a k (sym (row_as a) ∙ e);
-      last = λ i k e. on.last i k (sym (row_as (main i)) ∙ e);
-      never = λ i k e. on.never i k (sym (row_as (main i)) ∙ e);
-      stale = on.stale;
-      links = λ a b. on.links a b ∙ ap (λ x. times x a b) (sym marked.graph.links);
-      root = λ a. on.root a ∙ ap (λ x. root_times x a) (sym marked.graph.roots);
-      needed = λ a. (λ t. (marked_need a).1 ((on.needed a).0 t), λ k. (on.needed a).1 ((marked_need a).0 k));
-      height = λ a n. on.height a ((marked_need a).0 n) ∙ ap (λ (m : Rows ℕ). level m a) (sym marked.graph.heights);
-      heap = λ a. refl;
-      settled = λ a. on.settled a ∙ (ap (settled_in old.round) (sym (row_as a)) ∙ ap (λ (i : ℕ). settled_in i (at new.rows a)) (sym (ap (λ (w : Work). w.round) rest)));
-      stage = λ a k e. on.stage a k (sym (row_as a) ∙ e);
-      owed = on.owed;
-      todo = λ a t. subst (λ (xs : List Point). Among a xs ⊎ IsInHand held a) (sym (ap (λ (w : Work). w.todo.items) rest)) (on.todo a t);
-      retries = on.retries ∙ sym (ap (λ (w : Work). w.retries) rest);
-      died = λ n. on.died n ∙ sym (died_same old new same_deaths n);
-      ran = on.ran ∙ ap reverse (sym (ap (λ (w : Work). w.ran.items) rest));
-      counts = on.counts;
-      given = on.given;
-    }
+    put_stands = shown_stands s arena old new counts held s.height heap' row_as marked_most.lists (rest_round old new rows_too)
+        (λ a b. ap (λ x. times x a b) marked.graph.links) (λ a. ap (λ x. root_times x a) marked.graph.roots) (ap (λ (w : Work). w.todo.items) rest)
+        (λ a n. on.height a ((marked_need a).0 n) ∙ ap (λ (m : Rows ℕ). level m a) (sym marked.graph.heights)) (λ a. refl) on
 
     -- a move, where the point may be put in
     pub scheduled : Needed old.graph q

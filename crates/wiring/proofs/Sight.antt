@@ -1,14 +1,14 @@
 -- What is seen of points by their rows is what the state shows.
-use Rattle.std.proofs.Common.{◌≡◌, inl, inr, ℕ, Bool, true, false, List, [], ◌∷◌, map, Option, None, Some, refl, sym, ap, subst, ◌∙◌}
-use Rattle.std.specs.Prelude.{is_some, IsSome, slice_index_or, option_and_then, ◌==◌, if◌then◌else◌}
-use Rattle.std.proofs.lemmas.Option.{none-some}
+use Rattle.std.proofs.Common.{◌≡◌, inl, inr, Bool, true, false, List, [], ◌∷◌, map, Option, None, Some, refl, sym, ap, subst, ◌∙◌}
+use Rattle.std.specs.Prelude.{is_some, IsSome, option_and_then}
+use Rattle.std.proofs.lemmas.Option.{none-some, same_Some}
 use Rattle.inc_value.specs.declared.node.NodeId.{NodeId}
 use Rattle.inc_value.specs.declared.node.Part.TheVariants.{Main, Change}
 use Rattle.inc_value.specs.declared.node.Point.{Point}
 use Rattle.inc_value.specs.declared.outcome.Outcome.{Outcome}
 use Rattle.inc_value.specs.declared.outcome.Outcome.TheVariants.{Val, Invalid}
 use Rattle.inc_value.specs.declared.value.Value.{Value}
-use Rattle.inc_value.specs.Choice.{Among, and_then}
+use Rattle.inc_value.specs.Choice.{Among}
 use Rattle.inc_terms.specs.declared.def.Def as declared
 use Rattle.inc_terms.specs.declared.def.Def.TheVariants as form
 use Rattle.inc_terms.specs.Code.{def_of}
@@ -19,8 +19,7 @@ use Rattle.inc_terms.specs.Graph.{Graph, Row, Def, kids}
 use Rattle.inc_terms.specs.Local.{shown, shown_of, by_sight, see_right, own_right, own, Exact, HasRun}
 use Rattle.inc_terms.specs.Term.{Functions, refs}
 use Rattle.point_map.specs.Rows.{at}
-use Rattle.node_arena.specs.declared.arena.Entry.{Entry}
-use Rattle.node_arena.specs.Arena.{Arena, row_at, row_of}
+use Rattle.node_arena.specs.Arena.{Arena, row_at}
 use Rattle.wiring.specs.Graph.{graph_at}
 use Rattle.inc_terms.specs.Work.{taken_by}
 use Rattle.stabilize_round.specs.Invariant.{Invariant}
@@ -32,24 +31,12 @@ use Rattle.stabilize_round.specs.Calling as why
 use Rattle.stabilize_round.specs.Calling.{Reason, other, made_stale}
 use Rattle.node_outcomes.specs.Computing.{ReasonIn, IsSeenDue, CallsSeen, last_in, KeepsAnswers, LooksAtSeen, seen, seen_of, seen_together, has_part}
 use Rattle.wiring.specs.Kept.{IsKept}
+use Rattle.wiring.proofs.Agreeing.{code_row}
+use Rattle.wiring.proofs.Staying.{row_of_state, out_is}
 use Rattle.node_outcomes.specs.Row.{never_in, settled_in, outcome_in}
 use Rattle.wiring.specs.Stands.{MatchesState, Counts}
 use Rattle.node_outcomes.specs.declared.row.Progress.{Progress}
 use Rattle.wiring.specs.declared.work.Work.{Work}
-
-some_def : (e : Entry) (b : Bool) (r : Row) → ◌≡◌ {A = Option Row} (if b then Some (row_of e.row) else None) (Some r)
-    → (d : declared.Def) × (r.def ≡ def_of d)
-some_def e true r h = let same : row_of e.row ≡ r = cc in (e.row.def, sym (ap (λ (x : Row). x.def) same))
-some_def e false r h = absurd (cc)
-
-entry_def : (x : Option Entry) (gen : ℕ) (r : Row) → and_then x (λ (e : Entry). if e.gen_ == gen then Some (row_of e.row) else None) ≡ Some r
-    → (d : declared.Def) × (r.def ≡ def_of d)
-entry_def None gen r h = absurd (cc)
-entry_def (Some e) gen r h = some_def e (e.gen_ == gen) r h
-
--- a live node is of one of today's forms
-pub code_def : (arena : Arena) (n : NodeId) (r : Row) → row_at arena n ≡ Some r → (d : declared.Def) × (r.def ≡ def_of d)
-code_def arena n r h = entry_def (slice_index_or arena.slots n.slot None) n.gen_ r h
 
 joined_known : (x : Option Outcome) (g : Gathered) (o : Outcome) → x ≡ Some o → (g ≡ Unknown → ⊥) → joined x g ≡ Unknown → ⊥
 joined_known None g o e h u = cc
@@ -95,15 +82,9 @@ known : (x : Option Outcome) (o : Outcome) → x ≡ Some o → IsSome x
 known None o e = absurd (none-some o e)
 known (Some x) o e = refl
 
-some_row : (a b : Row) → ◌≡◌ {A = Option Row} (Some a) (Some b) → a ≡ b
-some_row a b e = cc
-
-some_outcome : (a b : Outcome) → ◌≡◌ {A = Option Outcome} (Some a) (Some b) → a ≡ b
-some_outcome a b e = cc
-
 module _ (s : State) (arena : Arena) (work : Work) (counts : Counts) (kept : IsKept arena work) (st : MatchesState arena work counts None s) where
   pub row_is : (n : NodeId) → s.graph.row n ≡ row_at arena n
-  row_is n = ap (λ (G : Graph). G.row n) st.graph
+  row_is n = row_of_state st n
 
   by_row : (p : Point) (x : Option Progress) (y : Option Row) → at work.rows p ≡ x → is_some x ≡ is_some y → shown_of y (s.out p) ≡ seen_of x
   by_row p None None is e = refl
@@ -126,13 +107,9 @@ module _ (s : State) (arena : Arena) (work : Work) (counts : Counts) (kept : IsK
   sees_change n r live two = ap (λ (x : Option Row). shown_of x (s.out (change n))) (row_is n)
       ∙ by_row (change n) (at work.rows (change n)) (row_at arena n) refl (change_row n r live two ∙ sym (ap is_some live))
 
-  out_of_row : (p : Point) (x : Option Progress) → at work.rows p ≡ x → is_some x ≡ true → s.out p ≡ outcome_in x
-  out_of_row p None is e = absurd (cc)
-  out_of_row p (Some k) is e = st.out p k is
-
   -- what a node's change last ran with
   pub change_is : (n : NodeId) (r : Row) → row_at arena n ≡ Some r → IsSome (subject_of r.def) → s.out (change n) ≡ outcome_in (at work.rows (change n))
-  change_is n r live two = out_of_row (change n) (at work.rows (change n)) refl (change_row n r live two)
+  change_is n r live two = out_is st (change n) (change_row n r live two)
 
   pub sees_together : (ns : List NodeId) → gathered (by_sight (shown s.graph s.out)) (refs ns) ≡ seen_together work.rows ns
   sees_together [] = refl
@@ -156,7 +133,7 @@ module _ (s : State) (arena : Arena) (work : Work) (counts : Counts) (kept : IsK
   pub own_sees : (F : Functions) (n : NodeId) (r : Row) → row_at arena n ≡ Some r
       → own F s.graph (shown s.graph s.out) n r.def ≡ own F (graph_at arena work) (seen work.rows) n r.def
   own_sees F n r live =
-      let d = code_def arena n r live in
+      let d = code_row arena n r live in
       ap (λ (G : Graph). own F G (shown s.graph s.out) n r.def) st.graph
       ∙ subst (λ (x : Def). (IsSome (subject_of x) → shown s.graph s.out (change n) ≡ seen work.rows (change n))
       → own F (graph_at arena work) (shown s.graph s.out) n x ≡ own F (graph_at arena work) (seen work.rows) n x) (sym d.1) (by_form F n d.0) (sees_change n r live)
@@ -180,7 +157,7 @@ module _ (s : State) (arena : Arena) (work : Work) (counts : Counts) (kept : IsK
     is_row = row_is p.node ∙ live
 
     stands_now : StandsIn F s.graph r.scope
-    stands_now = subst (λ (x : Row). StandsIn F s.graph x.scope) (some_row made.row r (sym made.is_row ∙ is_row)) made.stands
+    stands_now = subst (λ (x : Row). StandsIn F s.graph x.scope) (same_Some made.row r (sym made.is_row ∙ is_row)) made.stands
 
     -- what a least point reads is exact
     pub below : (q : Point) → Depends F s.graph s.died p q → Exact F s.graph s.out q
@@ -204,17 +181,13 @@ module _ (s : State) (arena : Arena) (work : Work) (counts : Counts) (kept : IsK
       (live : row_at arena n ≡ Some r) where
     of_kids : (d : declared.Def) → ((m : NodeId) → Among (main m) (fixed_reads s.graph n (def_of d) Main) → (o : Outcome) × (shown s.graph s.out (main m) ≡ Some o))
         → gathered (by_sight (shown s.graph s.out)) (refs (kids (def_of d))) ≡ Unknown → ⊥
-    of_kids (form.Const v) h u = cc
-    of_kids (form.Var v) h u = cc
     of_kids (form.Map f ns) h u = gathered_known (shown s.graph s.out) ns h u
     of_kids (form.Fold f v ns) h u = gathered_known (shown s.graph s.out) ns h u
-    of_kids (form.If t a b) h u = cc
-    of_kids (form.Join k) h u = cc
-    of_kids (form.Bind l f caps) h u = cc
+    of_kids _ h u = cc
 
     kids_known : seen_together work.rows (kids r.def) ≡ Unknown → ⊥
     kids_known u =
-        let d = code_def arena n r live in
+        let d = code_row arena n r live in
         subst (λ (x : Def). ((m : NodeId) → Among (main m) (fixed_reads s.graph n x Main) → (o : Outcome) × (shown s.graph s.out (main m) ≡ Some o))
         → gathered (by_sight (shown s.graph s.out)) (refs (kids x)) ≡ Unknown → ⊥) (sym d.1) (of_kids d.0)
         (reads_known F z inv quiet (main n) taken r live) (sees_together (kids r.def) ∙ u)
@@ -235,24 +208,21 @@ module _ (s : State) (arena : Arena) (work : Work) (counts : Counts) (kept : IsK
     right_seen : (m : NodeId) (o : Outcome) → outcome_in (at work.rows (change n)) ≡ Some o → right_of (graph_at arena work) n r.def o ≡ Some m
         → IsSome (seen work.rows (main m))
     right_seen m o is chosen =
-        let d = code_def arena n r live in
+        let d = code_row arena n r live in
         let two = has_subject d.0 (subst (λ (x : Def). right_of (graph_at arena work) n x o ≡ Some m) d.1 chosen) in
         let two' : IsSome (subject_of r.def) = subst (λ (x : Def). IsSome (subject_of x)) (sym d.1) two in
         let k = subject_is (subject_of r.def) refl two' in
         let h = ran k.0 k.1 in
         let gives = subst (λ (x : Outcome). NodeGives F s.graph k.0 x)
-        (some_outcome h.0 o (sym h.1 ∙ (change_is n r live two' ∙ is))) h.2 in
+        (same_Some h.0 o (sym h.1 ∙ (change_is n r live two' ∙ is))) h.2 in
         seen_known m (right_known F z inv quiet (main n) taken r live refl k.0 m o k.1 gives
         (subst (λ (G : Graph). right_of G n r.def o ≡ Some m) (sym st.graph) chosen))
       where
         has_subject : (d : declared.Def) → right_of (graph_at arena work) n (def_of d) o ≡ Some m → IsSome (subject_of (def_of d))
-        has_subject (form.Const v) e = absurd (none-some m e)
-        has_subject (form.Var v) e = absurd (none-some m e)
-        has_subject (form.Map f ns) e = absurd (none-some m e)
-        has_subject (form.Fold f v ns) e = absurd (none-some m e)
         has_subject (form.If t a b) e = refl
         has_subject (form.Join k) e = refl
-        has_subject (form.Bind l f caps) e = refl
+        has_subject (form.Bind l f ns) e = refl
+        has_subject _ e = absurd (none-some m e)
 
     pub looks : LooksAtSeen work.rows (graph_at arena work) n r.def
     looks = record { kids = kids_known; choice = choice; right = right_seen }

@@ -2,7 +2,7 @@
 use Rattle.std.proofs.Common.{◌≡◌, ◌⊎◌, inl, inr, ℕ, zero, suc, ◌+◌, ◌<◌, true, List, [], ◌∷◌, length, Option, None, Some, refl, sym, ap, subst, ◌∙◌, arith}
 use Rattle.std.specs.Prelude.{is_some, option_map}
 use Rattle.std.specs.List.{slice_get}
-use Rattle.std.proofs.lemmas.Option.{none-some}
+use Rattle.std.proofs.lemmas.Option.{none-some, same_Some}
 use Rattle.inc_value.specs.declared.node.NodeId.{NodeId}
 use Rattle.inc_value.specs.declared.node.Part.TheVariants.{Main, Change}
 use Rattle.inc_value.specs.declared.node.Point.{Point}
@@ -25,17 +25,16 @@ use Rattle.stabilize_round.specs.Wire.{spent}
 use Rattle.stabilize_round.proofs.Machine.{moves_keep}
 use Rattle.stabilize_round.proofs.Steps.{off_moves, joined}
 use Rattle.node_outcomes.specs.Computing.{has_part}
-use Rattle.node_outcomes.specs.Row.{with_stage, stage_in, stage_of, outcome_in}
+use Rattle.node_outcomes.specs.Row.{with_stage, stage_in}
 use Rattle.node_outcomes.specs.declared.row.Progress.{Progress}
-use Rattle.node_outcomes.specs.declared.row.Stage.{Stage}
 use Rattle.node_outcomes.specs.declared.row.Stage.TheVariants as code
 use Rattle.wiring.specs.Kept.{IsKept}
 use Rattle.wiring.specs.Stands.{MatchesState, PointInHand, Counts}
 use Rattle.wiring.specs.TakingOff.{LosesLinks, RowsSpared, TakesSome, TakesMore}
-use Rattle.wiring.specs.Wiring.{OnlyLoses, GoesBack, IsPutBack, IsBehindGate, HasMore, TakesOne, TakesOff, IsConfirmedAt, KeepsPlaces, hand_now}
+use Rattle.wiring.specs.Wiring.{OnlyLoses, GoesBack, IsBehindGate, HasMore, TakesOne, TakesOff, IsConfirmedAt, KeepsPlaces, hand_now}
 use Rattle.wiring.specs.declared.work.Work.{Work}
-use Rattle.wiring.proofs.Flat.{no_targets}
-use Rattle.wiring.proofs.Holding.{beside_kept}
+use Rattle.wiring.proofs.Agreeing.{no_target}
+use Rattle.wiring.proofs.Staying.{stage_was, out_is, most_same, most_stands, beside_kept}
 use Rattle.wiring.proofs.InHand.{KeepsSpared, gated_none, still_spared, hand_spared, same_hand, change_settled}
 use Rattle.wiring.proofs.TakingOne.{nothing_taken}
 
@@ -125,10 +124,7 @@ last_or (suc j) (suc i) l = elim (last_or j i (omega (arith, l))) [ inl x ↦ in
 
 -- the node at the place is this one
 one_there : (ns : List NodeId) (i j : ℕ) (n m : NodeId) → j ≡ i → slice_get ns i ≡ Some n → slice_get ns j ≡ Some m → n ≡ m
-one_there ns i j n m e at_i at_j = same (sym at_i ∙ (ap (slice_get ns) (sym e) ∙ at_j))
-  where
-    same : ◌≡◌ {A = Option NodeId} (Some n) (Some m) → n ≡ m
-    same h = cc
+one_there ns i j n m e at_i at_j = same_Some n m (sym at_i ∙ (ap (slice_get ns) (sym e) ∙ at_j))
 
 -- one after the other
 module _ (arena : Arena) (old mid new : Work) (first : RowsSpared arena old mid) (round : mid.round ≡ old.round) (loses : OnlyLoses mid.graph new.graph)
@@ -207,36 +203,26 @@ module _ (arena : Arena) (old mid new : Work) (gates changes : ℕ) (so : AreTak
 
 -- ---- fewer links may be tried again
 
-module _ (arena : Arena) (old last new : Work) (left : ℕ) (taken : TakesOne arena old last) (same : last.retries ≡ old.retries)
-    (fewer : 0 < old.retries → left < old.retries) (only : new ≡ record last { retries = left })
+module _ (arena : Arena) (old last : Work) (left : ℕ) (taken : TakesOne arena old last) (same : last.retries ≡ old.retries)
+    (fewer : 0 < old.retries → left < old.retries)
     (strict : (counts : Counts) (held : Option PointInHand) (t : State) → MatchesState arena last counts held t → Strict (spent t left)) where
   abbrev spending : Work
   spending = record last { retries = left }
 
   spent_stands : (counts : Counts) (held : Option PointInHand) (t : State) → MatchesState arena last counts held t → MatchesState arena spending counts held (spent t left)
-  spent_stands counts held t k = record {
-    graph = k.graph;
-    out = k.out;
-    last = k.last;
-    never = k.never;
-    stale = k.stale;
+  spent_stands counts held t k = most_stands last spending (most_same last last.graph last.todo left) arena t (spent t left) refl k refl (record {
     links = k.links;
     root = k.root;
     needed = k.needed;
     height = k.height;
     heap = k.heap;
-    settled = k.settled;
     stage = k.stage;
     owed = k.owed;
     todo = k.todo;
     retries = refl;
-    died = k.died;
-    ran = k.ran;
-    counts = k.counts;
-    given = k.given;
-  }
+  })
 
-  pub taken_spent : TakesOff arena old new
+  pub taken_spent : TakesOff arena old spending
   taken_spent F z s counts held inv some spared st =
       let a = taken F z s counts held inv spared st in
       let less : left < a.0.retries =
@@ -245,8 +231,7 @@ module _ (arena : Arena) (old last new : Work) (left : ℕ) (taken : TakesOne ar
         spent a.0 left,
         a.1,
         (move.spend less (strict counts (hand_now old last held) a.0 a.2) refl, tt),
-        subst (λ (w : Work). MatchesState arena w counts (hand_now old w held) (spent a.0 left)) (sym only)
-            (spent_stands counts (hand_now old last held) a.0 a.2),
+        spent_stands counts (hand_now old last held) a.0 a.2,
       )
 
 -- while links may be tried again, what wasn't confirmed may be linked still
@@ -259,7 +244,7 @@ some_left s left some = record {
 -- ---- refusals become final
 
 no_subject_no_right : (G : Graph) (n : NodeId) (def : Def) (x : Option Outcome) (p : Point) → Among p (targets G n def x) → subject_of def ≡ None → ⊥
-no_subject_no_right G n def x p among one = nothing (subst (λ (xs : List Point). Among p xs) (no_targets G n def x one) among)
+no_subject_no_right G n def x p among one = nothing (subst (λ (xs : List Point). Among p xs) (no_target G n def one x) among)
   where
     nothing : Among p [] → ⊥
     nothing h = h
@@ -273,20 +258,8 @@ among_place n [] a = absurd a
 among_place n (m ∷ ms) (inl e) = (0, omega arith, ap (λ (x : NodeId). Some x) (sym e))
 among_place n (m ∷ ms) (inr a) = let r = among_place n ms a in (suc r.0, omega (arith, r.1), r.2)
 
-stage_static : (x : Stage) → stage_of x ≡ machine.Static → x ≡ code.Static
-stage_static code.Bare e = absurd (cc)
-stage_static code.Gated e = absurd (cc)
-stage_static code.Static e = refl
-stage_static code.Full e = absurd (cc)
-
-stage_full : (x : Stage) → stage_of x ≡ machine.Full → x ≡ code.Full
-stage_full code.Bare e = absurd (cc)
-stage_full code.Gated e = absurd (cc)
-stage_full code.Static e = absurd (cc)
-stage_full code.Full e = refl
-
-module _ (arena : Arena) (old last new : Work) (gates changes : ℕ) (so : AreTaken arena old last gates changes) (all_gates : gates ≡ length old.scoped.nodes)
-    (all_changes : changes ≡ length old.pairs.nodes) (kept : IsKept arena old) (only : new ≡ record last { retries = 0 }) where
+module _ (arena : Arena) (old last : Work) (gates changes : ℕ) (so : AreTaken arena old last gates changes) (all_gates : gates ≡ length old.scoped.nodes)
+    (all_changes : changes ≡ length old.pairs.nodes) (kept : IsKept arena old) where
   module _ (counts : Counts) (held : Option PointInHand) (t : State) (k : MatchesState arena last counts held t) where
     node_row : (n : NodeId) (r : Row) → t.graph.row n ≡ Some r → row_at arena n ≡ Some r
     node_row n r e = sym (ap (λ (G : Graph). G.row n) k.graph) ∙ e
@@ -298,11 +271,8 @@ module _ (arena : Arena) (old last new : Work) (gates changes : ℕ) (so : AreTa
       | inr leaf ↦ absurd (none-some r (sym leaf.0 ∙ row))
     ]
 
-    more_stage : (p : Point) (x : Option Progress) → at last.rows p ≡ x → is_some x ≡ true → (t.stage p ≡ machine.Static) ⊎ (t.stage p ≡ machine.Full)
-        → HasMore (stage_in x)
-    more_stage p None e i h = absurd (cc)
-    more_stage p (Some y) e i (inl h) = inl (ap (λ (x : Stage). Some x) (stage_static y.stage (sym (k.stage p y e) ∙ h)))
-    more_stage p (Some y) e i (inr h) = inr (ap (λ (x : Stage). Some x) (stage_full y.stage (sym (k.stage p y e) ∙ h)))
+    more_stage : (p : Point) → Holds last.rows p → (t.stage p ≡ machine.Static) ⊎ (t.stage p ≡ machine.Full) → HasMore (stage_in (at last.rows p))
+    more_stage p there h = elim h [ inl e ↦ inl (stage_was k p code.Static there e) | inr e ↦ inr (stage_was k p code.Full there e) ]
 
     gated : (p : Point) (r : Row) (b : NodeId) → row_at arena p.node ≡ Some r → r.scope ≡ Some b → Needed last.graph p
         → (t.stage p ≡ machine.Static) ⊎ (t.stage p ≡ machine.Full) → t.settled (change b) ≡ true
@@ -310,16 +280,7 @@ module _ (arena : Arena) (old last new : Work) (gates changes : ℕ) (so : AreTa
         let place = among_place p.node old.scoped.nodes (kept.scoped p.node r row (ap is_some scope)) in
         let below : place.0 < gates = let l = place.1 in omega (arith, l, all_gates) in
         k.settled (change b) ∙ so.behind place.0 p.node below place.2 p refl r b row scope need
-        (more_stage p (at last.rows p) refl (live_there p r row need) stage)
-
-    full_stage : (n : NodeId) → t.stage (main n) ≡ machine.Full → (x : Option Progress) → at last.rows (main n) ≡ x → is_some x ≡ true
-        → stage_in x ≡ Some code.Full
-    full_stage n full None e i = absurd (cc)
-    full_stage n full (Some y) e i = ap (λ (x : Stage). Some x) (stage_full y.stage (sym (k.stage (main n) y e) ∙ full))
-
-    out_is : (n : NodeId) (x : Option Progress) → at last.rows (change n) ≡ x → is_some x ≡ true → t.out (change n) ≡ outcome_in x
-    out_is n None e i = absurd (cc)
-    out_is n (Some y) e i = k.out (change n) y e
+        (more_stage p (live_there p r row need) stage)
 
     confirmed : (n : NodeId) (r : Row) (p : Point) → row_at arena n ≡ Some r → t.needed (main n) ≡ true → t.stage (main n) ≡ machine.Full
         → Among p (targets t.graph n r.def (t.out (change n))) → t.settled (change n) ≡ true
@@ -332,8 +293,8 @@ module _ (arena : Arena) (old last new : Work) (gates changes : ℕ) (so : AreTa
         so.some.stays.kept.rows (change n) ∙ (ap (λ (x : Option Row). has_part x Change) row ∙ sub) in
         let mine : is_some (at last.rows (main n)) ≡ true = so.some.stays.kept.rows (main n) ∙ ap (λ (x : Option Row). has_part x Main) row in
         k.settled (change n) ∙ so.confirmed place.0 n below place.2 r p row ((k.needed (main n)).0 need)
-        (full_stage n full (at last.rows (main n)) refl mine)
-        (subst (λ (x : Option Outcome). Among p (targets (graph_at arena last) n r.def x)) (out_is n (at last.rows (change n)) refl own)
+        (stage_was k (main n) code.Full mine full)
+        (subst (λ (x : Option Outcome). Among p (targets (graph_at arena last) n r.def x)) (out_is k (change n) own)
         (subst (λ (G : Graph). Among p (targets G n r.def (t.out (change n)))) k.graph among))
 
     is_strict : Strict (spent t 0)
@@ -342,68 +303,45 @@ module _ (arena : Arena) (old last new : Work) (gates changes : ℕ) (so : AreTa
       rights = λ e n r p row need full among. confirmed n r p (node_row n r row) need full among;
     }
 
-  all_taken : TakesOff arena old new
-  all_taken = taken_spent arena old last new 0 so.some.taken (ap (λ (w : Work). w.retries) so.some.stays.rest) (λ some. some) only is_strict
+  all_taken : TakesOff arena old (record last { retries = 0 })
+  all_taken = taken_spent arena old last 0 so.some.taken (ap (λ (w : Work). w.retries) so.some.stays.rest) (λ some. some) is_strict
 
 -- ---- how many links may be tried again
 
 -- that apart, what was taken off leaves all else
-taken_rest : (old last new : Work) (left : ℕ) → last ≡ record old { graph = last.graph; rows = last.rows } → new ≡ record last { retries = left }
-    → new ≡ record old { graph = new.graph; rows = new.rows; retries = new.retries }
-taken_rest old last new left first only =
-    subst (λ (w : Work). w ≡ record old { graph = w.graph; rows = w.rows; retries = w.retries }) (sym only)
-    (ap (λ (w : Work). record w { retries = left }) first)
-
-spent_kept : (arena : Arena) (last new : Work) (left : ℕ) → new ≡ record last { retries = left } → IsKept arena last → IsKept arena new
-spent_kept arena last new left only k = subst (IsKept arena) (sym only) (beside_kept arena last last.todo left k)
-
--- and where rows and roots are
-spent_places : (old last new : Work) (left : ℕ) → new ≡ record last { retries = left } → KeepsPlaces old last → KeepsPlaces old new
-spent_places old last new left only k = subst (λ (w : Work). KeepsPlaces old w) (sym only)
-    (record { rows = k.rows; roots = k.roots; deaths = k.deaths; round = k.round })
-
--- and what was put back
-spent_rows : (arena : Arena) (old last new : Work) (left : ℕ) → new ≡ record last { retries = left } → RowsSpared arena old last → RowsSpared arena old new
-spent_rows arena old last new left only rows p s = subst (λ (w : Work). (at w.rows p ≡ at old.rows p) ⊎ IsPutBack arena old w p) (sym only) (elim (rows p s) [
-  | inl e ↦ inl e
-  | inr b ↦ inr (record {
-    bind = b.bind;
-    back = record {
-      row = b.back.row;
-      is_row = b.back.is_row;
-      is_scope = b.back.is_scope;
-      more = b.back.more;
-      now = b.back.now;
-      waits = b.back.waits;
-    };
-    unsettled = b.unsettled;
-  })
-])
+spent_more : (arena : Arena) (old last : Work) (left : ℕ) → TakesSome arena old last → TakesOff arena old (record last { retries = left })
+    → TakesMore arena old (record last { retries = left })
+spent_more arena old last left so taken =
+    let places = so.stays.places in record {
+      taken = taken;
+      kept = beside_kept arena last last.todo left so.stays.kept;
+      places = record { rows = places.rows; roots = places.roots; deaths = places.deaths; round = places.round };
+      rest = ap (λ (w : Work). record w { retries = left }) so.stays.rest;
+      rows = λ p s. elim (so.rows p s) [
+        | inl e ↦ inl e
+        | inr b ↦ let g = b.back in inr (record {
+          bind = b.bind;
+          back = record { row = g.row; is_row = g.is_row; is_scope = g.is_scope; more = g.more; now = g.now; waits = g.waits };
+          unsettled = b.unsettled;
+        })
+      ];
+    }
 
 -- ---- some was taken off, or all
 
 -- all that wasn't confirmed
-pub all_more : (arena : Arena) (old last new : Work) (gates changes : ℕ) → AreTaken arena old last gates changes → gates ≡ length old.scoped.nodes
-    → changes ≡ length old.pairs.nodes → IsKept arena old → new ≡ record last { retries = 0 } → TakesMore arena old new
-all_more arena old last new gates changes so all_gates all_changes kept only = record {
-  taken = all_taken arena old last new gates changes so all_gates all_changes kept only;
-  kept = spent_kept arena last new 0 only so.some.stays.kept;
-  places = spent_places old last new 0 only so.some.stays.places;
-  rest = taken_rest old last new 0 so.some.stays.rest only;
-  rows = spent_rows arena old last new 0 only so.some.rows;
-}
+pub all_more : (arena : Arena) (old last : Work) (gates changes : ℕ) → AreTaken arena old last gates changes → gates ≡ length old.scoped.nodes
+    → changes ≡ length old.pairs.nodes → IsKept arena old → TakesMore arena old (record last { retries = 0 })
+all_more arena old last gates changes so all_gates all_changes kept =
+    spent_more arena old last 0 so.some (all_taken arena old last gates changes so all_gates all_changes kept)
 
 -- some, while links may be tried again
-pub some_more : (arena : Arena) (old mid new : Work) (left : ℕ) → TakesSome arena old mid → new ≡ record mid { retries = left } → 0 < left
-    → left < mid.retries → TakesMore arena old new
-some_more arena old mid new left so only some fewer =
-    let same : mid.retries ≡ old.retries = ap (λ (w : Work). w.retries) so.stays.rest in record {
-      taken = taken_spent arena old mid new left so.taken same (λ any. omega (arith, same, fewer)) only (λ counts held t k. some_left t left some);
-      kept = spent_kept arena mid new left only so.stays.kept;
-      places = spent_places old mid new left only so.stays.places;
-      rest = taken_rest old mid new left so.stays.rest only;
-      rows = spent_rows arena old mid new left only so.rows;
-    }
+pub some_more : (arena : Arena) (old mid : Work) (left : ℕ) → TakesSome arena old mid → 0 < left → left < mid.retries
+    → TakesMore arena old (record mid { retries = left })
+some_more arena old mid left so some fewer =
+    let same : mid.retries ≡ old.retries = ap (λ (w : Work). w.retries) so.stays.rest in
+    spent_more arena old mid left so
+    (taken_spent arena old mid left so.taken same (λ any. omega (arith, same, fewer)) (λ counts held t k. some_left t left some))
 
 -- some, and then the rest
 module _ (arena : Arena) (old mid new : Work) (so : TakesSome arena old mid) (next : TakesMore arena mid new) (loses : OnlyLoses mid.graph new.graph) where

@@ -1,9 +1,8 @@
 -- A point goes back to a lower stage: more is put into the heap, and the point is cut.
 use Rattle.std.proofs.Common.{◌≡◌, ◌⊎◌, inl, inr, ℕ, zero, suc, ◌<◌, Bool, true, false, cond, List, [], Option, None, Some, refl, sym, ap, subst, ◌∙◌, arith}
-use Rattle.std.specs.Prelude.{is_some, reverse, ◌↔◌}
+use Rattle.std.specs.Prelude.{is_some, ◌↔◌}
 use Rattle.inc_value.specs.declared.node.Point.{Point}
 use Rattle.inc_value.specs.Choice.{here, step, Among, Reaches}
-use Rattle.inc_terms.specs.Depend.{main}
 use Rattle.inc_terms.specs.Graph.{Row}
 use Rattle.inc_terms.specs.Term.{Functions}
 use Rattle.point_map.specs.Rows.{at}
@@ -19,17 +18,16 @@ use Rattle.stabilize_round.specs.Steps.{TakingOff}
 use Rattle.stabilize_round.specs.Wire as wire
 use Rattle.stabilize_round.specs.Wire.{heaped, Schedule, dropped, Drop, Sweep}
 use Rattle.stabilize_round.proofs.Points.{same_or_other, at_same, at_other}
-use Rattle.node_outcomes.specs.Row.{stage_of, is_never}
+use Rattle.node_outcomes.specs.Row.{stage_of}
 use Rattle.node_outcomes.specs.declared.row.Stage.{Stage}
 use Rattle.wiring.specs.Deciding.{is_needed}
 use Rattle.wiring.specs.Stands.{MatchesState, PointInHand, hand, owed_in, Counts}
 use Rattle.wiring.specs.Wiring.{is_still, hand_now}
 use Rattle.wiring.specs.declared.work.Work.{Work}
-use Rattle.wiring.proofs.Deciding.{decides_needed}
-use Rattle.wiring.proofs.GoingBack.{IsLowered, need_before, same_roots, height_same, graph_same, settled_same}
-use Rattle.wiring.proofs.Holding.{died_same}
+use Rattle.wiring.proofs.Deciding.{decides_needed, not_both}
+use Rattle.wiring.proofs.GoingBack.{IsLowered, lowered_most, need_before, same_roots, height_same}
 use Rattle.wiring.proofs.InHand.{still_same, still_needed, nothing, nothing_at, in_hand_now}
-use Rattle.wiring.proofs.Linking.{row_before, stage_now}
+use Rattle.wiring.proofs.Staying.{stage_now, most_stands}
 
 -- the state once more is in the heap
 abbrev pub scheduled : State → NecessaryPart → State
@@ -129,10 +127,6 @@ module _ (F : Functions) (z : Start) (s : State) (arena : Arena) (old new : Work
         | inr ne ↦ let same = l.others x y ne in omega (arith, same, reads)
       ]
 
-  not_true : (b : Bool) → b ≡ false → b ≡ true → ⊥
-  not_true true f t = cc
-  not_true false f t = cc
-
   walk : {a b : Point} → Reaches (Reads links) a b → Reaches (Linked second) a b
   walk here = here
   walk (step {a} {b} reads rest) = step (let e = links_now a b in omega (arith, reads, e)) (walk rest)
@@ -151,7 +145,7 @@ module _ (F : Functions) (z : Start) (s : State) (arena : Arena) (old new : Work
         (h.root, (let is = h.is_root in let one = st.root h.root in let two = without_roots h.root in omega (arith, is, one, two)), walk h.leads);
     kept = λ a b t. l.sweep.kept a b (then_needed a t) ∙ sym (links_now a b);
     gone = λ a b f. none (times new.graph.links a b)
-        (λ reads. not_true (need' a) f ((decided a).1 ((l.sweep.reached a).1 (l.sweep.gone a b reads))));
+        (λ reads. not_both (need' a) f ((decided a).1 ((l.sweep.reached a).1 (l.sweep.gone a b reads))));
     heap = λ a t. in_before a (at new.graph.heap a) refl t;
     heap_kept = λ a t h. ap is_some (l.sweep.heap_kept a (then_needed a t)) ∙ h;
     owed = λ a. ((λ t. rw t refl), (λ f. rw f refl));
@@ -197,7 +191,7 @@ module _ (F : Functions) (z : Start) (s : State) (arena : Arena) (old new : Work
 
           apart : is_still old new h.point ≡ true → p ≡ h.point → ⊥
           apart t same = let f = subst (λ (x : Point). is_still old new x ≡ false) same (may.back h e (sym same)) in
-              not_true (is_still old new h.point) f t
+              not_both (is_still old new h.point) f t
 
           kept : is_still old new h.point ≡ true → owed' h.point ≡ h.owed
           kept t = ap (λ (b : Bool). cond b (at_point p [] s.owed h.point) []) (still_needed old new h.point t)
@@ -226,18 +220,12 @@ module _ (F : Functions) (z : Start) (s : State) (arena : Arena) (old new : Work
       ∙ ap (λ (x : Option ℕ). or_zero x) (sym (height_same arena old new p waited to links l a n))
 
   pub stands_off : MatchesState arena new counts (hand_now old new held) last
-  stands_off = record {
-    graph = st.graph ∙ sym (graph_same arena old new p waited to links l);
-    out = λ a x e. let b = row_before old.rows new.rows p to l.rows a x e in st.out a b.row b.was ∙ sym b.outcome;
-    last = λ i x e. let b = row_before old.rows new.rows p to l.rows (main i) x e in st.last i b.row b.was ∙ sym b.last;
-    never = λ i x e. let b = row_before old.rows new.rows p to l.rows (main i) x e in st.never i b.row b.was ∙ ap is_never (sym b.cutoff);
-    stale = st.stale;
+  stands_off = most_stands old new (lowered_most arena old new p waited to links l) arena s last (ap (λ (w : Work). w.ran.items) l.rest) st refl (record {
     links = λ a b. refl;
     root = λ a. st.root a ∙ sym (same_roots arena old new p waited to links l a);
     needed = decided;
     height = height_now;
     heap = λ a. refl;
-    settled = λ a. st.settled a ∙ sym (settled_same arena old new p waited to links l a);
     stage = stage_now old.rows new.rows p to l.rows s.stage st.stage;
     owed = owed_now;
     todo = λ a t. elim (st.todo a t) [
@@ -245,8 +233,4 @@ module _ (F : Functions) (z : Start) (s : State) (arena : Arena) (old new : Work
       | inr h ↦ inr (in_hand_now old new held a h)
     ];
     retries = st.retries ∙ sym (ap (λ (w : Work). w.retries) l.rest);
-    died = λ n. st.died n ∙ sym (died_same old new (ap (λ (w : Work). w.deaths) l.rest) n);
-    ran = st.ran ∙ ap (λ (w : Work). reverse w.ran.items) (sym l.rest);
-    counts = st.counts;
-    given = st.given;
-  }
+  })

@@ -25,7 +25,7 @@ use Rattle.stabilize_round.specs.State as machine
 use Rattle.stabilize_round.specs.State.{State, Start, count, one, planned, live_plan, plan_at}
 use Rattle.stabilize_round.specs.Wire.{Drop}
 use Rattle.stabilize_round.proofs.Points.{same_or_other, at_other, count_append, one_same, one_other, among_count}
-use Rattle.node_outcomes.specs.Row.{settled_in, stage_in, stage_of, outcome_in}
+use Rattle.node_outcomes.specs.Row.{settled_in, stage_in, outcome_in}
 use Rattle.node_outcomes.specs.Choosing.{right_in}
 use Rattle.node_outcomes.specs.declared.row.Progress.{Progress}
 use Rattle.node_outcomes.specs.declared.row.Stage.TheVariants as code
@@ -38,6 +38,7 @@ use Rattle.wiring.proofs.Deciding.{decides_needed}
 use Rattle.wiring.proofs.GoingBack.{IsLowered, lowered, lowered_alone}
 use Rattle.wiring.proofs.Holding.{targets_at}
 use Rattle.wiring.proofs.InHand.{still_same, nothing}
+use Rattle.wiring.proofs.Staying.{stage_is, out_is}
 use Rattle.wiring.proofs.TakingOff.{MayLower, scheduled, row_at_stage, takes, stands_off}
 
 -- nothing is taken off
@@ -122,15 +123,8 @@ module _ (arena : Arena) (old first new : Work) (n : NodeId) (r : Row) (s_id m :
     need : s.needed (main n) ≡ true
     need = (st.needed (main n)).1 attached.needed
 
-    by_stage : (x : Option Progress) → at old.rows (main n) ≡ x → stage_in x ≡ Some code.Full → s.stage (main n) ≡ machine.Full
-    by_stage None e f = absurd (none-some code.Full f)
-    by_stage (Some k) e f = st.stage (main n) k e ∙ ap stage_of (same f)
-      where
-        same : ◌≡◌ {A = Option _} (Some k.stage) (Some code.Full) → k.stage ≡ code.Full
-        same h = cc
-
     full : s.stage (main n) ≡ machine.Full
-    full = by_stage (at old.rows (main n)) refl attached.stage
+    full = stage_is st (main n) code.Full attached.stage
 
     other : (h : PointInHand) → held ≡ Some h → h.point ≡ main n → ⊥
     other h e is =
@@ -141,12 +135,8 @@ module _ (arena : Arena) (old first new : Work) (n : NodeId) (r : Row) (s_id m :
         (subst (λ (x : Point). row_at arena x.node ≡ Some r) (sym is) row) (ap is_some sub)) in
         cc
 
-    out_own : (x : Option Progress) → at old.rows (change n) ≡ x → is_some x ≡ true → s.out (change n) ≡ outcome_in x
-    out_own None e h = absurd (cc)
-    out_own (Some k) e h = st.out (change n) k e
-
     right_side : targets s.graph n r.def (s.out (change n)) ≡ main m ∷ []
-    right_side = ap (λ (x : Option Outcome). targets s.graph n r.def x) (out_own (at old.rows (change n)) refl own_row)
+    right_side = ap (λ (x : Option Outcome). targets s.graph n r.def x) (out_is st (change n) own_row)
         ∙ (ap (λ (G : Graph). targets G n r.def (outcome_in (at old.rows (change n)))) st.graph
         ∙ (targets_at arena old n r row ∙ ap (λ (x : Option NodeId). map main (at_most_one x)) right))
 
@@ -257,10 +247,7 @@ pub right_has_subject : (d : declared.Def) (rows : Rows Progress) (roots : Rows 
 right_has_subject (form.If t a b) rows roots n m e = (t, refl)
 right_has_subject (form.Join k) rows roots n m e = (k, refl)
 right_has_subject (form.Bind l f caps) rows roots n m e = (l, refl)
-right_has_subject (form.Const v) rows roots n m e = absurd (none_of (outcome_in (at rows (change n))) m e)
-right_has_subject (form.Var v) rows roots n m e = absurd (none_of (outcome_in (at rows (change n))) m e)
-right_has_subject (form.Map f ks) rows roots n m e = absurd (none_of (outcome_in (at rows (change n))) m e)
-right_has_subject (form.Fold f v ks) rows roots n m e = absurd (none_of (outcome_in (at rows (change n))) m e)
+right_has_subject _ rows roots n m e = absurd (none_of (outcome_in (at rows (change n))) m e)
 
 -- rows of what is spared stay
 pub spared_rows : (arena : Arena) (old first new : Work) (n : NodeId) (r : Row) (right : Option NodeId) → row_at arena n ≡ Some r

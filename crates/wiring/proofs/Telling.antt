@@ -10,7 +10,7 @@ use Rattle.height_order.specs.declared.heights.LinkFault.TheVariants as fault
 use Rattle.necessary_graph.proofs.Linking.{chain_as}
 use Rattle.wiring.specs.Refusing.{IsHeightOf, IsCycleOf, IsWhy, TellsFault, IsBarred, by_chain, by_path, RefusedBy}
 use Rattle.wiring.specs.declared.refused.Refused.{Refused}
-use Rattle.wiring.specs.declared.refused.Refused.TheVariants.{Height, Cycle, Full, Memory}
+use Rattle.wiring.specs.declared.refused.Refused.TheVariants.{Height, Cycle, Memory}
 use Rattle.wiring.specs.declared.work.Work.{Work}
 use Rattle.wiring.proofs.Once.{chain_once}
 
@@ -42,9 +42,7 @@ module _ (work : Work) (p q : Point) (strict : work.retries ≡ 0) where
     once = subst (λ (xs : List Point). NoRepeats xs) (sym items) once;
     strict = strict;
   }
-  told_height (Cycle points) list items chain long once = absurd items
-  told_height Full list items chain long once = absurd items
-  told_height Memory list items chain long once = absurd items
+  told_height _ list items chain long once = absurd items
 
   told_cycle : (e : Refused) (list : List Point) → IsCycleOf list q e → IsPath (Reads work.graph.links) list q p → NoRepeats list → RefusedBy work p q e
   told_cycle (Cycle points) list items path once = record {
@@ -59,9 +57,8 @@ module _ (work : Work) (p q : Point) (strict : work.retries ≡ 0) where
     long = subst (λ (xs : List Point). 2 ≤ length xs) (sym items) (long_back list q path.starts);
     strict = strict;
   }
-  told_cycle (Height points) list items path once = absurd items
-  told_cycle Full list items path once = absurd items
   told_cycle Memory list items path once = tt
+  told_cycle _ list items path once = absurd items
 
 -- where refusals are final, or there was no memory, a refusal says what the fault says
 pub told : (work : Work) (p q : Point) (f : LinkFault) (e : Refused) → (work.retries ≡ 0) ⊎ (f ≡ fault.Memory) → TellsFault work p q f → IsWhy q f e

@@ -1,10 +1,9 @@
 -- A link is tried: what stays where it is refused, and how the state follows where it is made.
 use Rattle.std.proofs.Common.{◌≡◌, ◌≢◌, ◌⊎◌, inl, inr, ℕ, ◌≤◌, ◌+◌, Bool, true, false, [], ◌∷◌, Option, None, Some, refl, sym, ap, subst, ◌∙◌, arith, length-append, ◌*◌}
-use Rattle.std.specs.Prelude.{length, is_some, option_map, ◌↔◌, IsTrue, IsFalse, Ok, Err}
+use Rattle.std.specs.Prelude.{length, is_some, ◌↔◌, IsTrue, IsFalse, Ok, Err}
 use Rattle.inc_value.specs.declared.node.Part.{Part}
 use Rattle.inc_value.specs.declared.node.Point.{Point}
 use Rattle.inc_value.specs.Choice.{Reaches}
-use Rattle.inc_terms.specs.Depend.{main, change, right_of}
 use Rattle.inc_terms.specs.Graph.{Graph, Row}
 use Rattle.inc_terms.specs.Within.{Given}
 use Rattle.point_map.specs.Rows.{Rows, at, Holds, KeepsRows, Changes}
@@ -13,7 +12,6 @@ use Rattle.necessity.specs.Need.{Roots, root_times, KeepsRoots}
 use Rattle.height_order.specs.Levels.{KeepsPoints}
 use Rattle.necessary_graph.specs.Part.{NecessaryPart, Needed, IsInStep, AlsoNeeded}
 use Rattle.necessary_graph.proofs.Linking.{read_with}
-use Rattle.necessary_graph.proofs.Reaching.{needed_more}
 use Rattle.node_arena.specs.Arena.{Arena, row_at}
 use Rattle.stabilize_round.specs.State.{State}
 use Rattle.stabilize_round.specs.Steps.{Wiring}
@@ -23,28 +21,18 @@ use Rattle.wiring.specs.Answers.{LinkAnswers}
 use Rattle.wiring.specs.Growing.{Grows, unneeded}
 use Rattle.node_outcomes.specs.Computing.{has_part}
 use Rattle.wiring.specs.Kept.{IsKept}
-use Rattle.node_outcomes.specs.Row.{IsRewritten, with_stage, outcome_in}
 use Rattle.height_order.specs.declared.heights.LinkFault.{LinkFault}
 use Rattle.wiring.specs.Refusing.{TellsFault}
 use Rattle.wiring.specs.Stands.{MatchesState, hand}
-use Rattle.wiring.specs.Wiring.{IsNewlyNeeded, IsReached, ShowsSame, Links as PutsOn, IsLevelled, IsTarget, KeepsLists, AreUnlinked, MayRead}
-use Rattle.node_outcomes.specs.declared.row.Progress.{Progress}
+use Rattle.wiring.specs.Wiring.{IsNewlyNeeded, IsReached, ShowsSame, Links as PutsOn, IsLevelled, IsTarget, AreUnlinked, MayRead}
 use Rattle.node_outcomes.specs.declared.row.Stage.TheVariants as code
 use Rattle.wiring.specs.declared.work.Work.{Work}
 use Rattle.wiring.proofs.Growing.{no_more_unneeded, fewer_unneeded}
-use Rattle.wiring.proofs.Linking.{IsBefore, row_before, linked_stands, linked_new_stands, some_or_none}
-use Rattle.wiring.proofs.Wiring.{looks_stands}
-use Rattle.wiring.proofs.Holding.{held_rows, held_same, died_same, has_links_same, links_same, root_same, pairs_same, scoped_same}
-use Rattle.wiring.specs.Graph.{held_at, died_at, HasLinks}
-use Rattle.node_arena.specs.Graph.{Holdings, graph_of}
-use Rattle.inc_terms.specs.Depend.{right_of}
-
--- the same roots and links tell that the same points are needed
-pub same_need : (g h : NecessaryPart) → KeepsRoots g.roots h.roots → KeepsLinks g.links h.links → (p : Point) → Needed h p ↔ Needed g p
-same_need g h roots links p = (
-  λ n. needed_more h g (λ a r. let e = roots a in omega (arith, e, r)) (λ a b r. let e = links a b in omega (arith, e, r)) p n,
-  λ n. needed_more g h (λ a r. let e = roots a in omega (arith, e, r)) (λ a b r. let e = links a b in omega (arith, e, r)) p n,
-)
+use Rattle.wiring.proofs.Linking.{linked_stands, linked_new_stands, some_or_none}
+use Rattle.wiring.proofs.Deciding.{same_need}
+use Rattle.wiring.proofs.Staying.{KeepsMost, most_still, most_staged, most_same, most_then, most_kept, most_kept_there, looks_stands}
+use Rattle.wiring.proofs.Holding.{has_links_same}
+use Rattle.wiring.specs.Graph.{died_at, HasLinks}
 
 -- a point that has a row is one of a live node
 part_of : (x : Option Row) (part : Part) → has_part x part ≡ true → is_some x ≡ true
@@ -60,36 +48,10 @@ target_row arena old q k target = elim target.there [
 
 -- ---- a link was refused
 
-module _ (old new : Work) (l : IsLevelled old new) where
-  levelled_needs : (p : Point) → Needed old.graph p → Needed new.graph p
-  levelled_needs p n = needed_more old.graph new.graph (λ a r. let e = l.roots a in omega (arith, e, r)) (λ a b x. let e = l.links a b in omega (arith, e, x)) p n
-
-  pub levelled_kept : (arena : Arena) → IsKept arena old → IsKept arena new
-  levelled_kept arena k = record {
-    step = l.step;
-    rows = λ p. ap is_some (l.rows p) ∙ k.rows p;
-    leaves = λ p h. elim (k.leaves p (sym (l.heights p) ∙ h)) [
-      | inl row ↦ inl (ap is_some (l.rows p) ∙ row)
-      | inr d ↦ inr (d.0, levelled_needs p d.1)
-    ];
-    there = λ p h. l.heights p ∙ k.there p (sym (ap is_some (l.rows p)) ∙ h);
-    given = λ p h. k.given p (sym (l.heights p) ∙ h);
-    links = λ p q r. links_same old new (λ a. ap is_some (l.rows a)) l.round.deaths p q (k.links p q (let e = l.links p q in omega (arith, e, r)));
-    heap = λ p h. ap is_some (l.rows p) ∙ k.heap p (sym (l.heap p) ∙ h);
-    dead = λ n b e. k.dead n b (sym (died_same old new l.round.deaths n) ∙ e);
-    sound = k.sound;
-    scopes = k.scopes;
-    older = k.older;
-    outcomes = λ n r w v row e. k.outcomes n r w v row (sym (l.rows (main n)) ∙ e);
-    rights = λ n m r w o row e out right. k.rights n m r w o row (sym (l.rows (change n)) ∙ e) out
-        (subst (λ (h : Holdings). right_of (graph_of arena h) n r.def o ≡ Some m) (held_rows arena old new l.rows l.round.roots) right);
-    roots = λ n h. let v = k.roots n (root_same old new l.round.roots (change n) h) in (v.0, ap outcome_in (l.rows (change n)) ∙ v.1);
-    binds = λ n r row h. k.binds n r row (root_same old new l.round.roots (change n) h);
-    calls = λ n r w c row e. k.calls n r w c row (sym (l.rows (main n)) ∙ e);
-    rounds = λ p w e. subst (λ (n : ℕ). w.settled ≤ n) (sym l.round.round) (k.rounds p w (sym (l.rows p) ∙ e));
-    pairs = λ n r row some. pairs_same old new l.lists n (k.pairs n r row some);
-    scoped = λ n r row some. scoped_same old new l.lists n (k.scoped n r row some);
-  }
+pub levelled_kept : (arena : Arena) (old new : Work) → IsLevelled old new → IsKept arena old → IsKept arena new
+levelled_kept arena old new l k =
+    most_kept_there old new (most_still old new l.rows l.lists l.round) arena k l.step l.heights (λ a. (same_need old.graph new.graph l.roots l.links a).1)
+    (λ a b r. let e = l.links a b in omega (arith, e, r)) (λ a h. k.heap a (sym (l.heap a) ∙ h))
 
 -- there was no room
 pub levelled_room : (old new : Work) → ShowsSame old new → KeepsRows old.graph.heights new.graph.heights → IsInStep new.graph → IsLevelled old new
@@ -160,32 +122,15 @@ module _ (old mid closed : Work) (g : NecessaryPart) (q : Point) (opened : Bool)
 
 -- ---- a link or a root was put on
 
-is_some_mapped : (f : Progress → Progress) (x : Option Progress) → is_some (option_map f x) ≡ is_some x
-is_some_mapped f None = refl
-is_some_mapped f (Some k) = refl
-
--- rows stay where they are
-pub rewritten_there : (old new : Rows Progress) (q : Point) (f : Progress → Progress) → IsRewritten old new q f
-    → (a : Point) → is_some (at new a) ≡ is_some (at old a)
-rewritten_there old new q f w a = elim (same_or_other q a) [
-  | inl e ↦ subst (λ (x : Point). is_some (at new x) ≡ is_some (at old x)) e (ap is_some w.changed ∙ is_some_mapped f (at old q))
-  | inr ne ↦ ap is_some (w.others a (λ h. ne (sym h)))
-]
-
 -- one point more is needed, if it wasn't, and may have a place among heights; links and what is in the heap may be more where there are rows
 pub record IsGrown (old new : Work) (q : Point) : Type 0 where
   pub step : IsInStep new.graph
-  pub rows : (a : Point) (k : Progress) → at new.rows a ≡ Some k → IsBefore old.rows a k
-  pub held : (a : Point) → is_some (at new.rows a) ≡ is_some (at old.rows a)
+  pub most : KeepsMost old new
   pub needed : (a : Point) → Needed old.graph a → Needed new.graph a
   pub also : Needed new.graph q
   pub heights : (a : Point) → a ≢ q → is_some (at new.graph.heights a) ≡ is_some (at old.graph.heights a)
   pub links : (a b : Point) → Reads new.graph.links a b → Reads old.graph.links a b ⊎ MayRead old a b
   pub heap : (a : Point) → Holds new.graph.heap a → Holds old.graph.heap a ⊎ Holds old.rows a
-  pub round : new.round ≡ old.round
-  pub roots : new.roots ≡ old.roots
-  pub deaths : new.deaths ≡ old.deaths
-  pub lists : KeepsLists old new
 
 module _ (old new : Work) (q : Point) (grown : IsGrown old new q) (arena : Arena) (target : IsTarget arena old q) (k : IsKept arena old) where
   -- a point that is there was there, or is the new one
@@ -195,59 +140,20 @@ module _ (old new : Work) (q : Point) (grown : IsGrown old new q) (arena : Arena
     | inr ne ↦ before a (sym (grown.heights a (λ e. ne (sym e))) ∙ h)
   ]
 
-  held_before : (a : Point) → Holds new.rows a → Holds old.rows a
-  held_before a h = sym (grown.held a) ∙ h
-
-  -- each row keeps its outcome
-  outcome_stays : (p : Point) → outcome_in (at new.rows p) ≡ outcome_in (at old.rows p)
-  outcome_stays p = outcome_before (at new.rows p) (at old.rows p) (grown.held p)
-      (λ w e. let b = grown.rows p w e in ap outcome_in b.was ∙ sym b.outcome)
-    where
-      outcome_before : (x y : Option Progress) → is_some x ≡ is_some y → ((w : Progress) → x ≡ Some w → outcome_in y ≡ w.outcome)
-          → outcome_in x ≡ outcome_in y
-      outcome_before None None e h = refl
-      outcome_before None (Some k) e h = absurd (cc)
-      outcome_before (Some w) y e h = sym (h w refl)
-
-  grown_held : held_at arena new ≡ held_at arena old
-  grown_held = held_same arena old new (λ n. outcome_stays (change n)) grown.roots
-
   pub grown_kept : IsKept arena new
-  grown_kept = record {
+  grown_kept = most_kept old new grown.most arena k (record {
     step = grown.step;
-    rows = λ p. grown.held p ∙ k.rows p;
-    leaves = λ p h. elim (same_or_other q p) [
-      | inl e ↦ subst (λ (x : Point). Holds new.rows x ⊎ ((row_at arena x.node ≡ None) × Needed new.graph x)) e (elim target.there [
-        | inl row ↦ inl (grown.held q ∙ row)
-        | inr dead ↦ inr (dead, grown.also)
-      ])
-      | inr ne ↦ elim (k.leaves p (sym (grown.heights p (λ e. ne (sym e))) ∙ h)) [
-        | inl row ↦ inl (grown.held p ∙ row)
-        | inr d ↦ inr (d.0, grown.needed p d.1)
-      ]
-    ];
-    there = λ p h. elim (same_or_other q p) [
+    leaves = by_heights (λ (a : Point). Holds old.rows a ⊎ ((row_at arena a.node ≡ None) × Needed new.graph a))
+        (elim target.there [ inl row ↦ inl row | inr dead ↦ inr (dead, grown.also) ])
+        (λ a h. elim (k.leaves a h) [ inl row ↦ inl row | inr d ↦ inr (d.0, grown.needed a d.1) ]);
+    there = λ a h. elim (same_or_other q a) [
       | inl e ↦ subst (λ (x : Point). Holds new.graph.heights x) e (grown.step.there q grown.also)
-      | inr ne ↦ grown.heights p (λ e. ne (sym e)) ∙ k.there p (held_before p h)
+      | inr ne ↦ grown.heights a (λ e. ne (sym e)) ∙ k.there a h
     ];
     given = by_heights (λ (a : Point). Given arena.given a.node) target.given k.given;
-    links = λ p p' r. links_same old new grown.held grown.deaths p p' (elim (grown.links p p' r) [ inl before ↦ k.links p p' before | inr may ↦ may ]);
-    heap = λ p h. grown.held p ∙ elim (grown.heap p h) [ inl before ↦ k.heap p before | inr row ↦ row ];
-    dead = λ n b e. k.dead n b (sym (died_same old new grown.deaths n) ∙ e);
-    sound = k.sound;
-    scopes = k.scopes;
-    older = k.older;
-    outcomes = λ n r w v row e o. let b = grown.rows (main n) w e in k.outcomes n r b.row v row b.was (sym b.outcome ∙ o);
-    rights = λ n m r w o row e out right. let b = grown.rows (change n) w e in k.rights n m r b.row o row b.was (sym b.outcome ∙ out)
-        (subst (λ (h : Holdings). right_of (graph_of arena h) n r.def o ≡ Some m) grown_held right);
-    roots = λ n h. let v = k.roots n (root_same old new grown.roots (change n) h) in (v.0, outcome_stays (change n) ∙ v.1);
-    binds = λ n r row h. k.binds n r row (root_same old new grown.roots (change n) h);
-    calls = λ n r w c row e o. let b = grown.rows (main n) w e in k.calls n r b.row c row b.was (sym b.last ∙ o);
-    rounds = λ p w e. let b = grown.rows p w e in let old_round = k.rounds p b.row b.was in let s = b.settled in let r = grown.round in
-        omega (arith, old_round, s, r);
-    pairs = λ n r row some. pairs_same old new grown.lists n (k.pairs n r row some);
-    scoped = λ n r row some. scoped_same old new grown.lists n (k.scoped n r row some);
-  }
+    links = λ a b r. elim (grown.links a b r) [ inl before ↦ k.links a b before | inr may ↦ may ];
+    heap = λ a h. elim (grown.heap a h) [ inl before ↦ k.heap a before | inr row ↦ row ];
+  })
 
 module _ (old mid new : Work) (g : NecessaryPart) (q : Point) (newly : Bool) (looks : ShowsSame old mid)
     (others : (a : Point) → a ≢ q → at mid.graph.heights a ≡ at old.graph.heights a) (points : KeepsPoints mid.graph.heights g.heights)
@@ -259,8 +165,8 @@ module _ (old mid new : Work) (g : NecessaryPart) (q : Point) (newly : Bool) (lo
   abbrev part : Work
   part = record mid { graph = g }
 
-  as_before : (a : Point) (k : Progress) → at mid.rows a ≡ Some k → IsBefore old.rows a k
-  as_before a k e = record { row = k; was = sym (looks.rows a) ∙ e; outcome = refl; last = refl; cutoff = refl; settled = refl }
+  part_most : KeepsMost old part
+  part_most = most_then old mid part (most_still old mid looks.rows looks.lists looks.round) (most_same mid g mid.todo mid.retries)
 
   needed_then : (a : Point) → Needed old.graph a → Needed g a
   needed_then a n = (also a).1 (inl ((looks.needed a).1 n))
@@ -271,17 +177,12 @@ module _ (old mid new : Work) (g : NecessaryPart) (q : Point) (newly : Bool) (lo
   grown_part : IsInStep g → IsGrown old part q
   grown_part step_of = record {
     step = step_of;
-    rows = as_before;
-    held = λ a. ap is_some (looks.rows a);
+    most = part_most;
     needed = needed_then;
     also = (also q).1 (inr refl);
     heights = λ a ne. points a ∙ ap is_some (others a ne);
     links = links;
     heap = λ a h. inl (heap_before a h);
-    round = looks.round.round;
-    roots = looks.round.roots;
-    deaths = looks.round.deaths;
-    lists = record { pairs = looks.lists.pairs; scoped = looks.lists.scoped };
   }
 
   module _ (w : IsNewlyNeeded part new q) where
@@ -298,25 +199,15 @@ module _ (old mid new : Work) (g : NecessaryPart) (q : Point) (newly : Bool) (lo
       | inr ne ↦ inl (heap_before a (sym (ap is_some (w.others a (λ e. ne (sym e)))) ∙ h))
     ]
 
-    rows_woken : (a : Point) (k : Progress) → at new.rows a ≡ Some k → IsBefore old.rows a k
-    rows_woken a k e =
-        let b = row_before mid.rows new.rows q code.Bare w.rows a k e in
-        record { row = b.row; was = sym (looks.rows a) ∙ b.was; outcome = b.outcome; last = b.last; cutoff = b.cutoff; settled = b.settled }
-
     grown_woken : IsGrown old new q
     grown_woken = record {
       step = step_is;
-      rows = rows_woken;
-      held = λ a. rewritten_there mid.rows new.rows q (with_stage code.Bare) w.rows a ∙ ap is_some (looks.rows a);
+      most = most_then old part new part_most (most_staged part new q code.Bare w.rows w.lists w.round);
       needed = λ a n. (woken_need a).1 (needed_then a n);
       also = (woken_need q).1 ((also q).1 (inr refl));
       heights = λ a ne. ap (λ (h : Rows ℕ). is_some (at h a)) w.graph.heights ∙ (points a ∙ ap is_some (others a ne));
       links = λ a b r. links a b (subst (λ (l : Links). Reads l a b) w.graph.links r);
       heap = heap_woken;
-      round = w.round.round ∙ looks.round.round;
-      roots = w.round.roots ∙ looks.round.roots;
-      deaths = w.round.deaths ∙ looks.round.deaths;
-      lists = record { pairs = w.lists.pairs ∙ looks.lists.pairs; scoped = w.lists.scoped ∙ looks.lists.scoped };
     }
 
   pub grown : IsGrown old new q
@@ -426,7 +317,7 @@ module _ (old mid new : Work) (g : NecessaryPart) (p q : Point) (newly : Bool) (
     levelled = tt;
     why = tt;
     retries = same_retries;
-    places = record { rows = with_link.held; roots = same_roots; deaths = with_link.deaths; round = with_link.round };
+    places = record { rows = with_link.most.held; roots = same_roots; deaths = with_link.most.deaths; round = with_link.most.round };
     kept = grown_kept old new q with_link arena target kept;
     pushed = grows kept.step;
   }
@@ -443,6 +334,6 @@ levelled_answers e arena old new p q l kept why = record {
   why = why;
   retries = l.round.retries;
   places = record { rows = λ a. ap is_some (l.rows a); roots = l.roots; deaths = l.round.deaths; round = l.round.round };
-  kept = levelled_kept old new l arena kept;
+  kept = levelled_kept arena old new l kept;
   pushed = tt;
 }

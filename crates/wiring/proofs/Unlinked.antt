@@ -48,13 +48,14 @@ raised_unlinked s p st extra un a todo need = elim (same_or_other p a) [
   | inr ne ↦ subst (λ (x : machine.Stage). (x ≡ machine.Bare) ⊎ (x ≡ machine.Gated) ⊎ (a ≡ p)) (sym (at_other p st s.stage a ne)) (un a todo need)
 ]
 
+-- who was taken off a list isn't on it
+pub not_off : (p a : Point) (listed : Point → Bool) → p ≡ a → at_point p false listed a ≡ true → ⊥
+not_off p a listed e t = let off = subst (λ (x : Point). at_point p false listed x ≡ false) e (at_same p false listed) in cc
+
 -- the point in hand leaves the worklist
 pub finished_unlinked : (s : State) (p : Point) → AreUnlinked (Some (hand p [])) s → AreUnlinked None (finished s p)
 finished_unlinked s p un a todo need = elim (same_or_other p a) [
-  | inl e ↦ absurd (
-      let f = at_same p false s.todo in
-      let t : at_point p false s.todo p ≡ true = subst (λ (x : Point). at_point p false s.todo x ≡ true) (sym e) todo in
-      cc)
+  | inl e ↦ absurd (not_off p a s.todo e todo)
   | inr ne ↦ elim (un a (sym (at_other p false s.todo a ne) ∙ todo) need) [
     | inl b ↦ inl b
     | inr k ↦ elim k [ inl g ↦ inr (inl g) | inr e ↦ absurd (ne (sym e)) ]
@@ -65,10 +66,7 @@ finished_unlinked s p un a todo need = elim (same_or_other p a) [
 pub rested_unlinked : (s : State) (q : Point) (heap' : Point → Bool) (held : Option PointInHand) → AreUnlinked held s
     → AreUnlinked held (finished (raised (newly s q heap') q machine.Full []) q)
 rested_unlinked s q heap' held un a todo need = elim (same_or_other q a) [
-  | inl e ↦ absurd (
-      let f = at_same q false (newly s q heap').todo in
-      let t : at_point q false (newly s q heap').todo q ≡ true = subst (λ (x : Point). at_point q false (newly s q heap').todo x ≡ true) (sym e) todo in
-      cc)
+  | inl e ↦ absurd (not_off q a (newly s q heap').todo e todo)
   | inr ne ↦ subst (λ (x : machine.Stage). (x ≡ machine.Bare) ⊎ (x ≡ machine.Gated) ⊎ IsInHand held a)
       (sym (at_other q machine.Full (newly s q heap').stage a ne))
       (newly_unlinked s q heap' held un a (sym (at_other q false (newly s q heap').todo a ne) ∙ todo) need)
@@ -105,17 +103,7 @@ module _ (F : Functions) (z : Start) (held : Option PointInHand) where
       at_p a is low = subst (λ (x : Point). at_point p st s.stage x ≡ machine.Gated) is
           (at_same p st s.stage ∙ gated (s.stage p) st d.bare d.full d.lower
           (subst (λ (x : Point). (s.stage x ≡ machine.Bare) ⊎ (s.stage x ≡ machine.Gated)) (sym is) low))
-  off_one s t (move.step_main q x e) h un = absurd h
-  off_one s t (move.step_change q x e) h un = absurd h
-  off_one s t (move.link x n e) h un = absurd h
-  off_one s t (move.link_new x n k e) h un = absurd h
-  off_one s t (move.root n e) h un = absurd h
-  off_one s t (move.root_new g n k e) h un = absurd h
-  off_one s t (move.raise x e) h un = absurd h
-  off_one s t (move.finish x e) h un = absurd h
-  off_one s t (move.rebuild r b c e) h un = absurd h
-  off_one s t (move.level x e) h un = absurd h
-  off_one s t (move.spend u k e) h un = absurd h
+  off_one s t _ h un = absurd h
 
   pub off_unlinked : (s t : State) → Reaches (TakingOff F z) s t → AreUnlinked held s → AreUnlinked held t
   off_unlinked s t here un = un
@@ -124,15 +112,4 @@ module _ (F : Functions) (z : Start) (held : Option PointInHand) where
   -- and fewer links may be tried again
   pub spend_unlinked : (s t : State) (m : Move F z s t) → Spends m → AreUnlinked held s → AreUnlinked held t
   spend_unlinked s t (move.spend u k e) h un = subst (λ (v : State). AreUnlinked held v) (sym e) un
-  spend_unlinked s t (move.schedule x e) h un = absurd h
-  spend_unlinked s t (move.cut d w e) h un = absurd h
-  spend_unlinked s t (move.step_main q x e) h un = absurd h
-  spend_unlinked s t (move.step_change q x e) h un = absurd h
-  spend_unlinked s t (move.link x n e) h un = absurd h
-  spend_unlinked s t (move.link_new x n k e) h un = absurd h
-  spend_unlinked s t (move.root n e) h un = absurd h
-  spend_unlinked s t (move.root_new g n k e) h un = absurd h
-  spend_unlinked s t (move.raise x e) h un = absurd h
-  spend_unlinked s t (move.finish x e) h un = absurd h
-  spend_unlinked s t (move.rebuild r b c e) h un = absurd h
-  spend_unlinked s t (move.level x e) h un = absurd h
+  spend_unlinked s t _ h un = absurd h

@@ -39,6 +39,16 @@ pub record IsPointForgotten (old new : Work) (p : Point) : Type 0 where
   pub heights : (Needed old.graph p × (new.graph.heights ≡ old.graph.heights))
       ⊎ ((Needed old.graph p → ⊥) × Changes old.graph.heights new.graph.heights p None)
 
+-- the lists, and all that isn't of a node's points, are as they were
+pub record IsElsewhere (old new : Work) : Type 0 where
+  pub deaths : new.deaths ≡ old.deaths
+  pub pairs : new.pairs.nodes ≡ old.pairs.nodes
+  pub scoped : new.scoped.nodes ≡ old.scoped.nodes
+  pub todo : new.todo ≡ old.todo
+  pub ran : new.ran ≡ old.ran
+  pub retries : new.retries ≡ old.retries
+  pub round : new.round ≡ old.round
+
 -- of a node that died nothing is kept but its needed points with their links; what reads its main and lives on is in the heap, unless it was settled
 pub record IsForgotten (old new : Work) (n : NodeId) : Type 0 where
   pub rows : ChangesNode old.rows new.rows n (λ part. None)
@@ -56,13 +66,8 @@ pub record IsForgotten (old new : Work) (n : NodeId) : Type 0 where
       → Holds new.graph.heap p ⊎ (settled_in old.round (at old.rows p) ≡ true) ⊎ IsSome (died_at old p.node)
   pub only : (p : Point) → Holds new.graph.heap p → Holds old.graph.heap p
       ⊎ (Reads old.graph.links p (main n) × (settled_in old.round (at old.rows p) ≡ false) × (died_at old p.node ≡ None))
-  pub deaths : new.deaths ≡ old.deaths
-  pub pairs : new.pairs.nodes ≡ old.pairs.nodes
-  pub scoped : new.scoped.nodes ≡ old.scoped.nodes
-  pub todo : new.todo ≡ old.todo
-  pub ran : new.ran ≡ old.ran
-  pub retries : new.retries ≡ old.retries
-  pub round : new.round ≡ old.round
+  pub elsewhere : IsElsewhere old new
+  pub open elsewhere use *
 
 -- the points of nodes that died lost one link to their gates each, and what is no longer reached lost all
 pub record IsReleased (old new : Work) : Type 0 where

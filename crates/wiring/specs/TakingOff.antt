@@ -1,10 +1,11 @@
 -- What calls that take off links that weren't confirmed leave.
 use Rattle.std.specs.Prelude.{◌≡◌, ◌⊎◌}
+use Rattle.inc_value.specs.declared.node.NodeId.{NodeId}
 use Rattle.inc_value.specs.declared.node.Point.{Point}
 use Rattle.point_map.specs.Rows.{at}
 use Rattle.node_arena.specs.Arena.{Arena}
 use Rattle.wiring.specs.Kept.{IsKept}
-use Rattle.wiring.specs.Wiring.{KeepsPlaces, OnlyLoses, IsSpared, IsPutBack, TakesOne, TakesOff}
+use Rattle.wiring.specs.Wiring.{KeepsPlaces, OnlyLoses, IsSpared, IsBehindGate, IsPutBack, TakesOne, TakesOff}
 use Rattle.wiring.specs.declared.work.Work.{Work}
 
 -- links came off, and all else stays
@@ -23,6 +24,14 @@ pub record TakesSome (arena : Arena) (old new : Work) : Type 0 where
   pub stays : LosesLinks arena old new
   pub taken : TakesOne arena old new
   pub rows : RowsSpared arena old new
+
+-- a node's points have their gate's link alone, where that didn't run
+pub record PutsNodeBack (arena : Arena) (old new : Work) (node : NodeId) : Type 0 where
+  pub stays : LosesLinks arena old new
+  pub taken : TakesOne arena old new
+  pub behind : (p : Point) → p.node ≡ node → IsBehindGate arena new p
+  pub fewer : (p : Point) → IsBehindGate arena old p → IsBehindGate arena new p
+  pub rows : (p : Point) → (at new.rows p ≡ at old.rows p) ⊎ ((p.node ≡ node) × IsPutBack arena old new p)
 
 -- some of what wasn't confirmed came off, or all, and fewer links may be tried again
 pub record TakesMore (arena : Arena) (old new : Work) : Type 0 where

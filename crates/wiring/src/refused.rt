@@ -3,7 +3,7 @@ use inc_value::Point;
 use std::alloc::AllocError;
 
 /// Why a stabilize is refused. What the parts hold then can't be brought up to date any more.
-#[derive(Debug, Drop)]
+#[derive(Drop)]
 pub enum Refused {
     /// These points read in a circle: each reads the next, and the first is the last.
     Cycle(Vec<Point>),

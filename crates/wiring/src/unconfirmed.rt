@@ -10,8 +10,8 @@ ghost use Rattle.necessary_graph.specs.Sweep.{IsReduced};
 ghost use Rattle.node_arena.specs.Arena.{row_at};
 ghost use Rattle.node_outcomes.specs.Row.{stage_in, settled_in};
 ghost use Rattle.wiring.specs.Kept.{IsKept};
-ghost use Rattle.wiring.specs.TakingOff.{TakesSome, TakesMore, LosesLinks};
-ghost use Rattle.wiring.specs.Wiring.{OnlyLoses, IsSpared, IsBehindGate, TakesOne, IsConfirmedAt, IsAtGate, GoesBack, IsPutBack};
+ghost use Rattle.wiring.specs.TakingOff.{TakesSome, TakesMore, LosesLinks, PutsNodeBack};
+ghost use Rattle.wiring.specs.Wiring.{OnlyLoses, IsSpared, IsBehindGate, TakesOne, IsConfirmedAt, IsAtGate, GoesBack};
 ghost use Rattle.wiring.specs.Graph.{rowless};
 
 use crate::link::Rowless;
@@ -113,12 +113,7 @@ impl Work {
     /// alone. The gate is put into the heap for them.
     pub fn put_back_unconfirmed(&mut self, arena: &Arena, node: NodeId)
         requires kept { IsKept arena.now self.old }
-        ensures stays { LosesLinks arena.now self.old self.new }
-        ensures taken { TakesOne arena.now self.old self.new }
-        ensures behind { (p : APoint) → p.node ≡ node → IsBehindGate arena.now self.new p }
-        ensures fewer { (p : APoint) → IsBehindGate arena.now self.old p → IsBehindGate arena.now self.new p }
-        ensures rows { (p : APoint) → (at self.new.rows p ≡ at self.old.rows p)
-            ⊎ ((p.node ≡ node) × IsPutBack arena.now self.old self.new p) }
+        ensures { PutsNodeBack arena.now self.old self.new node }
     {
         let Some(row) = arena.get(node) else {
             return;

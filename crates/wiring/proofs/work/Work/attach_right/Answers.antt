@@ -1,6 +1,5 @@
-use Rattle.std.proofs.Common.{◌≡◌, ◌<◌, ◌⊎◌, inl, inr, Option, None, Some, true, false, sym, ap, subst, ◌∙◌, refl}
+use Rattle.std.proofs.Common.{◌≡◌, ◌<◌, ◌⊎◌, inl, inr, Option, Some, true, false, sym, ap, subst, ◌∙◌, refl}
 use Rattle.std.specs.Prelude.{IsTrue, IsFalse, Bool}
-use Rattle.inc_value.specs.declared.node.NodeId.{NodeId}
 use Rattle.inc_value.specs.declared.node.Point.{Point}
 use Rattle.inc_value.specs.declared.node.Part.TheVariants.{Main}
 use Rattle.inc_terms.specs.Depend.{main}
@@ -16,19 +15,16 @@ use Rattle.wiring.specs.Turning.{IsWaiting}
 use Rattle.wiring.specs.Wiring.{Attaches, AttachRefused, IsTarget, MayRead}
 use Rattle.wiring.specs.declared.work.Work.{Work}
 use Rattle.wiring.proofs.Gating.{main_is_target, stage_rowed}
-use Rattle.wiring.proofs.Raising.{if_refusal}
-use Rattle.wiring.proofs.Retrying.{not_both}
-use Rattle.wiring.proofs.Attaching.{WasRaised, was_raised, stays_off, full_kept, right_given, none_attached, right_refused, right_gone, right_on, full_in, right_is}
+use Rattle.wiring.proofs.Raising.{if_refusal, staged_kept}
+use Rattle.wiring.proofs.Deciding.{not_both}
+use Rattle.wiring.proofs.Linking.{is_none}
+use Rattle.wiring.proofs.Attaching.{WasRaised, was_raised, stays_off, right_given, none_attached, right_refused, right_gone, right_on, full_in, right_is}
 use Rattle.wiring.proofs.work.Work.attach_right.Goals as goal
 use Rattle.wiring.proofs.work.Work.attach_right.Goals.{in-Some-right_side+in_ok-_on, in_default-right_side, After-right_side}
 
 by_answer : {P : Type 0} (b : Bool) → (IsTrue b → P) → (IsFalse b → P) → P
 by_answer true on off = on refl
 by_answer false on off = off refl
-
-is_none : (x : Option NodeId) → ((m : NodeId) → x ≡ Some m → ⊥) → x ≡ None
-is_none None not = refl
-is_none (Some m) not = absurd (not m refl)
 
 -- ---- a main that doesn't wait
 
@@ -55,7 +51,7 @@ module _ (c : After-right_side) where
       c.in-Some.ensures c.requires.kept c.requires.settled (c.is_waiting.ensures.0 c.if-not-is_waiting.false) c.set_stage.ensures
 
   kept : IsKept c.args.arena.now mid
-  kept = full_kept c.args.arena.now c.args.node r c.args.self.now c.set_stage.new.rows was
+  kept = staged_kept c.args.self.now c.set_stage.new.rows (main c.args.node) code.Full was.rewritten c.args.arena.now c.requires.kept
 
   full : stage_in (at c.set_stage.new.rows (main c.args.node)) ≡ Some code.Full
   full = full_in c.args.arena.now c.args.node r c.args.self.now c.set_stage.new.rows was

@@ -1,7 +1,8 @@
 use Rattle.std.proofs.Common.{arith}
 use Rattle.wiring.specs.Refusing.{IsBarred}
 use Rattle.wiring.proofs.Retrying.{first_trying, more_trying, lost_answers, on_answers, final_answers}
-use Rattle.wiring.proofs.Retrying.{not_both, may_read, is_target, is_off_now, IsOffNow}
+use Rattle.wiring.proofs.Deciding.{not_both}
+use Rattle.wiring.proofs.Retrying.{may_read, is_target, is_off_now, IsOffNow}
 use Rattle.wiring.proofs.Telling.{told, barred}
 use Rattle.wiring.proofs.work.Work.connect.Goals as goal
 use Rattle.wiring.proofs.work.Work.connect.Goals.{After-make_way}
@@ -46,13 +47,13 @@ returns-then-not-is_still c =
     lost_answers c.args.arena.now c.args.self.now c.loop-fault.self c.args.p c.args.q c.loop-fault.invariant c.try_link.new.self c.make_way.new.self
     (off (goal.at.returns-then-not-is_still c).After-make_way)
     (λ still. not_both c.is_still.result c.if-not-is_still.true (c.is_still.ensures.1 (still.0, λ g. c.is_gated-gated.ensures.1 (still.1 g))))
-    (bars (goal.at.returns-then-not-is_still c).After-make_way) c.make_way.ensures.taken.kept
+    (bars (goal.at.returns-then-not-is_still c).After-make_way)
 
 pub loop-fault-preserved : goal.loop-fault-preserved
 loop-fault-preserved c =
     let s = c.is_still.ensures.0 c.if-not-is_still.false in
     more_trying c.args.arena.now c.args.self.now c.loop-fault.self c.args.p c.args.q c.loop-fault.invariant c.try_link.new.self c.make_way.new.self
-    (off (goal.at.loop-fault-preserved c).After-make_way) (bars (goal.at.loop-fault-preserved c).After-make_way) c.make_way.ensures.taken.kept (s.0, λ g. c.is_gated-gated.ensures.0 (s.1 g))
+    (off (goal.at.loop-fault-preserved c).After-make_way) (bars (goal.at.loop-fault-preserved c).After-make_way) (s.0, λ g. c.is_gated-gated.ensures.0 (s.1 g))
 
 pub loop-fault-smaller : goal.loop-fault-smaller
 loop-fault-smaller c = let a = c.try_link.ensures.retries in let b = c.make_way.ensures.fewer in omega (arith, a, b)

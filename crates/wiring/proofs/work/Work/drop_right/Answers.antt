@@ -2,37 +2,20 @@ use Rattle.std.proofs.Common.{inr, Some, refl, sym, subst, ◌∙◌}
 use Rattle.inc_terms.specs.Code.{def_of}
 use Rattle.inc_terms.specs.Depend.{main}
 use Rattle.inc_value.specs.declared.node.Point.{Point}
-use Rattle.necessary_graph.specs.Sweep.{IsUnlinked}
 use Rattle.link_table.specs.Links.{Reads}
-use Rattle.node_outcomes.specs.Row.{IsRewritten, with_stage}
-use Rattle.wiring.specs.Wiring.{IsEnqueued}
-use Rattle.node_outcomes.specs.declared.row.Stage.TheVariants.{Static}
-use Rattle.wiring.specs.Graph.{rowless}
-use Rattle.wiring.specs.declared.work.Work.{Work}
 use Rattle.wiring.proofs.Detaching.{detached, detached_off, off_none}
 use Rattle.wiring.proofs.work.Work.drop_right.Goals as goal
 
 pub returns-then-reads-clause-detached : goal.returns-then-reads-clause-detached
 returns-then-reads-clause-detached c =
-    let enq : IsEnqueued c.args.self.now c.enqueue.new.self (main c.args.node) =
-    subst (λ (x : Point). IsEnqueued c.args.self.now c.enqueue.new.self x) c.main-p.ensures c.enqueue.ensures.enqueued in
-    let rows : IsRewritten c.enqueue.new.self.rows c.set_stage.new.rows (main c.args.node) (with_stage Static) =
-    subst (λ (x : Point). IsRewritten c.enqueue.new.self.rows c.set_stage.new.rows x (with_stage Static)) c.main-p.ensures c.set_stage.ensures in
-    let third : Work = record c.enqueue.new.self { rows = c.set_stage.new.rows } in
-    detached_off c.args.self.now c.enqueue.new.self c.unlink.new.self c.set_stage.new.rows c.args.node c.in-Some.target (def_of c.args.def.now)
-    enq c.enqueue.ensures.rest rows c.unlink.ensures.rest (sym c.in-Some.is ∙ c.right_side.ensures)
-    (subst (λ (x : Point). IsUnlinked (rowless third) c.enqueue.new.self.graph c.unlink.new.self.graph x (main c.in-Some.target)) c.main-p.ensures
-    (subst (λ (y : Point). IsUnlinked (rowless third) c.enqueue.new.self.graph c.unlink.new.self.graph c.main-p.result y) c.main-q.ensures
-    c.unlink.ensures.unlinked))
+    detached_off c.args.self.now c.enqueue.new.self c.unlink.new.self c.set_stage.new.rows c.args.node c.in-Some.target (def_of c.args.def.now) _ _
+    c.main-p.ensures c.main-q.ensures c.enqueue.ensures.enqueued c.enqueue.ensures.rest c.set_stage.ensures c.unlink.ensures.rest
+    (sym c.in-Some.is ∙ c.right_side.ensures) c.unlink.ensures.unlinked
 
 pub returns-else-reads-clause-detached : goal.returns-else-reads-clause-detached
 returns-else-reads-clause-detached c =
-    let enq : IsEnqueued c.args.self.now c.enqueue.new.self (main c.args.node) =
-    subst (λ (x : Point). IsEnqueued c.args.self.now c.enqueue.new.self x) c.main-p.ensures c.enqueue.ensures.enqueued in
-    let rows : IsRewritten c.enqueue.new.self.rows c.set_stage.new.rows (main c.args.node) (with_stage Static) =
-    subst (λ (x : Point). IsRewritten c.enqueue.new.self.rows c.set_stage.new.rows x (with_stage Static)) c.main-p.ensures c.set_stage.ensures in
-    detached c.args.self.now c.enqueue.new.self _ c.args.node (def_of c.args.def.now) (Some c.in-Some.target)
-    enq c.enqueue.ensures.rest rows refl (sym c.in-Some.is ∙ c.right_side.ensures)
+    detached c.args.self.now c.enqueue.new.self _ c.args.node (def_of c.args.def.now) (Some c.in-Some.target) _ c.main-p.ensures
+    c.enqueue.ensures.enqueued c.enqueue.ensures.rest c.set_stage.ensures refl (sym c.in-Some.is ∙ c.right_side.ensures)
     (inr (
       refl,
       λ reads. absurd (
@@ -44,9 +27,6 @@ returns-else-reads-clause-detached c =
 
 pub returns-in_default-clause-detached : goal.returns-in_default-clause-detached
 returns-in_default-clause-detached c =
-    let enq : IsEnqueued c.args.self.now c.enqueue.new.self (main c.args.node) =
-    subst (λ (x : Point). IsEnqueued c.args.self.now c.enqueue.new.self x) c.main-p.ensures c.enqueue.ensures.enqueued in
-    let rows : IsRewritten c.enqueue.new.self.rows c.set_stage.new.rows (main c.args.node) (with_stage Static) =
-    subst (λ (x : Point). IsRewritten c.enqueue.new.self.rows c.set_stage.new.rows x (with_stage Static)) c.main-p.ensures c.set_stage.ensures in
-    detached c.args.self.now c.enqueue.new.self _ c.args.node (def_of c.args.def.now) c.right_side.result
-    enq c.enqueue.ensures.rest rows refl c.right_side.ensures (off_none _ c.enqueue.new.self.graph c.args.node c.right_side.result c.in_default.not-Some)
+    detached c.args.self.now c.enqueue.new.self _ c.args.node (def_of c.args.def.now) c.right_side.result _ c.main-p.ensures
+    c.enqueue.ensures.enqueued c.enqueue.ensures.rest c.set_stage.ensures refl c.right_side.ensures
+    (off_none _ c.enqueue.new.self.graph c.args.node c.right_side.result c.in_default.not-Some)

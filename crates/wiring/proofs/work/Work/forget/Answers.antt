@@ -5,7 +5,8 @@ use Rattle.inc_terms.specs.Depend.{main, change}
 use Rattle.point_map.specs.Rows.{Rows, at, Holds, Changes}
 use Rattle.wiring.specs.Scoped.{AreTold, IsPointForgotten}
 use Rattle.wiring.specs.declared.work.Work.{Work}
-use Rattle.wiring.proofs.Forgetting.{height_stays_gone, told_rows, forgotten_alone, forgotten_both, elsewhere_alone, elsewhere_both, roots_alone, roots_both, last_graph, last_rows, row_before, height_before, not_there}
+use Rattle.wiring.proofs.Forgetting.{height_stays_gone, told_rows, forgotten_alone, forgotten_both, elsewhere_alone, elsewhere_both, roots_alone, roots_both, last_graph, last_rows, row_before, height_before}
+use Rattle.wiring.proofs.Linking.{none_if}
 use Rattle.wiring.proofs.work.Work.forget.Goals as goal
 
 pub forget_point-requires-then-holds-clause-there : goal.forget_point-requires-then-holds-clause-there
@@ -60,7 +61,7 @@ returns-else-holds-clause-forgotten c =
     let second = c.forget_point.ensures.rest in
     let t : AreTold old told (main n) = subst (λ (x : Point). AreTold old told x) c.main.ensures c.tell_survivors.ensures.told in
     let b : IsPointForgotten told gone (main n) = subst (λ (x : Point). IsPointForgotten told gone x) c.main-2.ensures c.forget_point.ensures.forgotten in
-    let none = subst (λ (x : Point). at gone.rows x ≡ None) c.change-own.ensures (not_there _ (sym c.holds.ensures ∙ c.if-holds.false)) in
+    let none = subst (λ (x : Point). at gone.rows x ≡ None) c.change-own.ensures (none_if _ (sym c.holds.ensures ∙ c.if-holds.false)) in
     forgotten_alone old told gone n c.requires.died t (told_rows old told first) b scoped
     (sym (row_before old told gone n (told_rows old told first) b) ∙ none) (roots_alone old told gone first second)
     (elsewhere_alone old told gone first second scoped c.count_dead.ensures.nodes)

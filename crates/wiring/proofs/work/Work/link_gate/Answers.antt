@@ -9,9 +9,9 @@ use Rattle.wiring.specs.Kept.{IsKept}
 use Rattle.wiring.specs.Wiring.{IsTarget}
 use Rattle.wiring.specs.declared.work.Work.{Work}
 use Rattle.wiring.proofs.Answering.{IsOwed, staged_owed, refusal_gates, gone_gates, link_stays, link_places, link_grows, gate_asked}
-use Rattle.wiring.proofs.Gating.{stage_rowed, gate_kept, is_gated_now, gate_lifts, gate_due, gate_rowed, rowed_target}
+use Rattle.wiring.proofs.Gating.{stage_rowed, is_gated_now, gate_lifts, gate_due, gate_rowed, rowed_target}
 use Rattle.wiring.proofs.Lifting.{DueAfter}
-use Rattle.wiring.proofs.Raising.{only_rows, staged_there}
+use Rattle.wiring.proofs.Raising.{staged_kept, staged_there}
 use Rattle.wiring.proofs.work.Work.link_gate.Goals as goal
 use Rattle.wiring.proofs.work.Work.link_gate.Goals.{After-set_stage}
 
@@ -31,8 +31,7 @@ module _ (c : After-set_stage) where
   rowed = stage_rowed c.args.self.now.rows c.args.p code.Bare c.requires.bare
 
   kept : IsKept c.args.arena.now mid
-  kept = gate_kept c.args.arena.now c.args.p c.args.bind r c.requires.row.1 c.requires.row.2 c.args.self.now c.requires.needed c.requires.bare
-      c.set_stage.new.rows c.set_stage.ensures rowed c.requires.kept
+  kept = staged_kept c.args.self.now c.set_stage.new.rows c.args.p code.Gated c.set_stage.ensures c.args.arena.now c.requires.kept
 
   gated : stage_in (at c.set_stage.new.rows c.args.p) ≡ Some code.Gated
   gated = is_gated_now c.args.arena.now c.args.p c.args.bind r c.requires.row.1 c.requires.row.2 c.args.self.now c.requires.needed c.requires.bare
@@ -50,7 +49,7 @@ module _ (c : After-set_stage) where
 pub connect-requires : goal.connect-requires
 connect-requires c = record {
   needed = c.requires.needed;
-  reader = inl (staged_there c.args.self.now (mid (goal.at.connect-requires c).After-set_stage) c.args.p code.Gated c.set_stage.ensures (only_rows c.args.self.now c.set_stage.new.rows) c.args.p
+  reader = inl (staged_there c.args.self.now c.set_stage.new.rows c.args.p code.Gated c.set_stage.ensures c.args.p
       ∙ rowed (goal.at.connect-requires c).After-set_stage);
   spared = λ part full. absurd (let e = full in let g = gated (goal.at.connect-requires c).After-set_stage in cc);
   target = subst (λ (x : Point). IsTarget c.args.arena.now (mid (goal.at.connect-requires c).After-set_stage) x) (sym c.change.ensures)

@@ -1,12 +1,8 @@
-use Rattle.std.proofs.Common.{◌≡◌, ap, sym, ◌∙◌, [], ◌∷◌, ◌++◌, Option, None, Some, false, refl}
-use Rattle.std.specs.Prelude.{is_some}
+use Rattle.std.proofs.Common.{ap, sym, ◌∙◌, [], ◌∷◌, ◌++◌, false}
 use Rattle.wiring.specs.declared.work.Work.{Work}
 use Rattle.wiring.proofs.Enqueuing.{woken, ghost_woken}
+use Rattle.wiring.proofs.Linking.{none_if}
 use Rattle.wiring.proofs.work.Work.newly_needed.Goals as goal
-
-none_of : {A : Type 0} (x : Option A) → is_some x ≡ false → x ≡ None
-none_of None e = refl
-none_of (Some y) e = absurd (cc)
 
 pub returns-then-holds : goal.returns-then-holds
 returns-then-holds c =
@@ -17,5 +13,5 @@ returns-then-holds c =
 
 pub returns-then-holds-2 : goal.returns-then-holds-2
 returns-then-holds-2 c =
-    ghost_woken c.args.self.now c.args.p c.requires.step (none_of _ (sym c.holds.ensures ∙ c.if-holds.false))
+    ghost_woken c.args.self.now c.args.p c.requires.step (none_if _ (sym c.holds.ensures ∙ c.if-holds.false))
     (sym c.holds-else-holds.ensures ∙ c.if-holds-2.true) c.push_reserved-then-holds-2.new.self c.push_reserved-then-holds-2.ensures.items

@@ -47,4 +47,4 @@ pub returns-in-Err-clause-refused : goal.returns-in-Err-clause-refused
 returns-in-Err-clause-refused c = left_refuses c.args.arena.now c.args.self.now c.root_on.new.self _ c.in-Err.ensures.levelled refl
 
 pub returns-in-Err-clause-kept : goal.returns-in-Err-clause-kept
-returns-in-Err-clause-kept c = levelled_kept c.args.self.now c.root_on.new.self c.in-Err.ensures.levelled c.args.arena.now c.requires.kept
+returns-in-Err-clause-kept c = levelled_kept c.args.arena.now c.args.self.now c.root_on.new.self c.in-Err.ensures.levelled c.requires.kept

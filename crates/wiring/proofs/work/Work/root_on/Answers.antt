@@ -1,4 +1,5 @@
-use Rattle.wiring.proofs.Trying.{same_need, levelled_room, levelled_link}
+use Rattle.wiring.proofs.Deciding.{same_need}
+use Rattle.wiring.proofs.Trying.{levelled_room, levelled_link}
 use Rattle.wiring.proofs.Rooting.{puts_root_on}
 use Rattle.std.proofs.Common.{ap}
 use Rattle.std.specs.Prelude.{is_some}

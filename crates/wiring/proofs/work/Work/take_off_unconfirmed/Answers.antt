@@ -54,7 +54,7 @@ returns-clause-taken c =
     let first : length c.loop-place.self.pairs.nodes ≡ length c.args.self.now.pairs.nodes = ap (λ (w : Work). length w.pairs.nodes) c.loop-place.invariant.some.stays.rest in
     let all : c.loop-index.index ≡ length c.args.self.now.pairs.nodes =
     let l = c.len-index-end.ensures in let x = c.loop-index-test.false in let y = c.loop-index.auto.index-end in omega (arith, first, l, x, y) in
-    all_more c.args.arena.now c.args.self.now c.loop-index.self _ (length c.args.self.now.scoped.nodes) c.loop-index.index so refl all c.requires.kept refl
+    all_more c.args.arena.now c.args.self.now c.loop-index.self (length c.args.self.now.scoped.nodes) c.loop-index.index so refl all c.requires.kept
 
 pub returns-clause-loses : goal.returns-clause-loses
 returns-clause-loses c = c.loop-index.invariant.some.stays.loses

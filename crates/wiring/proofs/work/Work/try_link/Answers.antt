@@ -1,6 +1,7 @@
 use Rattle.height_order.specs.Levels.{level}
 use Rattle.wiring.proofs.Telling.{tells}
-use Rattle.wiring.proofs.Trying.{same_need, levelled_room, levelled_link, closed_links, levelled_answers, put_on_answers}
+use Rattle.wiring.proofs.Deciding.{same_need}
+use Rattle.wiring.proofs.Trying.{levelled_room, levelled_link, closed_links, levelled_answers, put_on_answers}
 use Rattle.wiring.proofs.work.Work.try_link.Goals as goal
 
 pub returns-in-Err : goal.returns-in-Err

@@ -1,16 +1,12 @@
-use Rattle.std.proofs.Common.{◌≡◌, ◌∙◌, inl, inr, Option, None, Some, refl}
-use Rattle.inc_value.specs.declared.node.NodeId.{NodeId}
+use Rattle.std.proofs.Common.{◌≡◌, ◌∙◌, inl, inr, None, Some}
 use Rattle.inc_terms.specs.Graph.{Row}
 use Rattle.node_arena.specs.Arena.{row_at}
 use Rattle.wiring.proofs.Answering.{same_places, grows_here, gate_done, gate_asked}
 use Rattle.wiring.proofs.Gating.{more_wires, lacks_bare, ran_free}
 use Rattle.wiring.proofs.Lifting.{stays_here}
-use Rattle.wiring.proofs.Retrying.{not_both}
+use Rattle.wiring.proofs.Deciding.{not_both}
+use Rattle.wiring.proofs.Linking.{is_none}
 use Rattle.wiring.proofs.work.Work.wire_gate.Goals as goal
-
-is_none : (x : Option NodeId) → ((m : NodeId) → x ≡ Some m → ⊥) → x ≡ None
-is_none None not = refl
-is_none (Some m) not = absurd (not m refl)
 
 -- ---- it stands in no scope
 

@@ -9,7 +9,7 @@ use Rattle.wiring.proofs.Answering.{IsOwed, done_answers, owed_here, refusal_ans
 use Rattle.wiring.proofs.Ghosts.{leaf_wires, ghost_link, ghost_target, ghost_wires, ghost_lifts, ghost_due}
 use Rattle.wiring.proofs.Holding.{died_same}
 use Rattle.wiring.proofs.Lifting.{DueAfter}
-use Rattle.wiring.proofs.Retrying.{not_both}
+use Rattle.wiring.proofs.Deciding.{not_both}
 use Rattle.wiring.proofs.work.Work.wire_ghost.Goals as goal
 use Rattle.wiring.proofs.work.Work.wire_ghost.Goals.{After-connect}
 

@@ -14,8 +14,8 @@ use Rattle.wiring.specs.declared.work.Work.{Work}
 use Rattle.wiring.proofs.Answering.{IsOwed, staged_owed, refusal_answers, gone_answers, then_answers, answers_at}
 use Rattle.wiring.proofs.Gating.{rowed_target, change_rowed}
 use Rattle.wiring.proofs.Lifting.{DueAfter}
-use Rattle.wiring.proofs.Handing.{pair_kept, pair_static, pair_lifts, pair_due, pair_waits}
-use Rattle.wiring.proofs.Raising.{only_rows, staged_there}
+use Rattle.wiring.proofs.Handing.{pair_lifts, pair_due, pair_waits}
+use Rattle.wiring.proofs.Raising.{staged_kept, staged_now, staged_there}
 use Rattle.wiring.proofs.Scheduling.{marked_kept, marked_places, marked_grows}
 use Rattle.wiring.proofs.work.Work.wire_pair.Goals as goal
 use Rattle.wiring.proofs.work.Work.wire_pair.Goals.{then-branch, else-branch, After-set_stage}
@@ -42,12 +42,10 @@ module _ (c : After-set_stage) where
   rowed = c.requires.kept.rows (main c.args.node) ∙ ap (λ (x : Option Row). has_part x Main) c.requires.row.1
 
   kept : IsKept c.args.arena.now mid
-  kept = pair_kept c.args.arena.now c.args.node r c.requires.row.1 c.requires.row.2 c.args.self.now c.requires.needed c.requires.lacking c.requires.ran
-      c.set_stage.new.rows w c.requires.kept
+  kept = staged_kept c.args.self.now c.set_stage.new.rows (main c.args.node) code.Static w c.args.arena.now c.requires.kept
 
   static : stage_in (at c.set_stage.new.rows (main c.args.node)) ≡ Some code.Static
-  static = pair_static c.args.arena.now c.args.node r c.requires.row.1 c.requires.row.2 c.args.self.now c.requires.needed c.requires.lacking
-      c.requires.ran c.set_stage.new.rows w rowed
+  static = staged_now c.args.self.now c.set_stage.new.rows (main c.args.node) code.Static w rowed
 
   owed : IsOwed c.args.arena.now c.args.self.now mid (main c.args.node) (change c.args.node ∷ [])
   owed = staged_owed c.args.arena.now c.args.self.now c.set_stage.new.rows (main c.args.node) code.Static (change c.args.node ∷ []) w
@@ -61,7 +59,7 @@ module _ (c : After-set_stage) where
 pub connect-requires-clause-reader : goal.connect-requires-clause-reader
 connect-requires-clause-reader c =
     subst (λ (x : Point). MayRead (mid (goal.at.connect-requires-clause-reader c).After-set_stage) x c.change-own.result) (sym c.main-2.ensures)
-    (inl (staged_there c.args.self.now (mid (goal.at.connect-requires-clause-reader c).After-set_stage) (main c.args.node) code.Static (w (goal.at.connect-requires-clause-reader c).After-set_stage) (only_rows c.args.self.now c.set_stage.new.rows) (main c.args.node)
+    (inl (staged_there c.args.self.now c.set_stage.new.rows (main c.args.node) code.Static (w (goal.at.connect-requires-clause-reader c).After-set_stage) (main c.args.node)
     ∙ rowed (goal.at.connect-requires-clause-reader c).After-set_stage))
 
 pub connect-requires-clause-spared : goal.connect-requires-clause-spared

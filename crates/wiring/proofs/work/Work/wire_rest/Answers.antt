@@ -16,7 +16,8 @@ use Rattle.wiring.specs.Wiring.{LacksLinks, GateRan, IsTarget}
 use Rattle.wiring.specs.declared.work.Work.{Work}
 use Rattle.wiring.proofs.Answering.{IsOwed, staged_owed, owed_answers, refusal_answers, link_answers}
 use Rattle.wiring.proofs.Gating.{main_is_target}
-use Rattle.wiring.proofs.Handing.{Reads, main_reads, main_of, never_alone, kid_is_given, subject_is_given, change_reads_subject, full_kept, full_in, full_ran, full_there, full_lifts, full_due}
+use Rattle.wiring.proofs.Handing.{Reads, main_reads, main_of, never_alone, kid_is_given, subject_is_given, change_reads_subject, full_lifts, full_due}
+use Rattle.wiring.proofs.Raising.{staged_kept, staged_now, staged_ran, staged_there}
 use Rattle.wiring.proofs.Lifting.{DueAfter, full_wires}
 use Rattle.wiring.proofs.work.Work.wire_rest.Goals as goal
 use Rattle.wiring.proofs.work.Work.wire_rest.Goals.{After-set_stage, After-set_stage-in-Change-Some}
@@ -66,9 +67,9 @@ connect_each-requires c =
       given = λ k among. kid_is_given arena.given c.args.def.now (subst (NamesGiven arena.given) r.2 (q.kept.sound.names p.node r.0 r.1)) k
           (subst (λ (xs : List NodeId). Among k xs) c.kids.ensures among);
       needed = q.needed;
-      full = full_in arena p r.0 r.1 (kid_links (goal.at.connect_each-requires c).After-set_stage) (kid_reads (goal.at.connect_each-requires c).After-set_stage) old q.needed q.lacking q.ran rows w q.there;
-      ran = full_ran arena p r.0 r.1 (kid_links (goal.at.connect_each-requires c).After-set_stage) (kid_reads (goal.at.connect_each-requires c).After-set_stage) old q.needed q.lacking q.ran rows w;
-      kept = full_kept arena p r.0 r.1 (kid_links (goal.at.connect_each-requires c).After-set_stage) (kid_reads (goal.at.connect_each-requires c).After-set_stage) old q.needed q.lacking q.ran rows w q.kept;
+      full = staged_now old rows p code.Full w q.there;
+      ran = staged_ran old rows p code.Full w arena q.ran;
+      kept = staged_kept old rows p code.Full w arena q.kept;
     }
 
 pub returns-in-Main-None : goal.returns-in-Main-None
@@ -112,8 +113,7 @@ module _ (c : After-set_stage-in-Change-Some) where
   reads = change_reads_subject c.args.p r c.in-Change-Some.subject c.in-Change-Some.is-0 (ap subject_of c.requires.row.2 ∙ sym c.in-Change-Some.ensures)
 
   kept : IsKept c.args.arena.now mid
-  kept = full_kept c.args.arena.now c.args.p r c.requires.row.1 (link ∷ []) reads c.args.self.now c.requires.needed c.requires.lacking c.requires.ran
-      c.set_stage-in-Change-Some.new.rows c.set_stage-in-Change-Some.ensures c.requires.kept
+  kept = staged_kept c.args.self.now c.set_stage-in-Change-Some.new.rows c.args.p code.Full c.set_stage-in-Change-Some.ensures c.args.arena.now c.requires.kept
 
   owed : IsOwed c.args.arena.now c.args.self.now mid c.args.p (link ∷ [])
   owed = staged_owed c.args.arena.now c.args.self.now c.set_stage-in-Change-Some.new.rows c.args.p code.Full (link ∷ [])
@@ -131,8 +131,7 @@ connect-requires c =
     let p = c.args.p in
     let q = c.requires in record {
       needed = q.needed;
-      reader = inl (full_there arena p (r (goal.at.connect-requires c).After-set_stage-in-Change-Some) q.row.1 (link (goal.at.connect-requires c).After-set_stage-in-Change-Some ∷ []) (reads (goal.at.connect-requires c).After-set_stage-in-Change-Some) c.args.self.now q.needed q.lacking q.ran
-          c.set_stage-in-Change-Some.new.rows c.set_stage-in-Change-Some.ensures p ∙ q.there);
+      reader = inl (staged_there c.args.self.now c.set_stage-in-Change-Some.new.rows p code.Full c.set_stage-in-Change-Some.ensures p ∙ q.there);
       spared = λ part. absurd (let e = part in let is = c.in-Change-Some.is-0 in cc);
       target = subst (λ (x : Point). IsTarget arena (mid (goal.at.connect-requires c).After-set_stage-in-Change-Some) x) (sym c.main.ensures)
           (main_is_target arena (mid (goal.at.connect-requires c).After-set_stage-in-Change-Some) (link (goal.at.connect-requires c).After-set_stage-in-Change-Some) (kept (goal.at.connect-requires c).After-set_stage-in-Change-Some)
@@ -152,5 +151,5 @@ returns-in_ok-_on-in-Change-Some c =
     let on = c.in_ok-_on-in-Change-Some.ensures in
     link_answers c.args.arena.now c.args.self.now (mid (goal.at.returns-in_ok-_on-in-Change-Some c).After-set_stage-in-Change-Some) c.args.p (link (goal.at.returns-in_ok-_on-in-Change-Some c).After-set_stage-in-Change-Some) (owed (goal.at.returns-in_ok-_on-in-Change-Some c).After-set_stage-in-Change-Some) (due (goal.at.returns-in_ok-_on-in-Change-Some c).After-set_stage-in-Change-Some) c.connect.new.self _ c.in_ok-_on-in-Change-Some._on
     (rw c.main.ensures at on)
-    (λ t. full_wires c.args.arena.now c.connect.new.self c.args.p (ap stage_in (on.row t) ∙ full_in c.args.arena.now c.args.p (r (goal.at.returns-in_ok-_on-in-Change-Some c).After-set_stage-in-Change-Some) q.row.1 (link (goal.at.returns-in_ok-_on-in-Change-Some c).After-set_stage-in-Change-Some ∷ [])
-    (reads (goal.at.returns-in_ok-_on-in-Change-Some c).After-set_stage-in-Change-Some) c.args.self.now q.needed q.lacking q.ran c.set_stage-in-Change-Some.new.rows c.set_stage-in-Change-Some.ensures q.there))
+    (λ t. full_wires c.args.arena.now c.connect.new.self c.args.p (ap stage_in (on.row t)
+    ∙ staged_now c.args.self.now c.set_stage-in-Change-Some.new.rows c.args.p code.Full c.set_stage-in-Change-Some.ensures q.there))
