@@ -1,7 +1,6 @@
 -- What the parts keep between rounds, and the calls that are made there.
 pub mod Keeping
 pub mod Fitting
-pub mod Empty
 pub mod Typing
 pub mod Alone
 pub mod Setting

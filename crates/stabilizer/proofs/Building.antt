@@ -7,7 +7,6 @@ pub mod Built
 pub mod EveryPoint
 pub mod ToBuild
 pub mod Remade
-pub mod State
 pub mod Anew
 pub mod Kept
 pub mod Asks

@@ -4,5 +4,4 @@ pub mod Waiting
 pub mod Steps
 pub mod Turned
 pub mod Moves
-pub mod Running
 pub mod Again

@@ -1,5 +1,4 @@
 -- What was built for a bind is cut off, and dies.
-pub mod Listing
 pub mod ForgettingAll
 pub mod Died
 pub mod KeepingGates

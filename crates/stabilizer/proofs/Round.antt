@@ -4,7 +4,6 @@ pub mod Beginning
 pub mod Counting
 pub mod Ending
 pub mod Lawful
-pub mod Tried
 pub mod Leftover
 pub mod Remaining
 pub mod Looking
@@ -12,7 +11,6 @@ pub mod NewDeaths
 pub mod Released
 pub mod Whole
 pub mod Paused
-pub mod Scoping
 pub mod Stopped
 pub mod LeftBy
 pub mod BuiltFor

@@ -1,5 +1,4 @@
 -- Steps: what one settles of a main, what it leaves, and that steps end.
-pub mod Settling
 pub mod Carrying
 pub mod Mains
 pub mod Stepping
@@ -9,5 +8,4 @@ pub mod Left
 pub mod MeaningKept
 pub mod StillFit
 pub mod Giving
-pub mod GivingSteps
 pub mod Staying

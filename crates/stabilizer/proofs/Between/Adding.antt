@@ -43,6 +43,7 @@ use Rattle.node_outcomes.specs.Meaning.{Meaning}
 use Rattle.stabilizer.proofs.Between.Alone.{ready_stays}
 use Rattle.stabilizer.proofs.Between.Fitting.{added_fit}
 use Rattle.stabilizer.proofs.Between.Keeping.{carried, fit_still, parts_stay}
+use Rattle.stabilizer.proofs.Building.Adopting.{rounds_kept}
 
 -- what is there is of another node than a new one
 pub other_node : (arena : Arena) (work : Work) (id : NodeId) → IsKept arena work → id.gen_ ≡ arena.given → (p : Point) → Holds work.graph.heights p
@@ -304,16 +305,6 @@ back_stays arena old work same = record {
 
 -- ---- added and dropped again
 
--- one after the other
-round_then : (old mid new : Work) → KeepsRound old mid → KeepsRound mid new → KeepsRound old new
-round_then old mid new a b = record {
-  roots = b.roots ∙ a.roots;
-  deaths = b.deaths ∙ a.deaths;
-  ran = b.ran ∙ a.ran;
-  retries = b.retries ∙ a.retries;
-  round = b.round ∙ a.round;
-}
-
 module _ (arena : Arena) (old mid : Work) (id : NodeId) (rows : Part → Option Progress) (heights : Part → Option ℕ) (kept : IsKept arena old)
     (gen : id.gen_ ≡ arena.given) (added : ChangesNode old.rows mid.rows id rows) (points : ChangesNode old.graph.heights mid.graph.heights id heights)
     (links : mid.graph.links ≡ old.graph.links) (roots : mid.graph.roots ≡ old.graph.roots)
@@ -329,7 +320,7 @@ module _ (arena : Arena) (old mid : Work) (id : NodeId) (rows : Part → Option 
     roots = roots' ∙ roots;
     heap = λ p. ap (λ (h : Rows ℕ). at h p) heap' ∙ heap p;
     todo = todo' ∙ todo;
-    round = round_then old mid work round round';
+    round = rounds_kept old mid work round round';
   }
 
 -- ---- the parts

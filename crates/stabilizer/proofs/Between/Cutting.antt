@@ -17,7 +17,7 @@ use Rattle.stabilize_round.specs.State.{State, Start}
 use Rattle.stabilize_round.proofs.Points.{same_or_other, node_or_other}
 use Rattle.wiring.specs.Kept.{IsKept}
 use Rattle.wiring.specs.Places.{ChangesNode, for_parts}
-use Rattle.stabilizer.specs.Kept.{PartsKept}
+use Rattle.stabilizer.specs.Kept.{PartsKept, graph_in}
 use Rattle.stabilizer.specs.Look.{never_at, cutoff_at}
 use Rattle.stabilizer.specs.Round.{IsReady}
 use Rattle.stabilizer.specs.declared.parts.Parts.{Parts}
@@ -130,54 +130,13 @@ module _ (old new : Parts) (id : NodeId) (c : Cutoff) (kept : PartsKept old) (w 
         was p k e = row_was arena old.work new.work.rows id c kept.work w p k e
 
     entry : Entry M.functions start state
-    entry = record {
-      web = record {
-        from = ready.entry.web.from;
-        onto = ready.entry.web.onto;
-        rooted = ready.entry.web.rooted;
-        reached = ready.entry.web.reached;
-        rises = ready.entry.web.rises;
-        low = ready.entry.web.low;
-        heap = ready.entry.web.heap;
-      };
-      alive = ready.entry.alive;
-      links = ready.entry.links;
-      full = ready.entry.full;
-      bare = ready.entry.bare;
-      scoped = ready.entry.scoped;
-      rooted = ready.entry.rooted;
-      built = ready.entry.built;
-      fresh = ready.entry.fresh;
-      settled = ready.entry.settled;
-      owed = ready.entry.owed;
-      todo = ready.entry.todo;
-      retries = ready.entry.retries;
-      ran = ready.entry.ran;
-      taken = ready.entry.taken;
-      died = ready.entry.died;
-      held = ready.entry.held;
-      last = ready.entry.last;
-      never = λ n. refl;
-      stale = ready.entry.stale;
-      unfired = ready.entry.unfired;
-      calls = ready.entry.calls;
-      answers = ready.entry.answers;
-    }
+    entry = assumption (ready.entry)
 
     parts_ready : IsReady M parts
-    parts_ready = record {
-      kept = parts_kept;
-      laws = ready.laws;
-      fit = ready.fit;
-      start = start;
-      state = state;
-      stands = stands;
-      entry = entry;
-      inside = subst ScopesRooted (sym (graph_rewritten arena old.work work (main id) (with_cutoff c) w (λ k is. refl) refl)) ready.inside;
-      numbered = ready.numbered;
-      todo = ready.todo;
-      ran = ready.ran;
-    }
+    parts_ready =
+        let inside : ScopesRooted (graph_in parts) =
+        subst ScopesRooted (sym (graph_rewritten arena old.work work (main id) (with_cutoff c) w (λ k is. refl) refl)) ready.inside in
+        search (parts_kept, stands, entry, inside, ready)
 
     pub cut_ready : IsReady M new
     cut_ready = subst (IsReady M) (sym rest) parts_ready

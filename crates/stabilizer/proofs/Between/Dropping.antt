@@ -352,20 +352,7 @@ module _ (old left : Parts) (count : ℕ) (so : HasDropped old left count) (ran 
   parts_kept = parts_stay left parts so.kept forgotten_kept forgotten_stays refl refl
 
   pub taken_back : IsTakenBack old parts count
-  taken_back = record {
-    older = so.older;
-    dropped = none;
-    given = so.given;
-    no_pair = no_pair;
-    no_scoped = no_scoped;
-    rows = so.rows;
-    cutoffs = so.cutoffs;
-    other_cutoffs = so.other_cutoffs;
-    links = so.links;
-    roots = so.roots;
-    heap = so.heap;
-    right_sides = so.right_sides;
-    ran = ran;
-    kept = parts_kept;
-    ready = λ M ready. let r = so.ready M ready in ready_stays M left parts r r.fit parts_kept forgotten_stays;
-  }
+  taken_back =
+      let ready : (M : Meaning) → IsReady M old → IsReady M parts = (λ M h.
+      let r = so.ready M h in ready_stays M left parts r r.fit parts_kept forgotten_stays) in
+      assumption (none, no_pair, no_scoped, ran, parts_kept, ready, so)

@@ -2,25 +2,18 @@
 use Rattle.std.proofs.Common.{◌≡◌, ◌≤◌, ◌+◌, arith, Some, None}
 use Rattle.inc_value.specs.declared.node.NodeId.{NodeId}
 use Rattle.inc_value.specs.declared.value.Value.{Value}
-use Rattle.inc_value.specs.declared.value.Value.TheVariants as value
 use Rattle.inc_terms.specs.Graph.{Row}
-use Rattle.inc_terms.specs.Within.{ValueWithin}
 use Rattle.node_arena.specs.Arena.{Arena, IsSet, Changes, with_value}
 use Rattle.node_arena.specs.Graph.{AllCallFit, CallsFit}
 use Rattle.node_arena.proofs.Graph.{still_fit, calls_later}
 use Rattle.node_outcomes.specs.Meaning.{Meaning}
-
-any_value : (v : Value) → ValueWithin (λ (n : NodeId). Unit {0}) v
-any_value (value.Node n base) = tt
-any_value (value.Int z) = tt
-any_value (value.Bool z) = tt
-any_value (value.Text z) = tt
+use Rattle.node_arena.proofs.Growing.{value_any}
 
 module _ (M : Meaning) (before arena : Arena) (id : NodeId) (fit : AllCallFit M.known M.ids before) where
   -- a variable calls nothing
   pub set_fit : (v : Value) → IsSet before arena id v → arena.given ≡ before.given → AllCallFit M.known M.ids arena
   set_fit v set given =
-      still_fit M.known M.known M.ids before arena id (Some (with_value set.row v)) (λ f h. h) set.changes (omega (arith, given)) (any_value v) fit
+      still_fit M.known M.known M.ids before arena id (Some (with_value set.row v)) (λ f h. h) set.changes (omega (arith, given)) (value_any v) fit
 
   -- a node was added whose functions fit
   pub added_fit : (row : Row) → Changes before arena id (Some row) → arena.given ≡ before.given + 1

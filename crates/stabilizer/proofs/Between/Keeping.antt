@@ -34,6 +34,7 @@ use Rattle.wiring.proofs.Holding.{held_rewritten, died_same, links_same, root_sa
 use Rattle.stabilizer.specs.Between.{Stays}
 use Rattle.stabilizer.specs.Kept.{KeepsScopes, PartsKept}
 use Rattle.stabilizer.specs.declared.parts.Parts.{Parts}
+use Rattle.wiring.proofs.Staying.{rewritten_there}
 
 -- ---- rows
 
@@ -73,18 +74,6 @@ mapped f (Some row) k e = (row, refl, some_eq e)
   where
     some_eq : {a b : Progress} → ◌≡◌ {A = Option Progress} (Some a) (Some b) → a ≡ b
     some_eq h = cc
-
-mapped_there : (f : Progress → Progress) (x : Option Progress) → is_some (option_map f x) ≡ is_some x
-mapped_there f None = refl
-mapped_there f (Some row) = refl
-
--- a rewritten row stays where it is
-pub rewritten_there : (old new : Rows Progress) (p : Point) (f : Progress → Progress) → IsRewritten old new p f
-    → (q : Point) → is_some (at new q) ≡ is_some (at old q)
-rewritten_there old new p f w q = elim (same_or_other p q) [
-  | inl same ↦ subst (λ (x : Point). is_some (at new x) ≡ is_some (at old x)) same (ap is_some w.changed ∙ mapped_there f (at old p))
-  | inr ne ↦ ap is_some (w.others q (λ s. ne (sym s)))
-]
 
 -- where the changed row fits, all do
 pub rewritten_fit : (arena : Arena) (held : Holdings) (old new : Work) (p : Point) (f : Progress → Progress) → IsRewritten old.rows new.rows p f

@@ -2,7 +2,7 @@
 use Rattle.std.proofs.Common.{◌≡◌, ◌≢◌, ◌⊎◌, inl, inr, ℕ, ◌<◌, ◌≤◌, ◌+◌, Option, None, Some, refl, sym, ap, subst, ◌∙◌, arith}
 use Rattle.std.specs.Prelude.{is_some, IsSome}
 use Rattle.std.proofs.lemmas.Bool.{cases_lt}
-use Rattle.std.proofs.lemmas.Option.{none-some}
+use Rattle.std.proofs.lemmas.Option.{none-some, same_Some}
 use Rattle.inc_value.specs.Choice.{Among}
 use Rattle.inc_value.specs.declared.node.NodeId.{NodeId}
 use Rattle.inc_value.specs.declared.node.Part.{Part}
@@ -22,7 +22,7 @@ use Rattle.wiring.specs.Places.{ChangesNode, for_parts, pairs_with}
 use Rattle.wiring.proofs.Placing.{at_node, has_parts, one_for_all, pair_listed, pair_stays}
 use Rattle.stabilizer.specs.Building.{new_row, IsNewBefore, HasAdopted, HaveEntered, AdoptsBefore, MayAdopt, GetsPoints, KeepsRest}
 use Rattle.stabilizer.specs.declared.parts.Parts.{Parts}
-use Rattle.stabilizer.proofs.Building.Growing.{none_holds, some_is}
+use Rattle.stabilizer.proofs.Building.Growing.{none_holds}
 
 -- what a round keeps through two calls
 pub rounds_kept : (old mid new : Work) → KeepsRound old mid → KeepsRound mid new → KeepsRound old new
@@ -36,9 +36,6 @@ rounds_kept old mid new s t = record {
 
 pub round_same : (work : Work) → KeepsRound work work
 round_same work = record { roots = refl; deaths = refl; ran = refl; retries = refl; round = refl }
-
-pub same_items : (old new : Work) → new.todo ≡ old.todo → new.todo.items ≡ old.todo.items
-same_items old new e = rw e refl
 
 -- none is new before the count
 none_new : (a : Arena) (count : ℕ) (n : NodeId) → IsNewBefore a count count n → ⊥
@@ -134,7 +131,7 @@ module _ (a : Arena) (node : NodeId) (count next : ℕ) (sound : IsSoundArena a)
 
       its_subject : (n : NodeId) (r : Row) → n ≡ node → row_at a n ≡ Some r → IsSome (subject_of r.def) → IsSome (subject_of gets.row.def)
       its_subject n r is e some =
-          let same : r ≡ gets.row = some_is (sym e ∙ its_row n is) in
+          let same : r ≡ gets.row = same_Some _ _ (sym e ∙ its_row n is) in
           subst (λ (x : Row). IsSome (subject_of x.def)) same some
 
       before_it : (n : NodeId) → IsNewBefore a count (node.gen_ + 1) n → n ≢ node → IsNewBefore a count next n
@@ -311,7 +308,7 @@ module _ (a : Arena) (old mid : Work) (node : NodeId) (row : Row) (is_row : row_
     links = links;
     roots = roots;
     heap = heap;
-    todo = same_items old mid todo;
+    todo = rw todo refl;
     round = round;
     pairs = λ n live x. pairs n (inl live) (pair_stays (subject_of row.def) old.pairs.nodes node n x);
     scoped = scoped;
@@ -330,7 +327,7 @@ module _ (a : Arena) (old mid : Work) (node : NodeId) (row : Row) (is_row : row_
         links = same_links ∙ links;
         roots = same_roots ∙ roots;
         heap = λ p. ap (λ (m : Rows ℕ). at m p) same_heap ∙ heap p;
-        todo = same_items mid new same_todo ∙ same_items old mid todo;
+        todo = rw (same_todo, todo) refl;
         round = rounds_kept old mid new round same_round;
         pairs = λ n live x. subst (λ (w : Work). Among n w.pairs.nodes) (sym same) (gets_rest.pairs n live x);
         scoped = λ n live x. subst (λ (w : Work). Among n w.scoped.nodes) (sym same) (scoped n live x);

@@ -1,7 +1,7 @@
 -- A bind is built anew and its change is settled: the machine's moves, and the parts that stand for the state after them.
 use Rattle.std.proofs.Common.{◌≡◌, ◌≢◌, inl, inr, ℕ, ◌-◌, ◌<◌, Bool, true, false, ◌&&◌, List, [], Option, None, Some, refl, sym, ap, subst, ◌∙◌, IsSome}
 use Rattle.std.proofs.Common.{arith}
-use Rattle.std.specs.Prelude.{is_some, option_map}
+use Rattle.std.specs.Prelude.{is_some}
 use Rattle.std.proofs.lemmas.Bool.{and_from, and_parts}
 use Rattle.std.proofs.lemmas.Option.{none-some, same_Some}
 use Rattle.inc_value.specs.declared.function.FnRef.{FnRef}
@@ -45,9 +45,8 @@ use Rattle.wiring.specs.Stands.{MatchesState, Counts, hand}
 use Rattle.wiring.specs.Wiring.{KeepsGraph, IsTurnedIn}
 use Rattle.wiring.specs.declared.work.Work.{Work}
 use Rattle.stabilizer.specs.declared.parts.Parts.{Parts}
-use Rattle.stabilizer.proofs.Building.Remade.{IsAnew, rows_after, bind_given, bind_outside, made, anew, anew_due, stage_old}
-use Rattle.stabilizer.proofs.Building.State.{bare_state, bare_stands}
-use Rattle.stabilizer.proofs.Change.Running.{LeavesSettled, settled_stands}
+use Rattle.stabilizer.proofs.Building.Remade.{IsAnew, rows_after, bind_given, bind_outside, made, anew, anew_due, stage_old, bare_state, bare_stands}
+use Rattle.stabilizer.proofs.Change.Turned.{LeavesSettled, settled_stands, outcome_run}
 
 -- ---- a change that was settled, where its bind is built for the outcome
 
@@ -77,12 +76,6 @@ static_is machine.Bare e = absurd (cc)
 static_is machine.Gated e = absurd (cc)
 static_is machine.Full e = absurd (cc)
 
--- a row that was settled so keeps the outcome
-pub run_outcome : (given : Outcome) (round : ℕ) (x : Option Progress) → is_some x ≡ true
-    → outcome_in (option_map (with_outcome given round) x) ≡ Some given
-run_outcome given round None e = absurd (cc)
-run_outcome given round (Some row) e = refl
-
 -- ---- what binds are built for
 
 -- the bind is built for the outcome, with the root
@@ -93,7 +86,7 @@ built_now arena old new n given root there run r l f captures row def =
     ap (λ (x : Option Row). built_in x (outcome_in (at new.rows (change n))) (at new.roots (change n))) row
     ∙ (ap (λ (d : graph.Def). built_by d (outcome_in (at new.rows (change n))) (at new.roots (change n))) def
     ∙ (ap (λ (x : Option Outcome). built_by (graph.Bind l f captures) x (at new.roots (change n)))
-    (ap outcome_in run.rows.changed ∙ run_outcome given old.round (at old.rows (change n)) there)
+    (ap outcome_in run.rows.changed ∙ outcome_run given old.round (at old.rows (change n)) there)
     ∙ ap (λ (x : Option NodeId). built_by (graph.Bind l f captures) (Some given) x) run.roots.changed))
 
 -- all other binds are built as they were
@@ -119,16 +112,9 @@ module _ (s : State) (arena : Arena) (old new : Work) (counts : Counts) (st : Ma
   -- the parts stand for it, with the main in hand
   pub run_stands : MatchesState arena new counts (Some (hand (main n) [])) next
   run_stands =
-      let settles : LeavesSettled old new n given = record {
-        rows = run.rows;
-        graph = run.graph;
-        gone = run.heap.changed;
-        heap = λ a ne. ap is_some (run.heap.others a ne);
-        deaths = run.deaths;
-        ran = run.ran;
-        retries = run.retries;
-        round = run.round;
-      } in
+      let settles : LeavesSettled old new n given =
+      let others : (a : Point) → a ≢ change n → is_some (at new.graph.heap a) ≡ is_some (at old.graph.heap a) = (λ a ne. ap is_some (run.heap.others a ne)) in
+      assumption (others, run) in
       settled_stands s arena old new counts st n given there settles (graph_at arena new) refl todo' (λ a t. elim (same_or_other (main n) a) [
         | inl h ↦ inr (sym h)
         | inr ne ↦ absurd (let f = at_other (main n) (s.needed (main n) && is_static (s.stage (main n))) nowhere a ne in cc)

@@ -66,16 +66,7 @@ module _ (old now : Parts) (b : NodeId) (may : MayLeave old b) (dying : (n : Nod
     waits = λ p h. (same_row p, same_point p);
     others = λ p h. (same_row p, same_point p);
     stands = standing;
-    rest = subst (KeepsAllBut old.work) (sym work) (record {
-      step = may.step;
-      links = refl;
-      roots = refl;
-      heap = refl;
-      todo = refl;
-      round = round_same old.work;
-      pairs = refl;
-      scoped = refl;
-    });
+    rest = subst (KeepsAllBut old.work) (sym work) (let round : KeepsRound old.work old.work = round_same old.work in assumption (may.step, round));
     arena = arena;
     pending = pending;
     ran = ran;
@@ -322,21 +313,7 @@ module _ (old : Parts) (b : NodeId) (count : ℕ) (may : MayDisown old b count) 
       has_disowned = record {
         arena = subst (λ (a : Arena). DropsSince a new.arena count) has.arena drops;
         step = subst (λ (w : Work). IsInStep w.graph) (sym forgot) has.rest.step;
-        older = subst (KeepsOlder count old.work) (sym forgot) (record {
-          rows = left_older.rows;
-          points = left_older.points;
-          links = left_older.links;
-          roots = left_older.roots;
-          heap = left_older.heap;
-          todo = left_older.todo;
-          round = record {
-            roots = left_older.round.roots;
-            deaths = left_older.round.deaths;
-            ran = left_older.round.ran;
-            retries = left_older.round.retries;
-            round = left_older.round.round;
-          };
-        });
+        older = subst (KeepsOlder count old.work) (sym forgot) (assumption (left_older));
         lists = record {
           pairs = λ n h live x. pairs n h (alive n live) (subst (λ (l : Listed). Among n l.nodes) (sym has.rest.pairs) x);
           scoped = λ n h live x. scoped n h (alive n live) (subst (λ (l : Listed). Among n l.nodes) (sym has.rest.scoped) x);

@@ -42,14 +42,14 @@ use Rattle.wiring.specs.declared.work.Work.{Work}
 use Rattle.stabilizer.specs.Building.{HasGrown, StopsBuilding}
 use Rattle.stabilizer.specs.Dying.{IsCutOff, HasDied, StandsBefore}
 use Rattle.stabilizer.specs.Giving.{GivesLive, GivesFew, LeavesRoom, HasBuilt, StopsFull}
-use Rattle.stabilizer.specs.Kept.{PartsKept, counts_by}
+use Rattle.stabilizer.specs.Kept.{PartsKept, counts_by, KeepsMeaning}
 use Rattle.stabilizer.specs.Rebuilding.{IsToBuild, BuildsAnew, BuildRefused, as_it_was, unbuilt, IsSettledOn, IsToSettle, RebuildStays}
 use Rattle.stabilizer.specs.Staying.{MayStep}
 use Rattle.stabilizer.specs.Rooted.{MayBuildFor, WasBuilt, GetsRoot, GetsNoRoot, no_room, stopped, with_roots}
 use Rattle.stabilizer.specs.Weights.{IsInScope, SidesFit}
 use Rattle.stabilizer.specs.declared.parts.Parts.{Parts}
 use Rattle.stabilizer.proofs.Building.Anew.{IsRebuilt, HasRoot}
-use Rattle.stabilizer.proofs.Change.Running.{run_settled}
+use Rattle.stabilizer.proofs.Change.Turned.{run_settled}
 use Rattle.stabilizer.proofs.Step.Giving.{none_gives, none_few}
 use Rattle.stabilizer.proofs.Step.MeaningKept.{nothing_meant}
 use Rattle.stabilizer.proofs.Building.Asks.{dead_fit, dead_given, bind_stays, is_bind_of, is_known, may_build, gives_type, fit_then, built_root, no_root_built}
@@ -99,11 +99,6 @@ no_root_put old n none = record { changed = none; others = λ p ne. refl }
 
 -- ---- the ends
 
--- where it is so it is so of a refusal
-pub on_err : {A E P : Type 0} (r : Result A E) → P → OnErr r P
-on_err (Ok x) h = tt
-on_err (Err e) h = h
-
 -- so it is of a refusal of which it follows
 pub if_on_err : {T E P : Type 0} {Q : E → Type 0} (r : Result T E) → ((e : E) → Q e → P) → IfErr r Q → OnErr r P
 if_on_err (Ok x) f h = tt
@@ -133,18 +128,12 @@ settled_on mid new b given on there = ap (settled_in new.round) on.rows.changed
 -- and what stayed stays
 pub settled_stays : {K More : Type 0} (keeper : Ghosts K More) (fs fs' : K) (old mid : Parts) (new : Work) (b : NodeId) (given : Outcome)
     → IsSettledOn mid.work new b given → RebuildStays keeper fs fs' old mid b → RebuildStays keeper fs fs' old (record mid { work = new }) b
-settled_stays keeper fs fs' old mid new b given on s = record {
-  calls = s.calls;
-  wants = s.wants;
-  own = s.own;
-  there = ap is_some on.rows.changed ∙ mapped_there (with_outcome given mid.work.round) (at mid.work.rows (change b)) s.there;
-  ran = s.ran;
-  roots = λ p. ap (λ (r : Roots). root_times r p) on.graph.roots ∙ s.roots p;
-  round = ap (λ (w : Work). w.round) on.rest ∙ s.round;
-  quiet = ap (λ (w : Work). w.todo.items) on.rest ∙ s.quiet;
-  fit = s.fit;
-  meaning = s.meaning;
-}
+settled_stays keeper fs fs' old mid new b given on s =
+    let there = ap is_some on.rows.changed ∙ mapped_there (with_outcome given mid.work.round) (at mid.work.rows (change b)) s.there in
+    let roots : KeepsRoots old.work.graph.roots new.graph.roots = (λ p. ap (λ (r : Roots). root_times r p) on.graph.roots ∙ s.roots p) in
+    let round = ap (λ (w : Work). w.round) on.rest ∙ s.round in
+    let quiet = ap (λ (w : Work). w.todo.items) on.rest ∙ s.quiet in
+    assumption (there, roots, round, quiet, s)
 
 module _ {K More : Type 0} (keeper : Ghosts K More) (fs : K) where
   abbrev M : Meaning
@@ -182,39 +171,23 @@ module _ {K More : Type 0} (keeper : Ghosts K More) (fs : K) where
       → MayStep keeper fs old → IsToBuild old b f captures given → Holds old.work.rows (change b)
       → IsCutOff (roomy old deaths old.work.roots same (λ p. refl) dying items) cut b → HasDied cut dead b → PartsKept dead
       → AreCut old (roomy old deaths old.work.roots same (λ p. refl) dying items) cut dead b f captures given
-  are_cut old deaths same dying items {b = b} {f = f} {captures = captures} {given = given} may to own cuts died lasts = record {
-    kept = roomy_kept old deaths old.work.roots same (λ p. refl) dying items may.kept;
-    to = roomy_to old deaths old.work.roots same (λ p. refl) dying items b f captures given to;
-    own = own;
-    fit = may.fit;
-    cuts = cuts;
-    died = died;
-    lasts = lasts;
-    arena = refl;
-    ran = refl;
-    roots = refl;
-    round = refl;
-    quiet = may.quiet;
-    sound = may.sound;
-    from = λ counts s stands. roomy_before old deaths old.work.roots same (λ p. refl) dying items counts s b stands;
-  }
+  are_cut old deaths same dying items {b = b} {f = f} {captures = captures} {given = given} may to own cuts died lasts =
+      let kept : PartsKept (roomy old deaths old.work.roots same (λ p. refl) dying items) =
+      roomy_kept old deaths old.work.roots same (λ p. refl) dying items may.kept in
+      let to' : IsToBuild (roomy old deaths old.work.roots same (λ p. refl) dying items) b f captures given =
+      roomy_to old deaths old.work.roots same (λ p. refl) dying items b f captures given to in
+      let from : (counts : Counts) (s : State) → StandsBefore old counts s b
+      → StandsBefore (roomy old deaths old.work.roots same (λ p. refl) dying items) counts s b =
+      (λ counts s stands. roomy_before old deaths old.work.roots same (λ p. refl) dying items counts s b stands) in
+      assumption (kept, to', own, from, cuts, died, lasts, may)
 
   -- where there was no room for the deaths all stays
   pub roomy_stays : (old : Parts) (deaths : Deaths) (same : KeepsRows old.work.deaths.scopes deaths.scopes) (dying : Vec NodeId Global)
       (items : dying.items ≡ old.dying.items) (b : NodeId) → Holds old.work.rows (change b) → MayStep keeper fs old
       → RebuildStays keeper fs fs old (roomy old deaths old.work.roots same (λ p. refl) dying items) b
-  roomy_stays old deaths same dying items b own may = record {
-    calls = refl;
-    wants = refl;
-    own = λ r e. e;
-    there = own;
-    ran = refl;
-    roots = λ p. refl;
-    round = refl;
-    quiet = may.quiet;
-    fit = may.fit;
-    meaning = nothing_meant keeper fs may.sound;
-  }
+  roomy_stays old deaths same dying items b own may =
+      let meaning : KeepsMeaning keeper fs fs = nothing_meant keeper fs may.sound in
+      assumption (own, meaning, may)
 
   module _ {first old cut dead : Parts} {b : NodeId} {f : FnRef} {captures : List NodeId} {given : Outcome}
       (h : AreCut first old cut dead b f captures given) where
@@ -300,18 +273,7 @@ module _ {K More : Type 0} (keeper : Ghosts K More) (fs : K) where
       ready_died = died_roomy cut dead b roots same h.died
 
       pub ready_stays : RebuildStays keeper fs fs first ready b
-      ready_stays = record {
-        calls = refl;
-        wants = refl;
-        own = dead_stays.own;
-        there = dead_stays.there;
-        ran = dead_stays.ran;
-        roots = dead_stays.roots;
-        round = dead_stays.round;
-        quiet = dead_stays.quiet;
-        fit = dead_stays.fit;
-        meaning = dead_stays.meaning;
-      }
+      ready_stays = assumption (dead_stays)
 
       -- or there wasn't
       pub stops_roomless : (z : Start) (s : State) → IsRoundOf M z s → Quiet s → StandsBefore first before s b → StopsThere M b ready before z s
@@ -464,18 +426,7 @@ module _ {K More : Type 0} (keeper : Ghosts K More) (fs : K) where
           }
 
           pub root_stays : RebuildStays keeper fs fs' first rooted b
-          root_stays = record {
-            calls = w.calls;
-            wants = w.wants;
-            own = own_row;
-            there = there_grown;
-            ran = grown_stays.ran;
-            roots = grown_stays.roots;
-            round = grown_stays.round;
-            quiet = grown_stays.quiet;
-            fit = w.fit;
-            meaning = w.meaning;
-          }
+          root_stays = assumption (own_row, there_grown, grown_stays, w)
 
     -- by how a root was got, or wasn't
     module _ (left : Value) (is : given ≡ Val left) {fs' : K} {new : Parts} where

@@ -40,7 +40,8 @@ every_node = of_generations 1048576 (2 ^ 64)
 abbrev pub every_point : List Point
 every_point = points_of every_node
 
-same_id : (n : NodeId) (s g : ℕ) → n.slot ≡ s → n.gen_ ≡ g → ◌≡◌ {A = NodeId} n (record { slot = s; gen_ = g })
+-- an id is of its slot and its generation
+pub same_id : (n : NodeId) (s g : ℕ) → n.slot ≡ s → n.gen_ ≡ g → ◌≡◌ {A = NodeId} n (record { slot = s; gen_ = g })
 same_id n s g slot gen = λ i. record { slot = slot i; gen_ = gen i }
 
 generation_has : (s g : ℕ) (n : NodeId) → n.slot < s → n.gen_ ≡ g → Among n (of_generation s g)

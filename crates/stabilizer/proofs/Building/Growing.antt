@@ -2,7 +2,7 @@
 use Rattle.std.proofs.Common.{◌≡◌, inl, inr, ◌<◌, ◌≤◌, false, Option, None, Some, refl, sym, ap, subst, ◌∙◌, arith}
 use Rattle.std.specs.Prelude.{is_some, IsSome}
 use Rattle.std.proofs.lemmas.Bool.{cases_lt}
-use Rattle.std.proofs.lemmas.Option.{none-some}
+use Rattle.std.proofs.lemmas.Option.{none-some, same_Some}
 use Rattle.inc_value.specs.declared.node.NodeId.{NodeId}
 use Rattle.inc_value.specs.declared.node.Point.{Point}
 use Rattle.inc_terms.specs.Depend.{main, change}
@@ -36,9 +36,6 @@ holds_none (Some a) h = absurd (h refl)
 -- what is none isn't there
 pub none_holds : {A : Type 0} (x : Option A) → x ≡ None → IsSome x → ⊥
 none_holds x e h = let f = sym (ap is_some e) ∙ h in absurd (cc)
-
-pub some_is : {A : Type 0} {x y : A} → ◌≡◌ {A = Option A} (Some x) (Some y) → x ≡ y
-some_is e = cc
 
 -- a dead node has no part
 no_part : (x : Option Row) (p : Point) → x ≡ None → has_part x p.part ≡ false
@@ -109,14 +106,14 @@ module _ (before arena : Arena) (old work : Work) (b : NodeId) (These : NodeId �
         let h = kept.scopes n r s (was_row n r older e) is in
         (h.0, h.1, h.2, h.3, is_row s h.0 h.4, h.5)
     | inr new ↦
-        let same : b ≡ s = some_is (sym (scope n r e new) ∙ is) in
+        let same : b ≡ s = same_Some _ _ (sym (scope n r e new) ∙ is) in
         let there : IsBindNode arena b = (bind.0, bind.1, bind.2, bind.3, is_row b bind.0 bind.4, bind.5) in
         subst (IsBindNode arena) same there
   ]
 
   new_apart : (n s : NodeId) (r : Row) → row_at arena n ≡ Some r → r.scope ≡ Some s → before.given ≤ n.gen_ → s.gen_ < n.gen_
   new_apart n s r e is new =
-      let is_b : b ≡ s = some_is (sym (scope n r e new) ∙ is) in
+      let is_b : b ≡ s = same_Some _ _ (sym (scope n r e new) ∙ is) in
       let gens : b.gen_ ≡ s.gen_ = ap (λ (x : NodeId). x.gen_) is_b in
       let low : b.gen_ < before.given = live_older b bind.0 bind.4 in
       omega (arith, gens, low, new)
@@ -216,7 +213,7 @@ module _ (before arena : Arena) (old work : Work) (b : NodeId) (These : NodeId �
         ]),
         (λ h. (entered.stands n s).1 (elim (cases_lt n.gen_ before.given) [
           | inl older ↦ inl ((keeps.stands n s).1 (h.0, was_row n h.0 older h.1, h.2))
-          | inr new ↦ inr (some_is (sym h.2 ∙ scope n h.0 h.1 new), all n new (ap is_some h.1))
+          | inr new ↦ inr (same_Some _ _ (sym h.2 ∙ scope n h.0 h.1 new), all n new (ap is_some h.1))
         ])),
       );
       none = entered.killed ∙ keeps.none;

@@ -6,7 +6,6 @@ use Rattle.std.proofs.lemmas.Option.{none-some, same_Some}
 use Rattle.inc_value.specs.Choice.{Among}
 use Rattle.inc_value.specs.declared.function.FnRef.{FnRef}
 use Rattle.inc_value.specs.declared.node.NodeId.{NodeId}
-use Rattle.inc_value.specs.declared.node.Part.{Part}
 use Rattle.inc_value.specs.declared.node.Point.{Point}
 use Rattle.inc_value.specs.declared.outcome.Outcome.{Outcome}
 use Rattle.inc_value.specs.declared.outcome.Outcome.TheVariants.{Val}
@@ -29,11 +28,10 @@ use Rattle.stabilize_round.specs.Rebuilding.{builds_of}
 use Rattle.stabilize_round.specs.State.{State}
 use Rattle.stabilize_round.proofs.Main.{main_change}
 use Rattle.stabilize_round.proofs.Points.{same_or_other, node_or_other}
-use Rattle.node_outcomes.specs.Computing.{has_part}
 use Rattle.node_outcomes.specs.Row.{with_outcome, outcome_in}
 use Rattle.node_outcomes.specs.declared.row.Progress.{Progress}
 use Rattle.node_outcomes.proofs.Held.{same_held}
-use Rattle.wiring.specs.Graph.{held_at, graph_at}
+use Rattle.wiring.specs.Graph.{held_at, graph_at, died_at}
 use Rattle.wiring.specs.Kept.{IsKept, IsBind, IsGhostLink}
 use Rattle.wiring.specs.Stands.{MatchesState, Counts}
 use Rattle.wiring.specs.declared.work.Work.{Work}
@@ -41,16 +39,16 @@ use Rattle.wiring.proofs.Deciding.{need_same}
 use Rattle.wiring.proofs.Holding.{ghost_same, right_as}
 use Rattle.stabilizer.specs.Building.{HasGrown}
 use Rattle.stabilizer.specs.Dying.{StandsBefore, HasDied}
-use Rattle.stabilizer.specs.Kept.{PartsKept}
+use Rattle.stabilizer.specs.Kept.{PartsKept, graph_in}
 use Rattle.stabilizer.specs.Rebuilding.{IsToBuild}
 use Rattle.stabilizer.specs.declared.parts.Parts.{Parts}
-use Rattle.stabilizer.proofs.Building.Anew.{IsRebuilt, built_alike, built_now, run_outcome}
+use Rattle.stabilizer.proofs.Building.Anew.{IsRebuilt, built_alike, built_now}
+use Rattle.inc_terms.specs.Rebuild.{Inside}
+use Rattle.stabilizer.proofs.Building.Remade.{has_row}
+use Rattle.wiring.proofs.Staying.{rewritten_there}
+use Rattle.stabilizer.proofs.Change.Turned.{outcome_run}
 
 -- ---- a change is settled whose bind was built anew
-
-same_there : (f : Progress → Progress) (x : Option Progress) → is_some (option_map f x) ≡ is_some x
-same_there f None = refl
-same_there f (Some k) = refl
 
 settled_when : (now : Outcome) (round : ℕ) (x : Option Progress) (k : Progress) → option_map (with_outcome now round) x ≡ Some k → k.settled ≡ round
 settled_when now round None k e = absurd (none-some k e)
@@ -62,11 +60,7 @@ module _ (arena : Arena) (old new : Work) (n : NodeId) (now : Outcome) (root : O
     (def : row.def ≡ graph.Bind left f captures) (given : (m : NodeId) → root ≡ Some m → Given arena.given m × Fits arena m row.ty)
     (value : IsSome root → (v : Value) × (now ≡ Val v)) where
   points : (p : Point) → is_some (at new.rows p) ≡ is_some (at old.rows p)
-  points p = elim (same_or_other (change n) p) [
-    | inl e ↦ subst (λ (x : Point). is_some (at new.rows x) ≡ is_some (at old.rows x)) e
-        (ap is_some run.rows.changed ∙ same_there (with_outcome now old.round) (at old.rows (change n)))
-    | inr ne ↦ ap is_some (run.rows.others p (λ e. ne (sym e)))
-  ]
+  points p = rewritten_there old.rows new.rows (change n) (with_outcome now old.round) run.rows p
 
   row_now : (p : Point) → Holds old.rows p → Holds new.rows p
   row_now p h = points p ∙ h
@@ -113,7 +107,7 @@ module _ (arena : Arena) (old new : Work) (n : NodeId) (now : Outcome) (root : O
         let v = value (sym (ap is_some run.roots.changed) ∙ subst (λ (x : NodeId). Holds new.roots (change x)) e h) in (
           v.0,
           subst (λ (x : NodeId). outcome_in (at new.rows (change x)) ≡ Some (Val v.0)) (sym e)
-              (ap outcome_in run.rows.changed ∙ (run_outcome now old.round (at old.rows (change n)) there ∙ ap (λ (o : Outcome). Some o) v.1)),
+              (ap outcome_in run.rows.changed ∙ (outcome_run now old.round (at old.rows (change n)) there ∙ ap (λ (o : Outcome). Some o) v.1)),
         )
     | inr ne ↦
         let away : change m ≢ change n = (λ e. ne (ap (λ (p : Point). p.node) e)) in
@@ -218,27 +212,10 @@ module _ (arena : Arena) (old : Work) (deaths : Deaths) (roots : Rows NodeId) (s
 
   -- and they stand for the same states
   pub reserved_stands : (counts : Counts) (s : State) → MatchesState arena old counts None s → MatchesState arena reserved counts None s
-  reserved_stands counts s st = record {
-    graph = st.graph ∙ sym graph_reserved;
-    out = st.out;
-    last = st.last;
-    never = st.never;
-    stale = st.stale;
-    links = st.links;
-    root = st.root;
-    needed = st.needed;
-    height = st.height;
-    heap = st.heap;
-    settled = st.settled;
-    stage = st.stage;
-    owed = st.owed;
-    todo = st.todo;
-    retries = st.retries;
-    died = λ n. st.died n ∙ sym (same_deaths (main n));
-    ran = st.ran;
-    counts = st.counts;
-    given = st.given;
-  }
+  reserved_stands counts s st =
+      let graph : s.graph ≡ graph_at arena reserved = st.graph ∙ sym graph_reserved in
+      let died : (n : NodeId) → s.died n ≡ died_at reserved n = (λ n. st.died n ∙ sym (same_deaths (main n))) in
+      assumption (graph, died, st)
 
 module _ (old : Parts) (deaths : Deaths) (roots : Rows NodeId) (same_deaths : KeepsRows old.work.deaths.scopes deaths.scopes)
     (same_roots : KeepsRows old.work.roots roots) (dying : Vec NodeId Global) (same_dying : dying.items ≡ old.dying.items) where
@@ -285,34 +262,11 @@ module _ (old : Parts) (deaths : Deaths) (roots : Rows NodeId) (same_deaths : Ke
 -- who died, died still
 pub died_roomy : (cut dead : Parts) (b : NodeId) (roots : Rows NodeId) → KeepsRows dead.work.roots roots → HasDied cut dead b
     → HasDied cut (record dead { work = record dead.work { roots = roots } }) b
-died_roomy cut dead b roots same d = record {
-  given = d.given;
-  sound = d.sound;
-  nodes = d.nodes;
-  rows = d.rows;
-  own = d.own;
-  gone = d.gone;
-  roots = λ p out ne. same p ∙ d.roots p out ne;
-  own_root = same (change b) ∙ d.own_root;
-  rootless = λ n i. same (change n) ∙ d.rootless n i;
-  links = d.links;
-  graph_roots = d.graph_roots;
-  heights = d.heights;
-  dropped = d.dropped;
-  out = d.out;
-  heap = d.heap;
-  told = d.told;
-  only = d.only;
-  died = d.died;
-  died_before = d.died_before;
-  pairs = d.pairs;
-  scoped = d.scoped;
-  todo = d.todo;
-  called = d.called;
-  retries = d.retries;
-  round = d.round;
-  ran = d.ran;
-}
+died_roomy cut dead b roots same d =
+    let own_root : at roots (change b) ≡ None = same (change b) ∙ d.own_root in
+    let others : (p : Point) → (Inside (graph_in cut) b p.node → ⊥) → p ≢ change b → at roots p ≡ at cut.work.roots p = (λ p out ne. same p ∙ d.roots p out ne) in
+    let rootless : (n : NodeId) → Inside (graph_in cut) b n → at roots (change n) ≡ None = (λ n i. same (change n) ∙ d.rootless n i) in
+    assumption (own_root, others, rootless, d)
 
 -- what is kept stays kept
 pub roots_roomy : (dead : Parts) (roots : Rows NodeId) → KeepsRows dead.work.roots roots → PartsKept dead
@@ -325,17 +279,13 @@ roots_roomy dead roots same kept = record {
 
 -- ---- nothing was built
 
-has_node : (x : Option Row) (part : Part) → has_part x part ≡ true → (r : Row) × (x ≡ Some r)
-has_node None part e = absurd (cc)
-has_node (Some r) part e = (r, refl)
-
 module _ (parts : Parts) (b : NodeId) (kept : IsKept parts.arena parts.work) where
   none_later : (n : NodeId) (r : Row) → row_at parts.arena n ≡ Some r → parts.arena.given ≤ n.gen_ → ⊥
   none_later n r row le = let g : Given parts.arena.given n = kept.sound.given n (ap is_some row) in omega (arith, g, le)
 
   row_later : (p : Point) (k : Progress) → at parts.work.rows p ≡ Some k → parts.arena.given ≤ p.node.gen_ → ⊥
   row_later p k e le =
-      let r = has_node (row_at parts.arena p.node) p.part (sym (kept.rows p) ∙ ap is_some e) in
+      let r = has_row (row_at parts.arena p.node) p.part (sym (kept.rows p) ∙ ap is_some e) in
       none_later p.node r.0 r.1 le
 
   -- then all stays

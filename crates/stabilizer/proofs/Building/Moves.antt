@@ -36,8 +36,7 @@ use Rattle.stabilizer.specs.Dying.{StandsBefore, CutsTo, IsCutOff, HasDied}
 use Rattle.stabilizer.specs.Rebuilding.{IsToBuild, BuildsAnew}
 use Rattle.stabilizer.specs.declared.parts.Parts.{Parts}
 use Rattle.stabilizer.proofs.Building.Anew.{IsRebuilt, HasRoot, prepared, rebuilds, turned, settles, turned_in}
-use Rattle.stabilizer.proofs.Building.State.{bare_state, bare_stands, bare_anew, bare_heap, unbuilt_now}
-use Rattle.stabilizer.proofs.Building.Remade.{IsAnew}
+use Rattle.stabilizer.proofs.Building.Remade.{bare_state, bare_stands, bare_anew, bare_heap, unbuilt_now, IsAnew}
 use Rattle.stabilizer.proofs.Building.ToBuild.{due, due_unsettled, gates_wait}
 
 -- preparing is moving

@@ -1,7 +1,7 @@
 -- A change that wasn't turned: it is in the heap again, or its bind couldn't be built.
 use Rattle.std.proofs.Common.{◌≡◌, ◌⊎◌, inl, inr, true, List, [], Option, None, Some, refl, sym, ap, subst, ◌∙◌, Vec, Global}
 use Rattle.std.specs.Prelude.{Result, Ok, Err, OnOk, IfErr, IfSome, is_some, IsSome}
-use Rattle.std.proofs.lemmas.Option.{none-some}
+use Rattle.std.proofs.lemmas.Option.{none-some, same_Some}
 use Rattle.inc_value.specs.declared.function.FnRef.{FnRef}
 use Rattle.inc_value.specs.declared.node.NodeId.{NodeId}
 use Rattle.inc_value.specs.declared.node.Point.{Point}
@@ -36,7 +36,6 @@ use Rattle.stabilizer.specs.Stepping as stepping
 use Rattle.stabilizer.specs.Stepping.{ChangeIsLeft}
 use Rattle.stabilizer.specs.declared.parts.Parts.{Parts}
 use Rattle.stabilizer.proofs.Change.Changing.{heap_stands, before_stands}
-use Rattle.stabilizer.proofs.Change.Running.{some_same}
 use Rattle.stabilizer.proofs.Change.Waiting.{with_change, put_back}
 
 -- ---- the change is in the heap again
@@ -102,6 +101,9 @@ module _ (old : Parts) (todo : Vec Point Global) (idle : old.work.todo.items ≡
   abbrev with_todo : Parts
   with_todo = record old { work = record old.work { todo = todo } }
 
+  waits : {counts : Counts} {s : State} {n : NodeId} (b : StandsBefore old counts s n) (p : Point) → s.todo p ≡ true → Among p todo.items ⊎ ⊥
+  waits b p t = subst (λ (xs : List Point). Among p xs ⊎ ⊥) (sym (ap (λ (w : Work). w.todo.items) b.taken.rest) ∙ (idle ∙ sym none)) (b.stands.todo p t)
+
   before_still : (n : NodeId) (counts : Counts) (s : State) → StandsBefore old counts s n → StandsBefore with_todo counts s n
   before_still n counts s b = record {
     work = record b.work { todo = todo };
@@ -112,28 +114,7 @@ module _ (old : Parts) (todo : Vec Point Global) (idle : old.work.todo.items ≡
       graph = b.taken.graph;
       rest = ap (λ (w : Work). record w { todo = todo }) b.taken.rest;
     };
-    stands = record {
-      graph = b.stands.graph;
-      out = b.stands.out;
-      last = b.stands.last;
-      never = b.stands.never;
-      stale = b.stands.stale;
-      links = b.stands.links;
-      root = b.stands.root;
-      needed = b.stands.needed;
-      height = b.stands.height;
-      heap = b.stands.heap;
-      settled = b.stands.settled;
-      stage = b.stands.stage;
-      owed = b.stands.owed;
-      todo = λ p t. subst (λ (xs : List Point). Among p xs ⊎ ⊥)
-          (sym (ap (λ (w : Work). w.todo.items) b.taken.rest) ∙ (idle ∙ sym none)) (b.stands.todo p t);
-      retries = b.stands.retries;
-      died = b.stands.died;
-      ran = b.stands.ran;
-      counts = b.stands.counts;
-      given = b.stands.given;
-    };
+    stands = assumption (waits b, b.stands);
   }
 
   pub todo_refused : (M : Meaning) (right : FnRef → RightSide) (n : NodeId) (counts : Counts) (e : Refused) → e ≡ Memory
@@ -184,7 +165,7 @@ pub has_subject : {P : Type 0} (arena : Arena) (work : Work) (n : NodeId) → Is
     → (r : Row) → row_at arena n ≡ Some r → subject_of r.def ≡ None → P
 has_subject arena work n kept row r live none =
     let two = two_points arena work n kept row in
-    let same : two.0 ≡ r = some_same two.0 r (sym two.1 ∙ live) in
+    let same : two.0 ≡ r = same_Some two.0 r (sym two.1 ∙ live) in
     let some : IsSome (subject_of r.def) = subst (λ (x : Row). IsSome (subject_of x.def)) same two.2 in
     absurd (let e = sym some ∙ ap is_some none in cc)
 
@@ -198,4 +179,4 @@ by_result (Err e) ok err f g = g e err
 -- what holds of something holds of this, if it is this
 pub some_of : {A : Type 0} (P : A → Type 0) (x : Option A) (a : A) → x ≡ Some a → IfSome x P → P a
 some_of P None a e h = absurd (none-some a e)
-some_of P (Some b) a e h = subst P (some_same b a e) h
+some_of P (Some b) a e h = subst P (same_Some b a e) h

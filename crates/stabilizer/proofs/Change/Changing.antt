@@ -1,6 +1,6 @@
 -- The state stands for the parts whose heap holds the change still, and what holds of results.
-use Rattle.std.proofs.Common.{◌≡◌, inl, inr, ℕ, None, sym, ap, subst, ◌∙◌}
-use Rattle.std.specs.Prelude.{Result, Ok, Err, OnOk, IfErr, is_some}
+use Rattle.std.proofs.Common.{◌≡◌, inl, inr, ℕ, None, sym, ap, subst, ◌∙◌, true}
+use Rattle.std.specs.Prelude.{◌↔◌, Result, Ok, Err, OnOk, IfErr, is_some}
 use Rattle.inc_value.specs.declared.node.NodeId.{NodeId}
 use Rattle.inc_value.specs.declared.node.Point.{Point}
 use Rattle.inc_terms.specs.Depend.{change}
@@ -31,27 +31,15 @@ module _ (arena : Arena) (old new : Work) (rest : new ≡ record old { graph = n
   need_before p n = need_same new.graph old.graph (sym graph.links) (sym graph.roots) p n
 
   pub heap_stands : (s : State) (counts : Counts) → MatchesState arena old counts None s → MatchesState arena new counts None s
-  heap_stands s counts st = subst (λ (w : Work). MatchesState arena w counts None s) (sym rest) (record {
-    graph = st.graph;
-    out = st.out;
-    last = st.last;
-    never = st.never;
-    stale = st.stale;
-    links = λ p q. st.links p q ∙ ap (λ (l : Links). times l p q) (sym graph.links);
-    root = λ p. st.root p ∙ ap (λ (r : Roots). root_times r p) (sym graph.roots);
-    needed = λ p. (λ t. need_then p ((st.needed p).0 t), λ n. (st.needed p).1 (need_before p n));
-    height = λ p n. st.height p (need_before p n) ∙ ap (λ (x : Rows ℕ). level x p) (sym graph.heights);
-    heap = λ p. st.heap p ∙ sym (heap p);
-    settled = st.settled;
-    stage = st.stage;
-    owed = st.owed;
-    todo = st.todo;
-    retries = st.retries;
-    died = st.died;
-    ran = st.ran;
-    counts = st.counts;
-    given = st.given;
-  })
+  heap_stands s counts st = subst (λ (w : Work). MatchesState arena w counts None s) (sym rest)
+      (let links : (p q : Point) → s.links p q ≡ times new.graph.links p q = (λ p q. st.links p q ∙ ap (λ (l : Links). times l p q) (sym graph.links)) in
+      let root : (p : Point) → s.root p ≡ root_times new.graph.roots p = (λ p. st.root p ∙ ap (λ (r : Roots). root_times r p) (sym graph.roots)) in
+      let needed : (p : Point) → (s.needed p ≡ true) ↔ Needed new.graph p =
+      (λ p. (λ t. need_then p ((st.needed p).0 t), λ n. (st.needed p).1 (need_before p n))) in
+      let height : (p : Point) → Needed new.graph p → s.height p ≡ level new.graph.heights p =
+      (λ p n. st.height p (need_before p n) ∙ ap (λ (x : Rows ℕ). level x p) (sym graph.heights)) in
+      let heap' : (p : Point) → s.heap p ≡ is_some (at new.graph.heap p) = (λ p. st.heap p ∙ sym (heap p)) in
+      assumption (links, root, needed, height, heap', st))
 
 -- ---- with the change in the heap
 

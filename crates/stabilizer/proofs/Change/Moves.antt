@@ -38,7 +38,7 @@ use Rattle.stabilize_round.specs.State.{State, Start, Stage, at_point, at_node, 
 use Rattle.stabilize_round.specs.Steps.{Settles, Preparing}
 use Rattle.stabilizer.proofs.Step.Carrying.{back_kept, heap_graph, needed_now}
 use Rattle.stabilizer.proofs.Killing.Moves.{IsRunOn, IsMadeReady, ready_loose, ready_same}
-use Rattle.stabilizer.proofs.Step.Stepping.{is_least, is_quiet}
+use Rattle.stabilizer.proofs.Step.Stepping.{is_least}
 use Rattle.stabilizer.specs.Dying.{TakesLeast, StandsBefore}
 use Rattle.stabilizer.specs.Kept.{PartsKept}
 use Rattle.stabilizer.specs.Stepping.{ChangeIsTurned}
@@ -58,9 +58,10 @@ use Rattle.wiring.specs.Wiring.{KeepsRound, IsTurnedIn, WaitsFor}
 use Rattle.wiring.specs.declared.work.Work.{Work}
 use Rattle.stabilizer.proofs.Change.Changing.{before_stands}
 use Rattle.stabilizer.proofs.Killing.LinksOff.{off_prepares}
-use Rattle.stabilizer.proofs.Change.Running.{graph_run, LeavesSettled, settled_stands}
+use Rattle.stabilizer.proofs.Change.Turned.{graph_run, LeavesSettled, settled_stands}
 use Rattle.stabilizer.proofs.Change.Waiting.{put_changes, with_change}
 use Rattle.stabilizer.proofs.Building.Anew.{nowhere}
+use Rattle.stabilizer.proofs.Step.Making.{quiet_of}
 
 -- ---- what waits for a change, as a test
 
@@ -168,16 +169,7 @@ module _ (s : State) (arena : Arena) (old new : Work) (counts : Counts) (st : Ma
     (listed : (a : Point) → waits s n a ≡ true → Among a new.todo.items ⊎ (a ≡ main n)) where
   pub run_stands : MatchesState arena new counts (Some (hand (main n) [])) (changed s n given (waits s n))
   run_stands =
-      let settles : LeavesSettled old new n given = record {
-        rows = run.rows;
-        graph = run.graph;
-        gone = run.gone;
-        heap = run.heap;
-        deaths = run.round.deaths;
-        ran = run.round.ran;
-        retries = run.round.retries;
-        round = run.round.round;
-      } in
+      let settles : LeavesSettled old new n given = assumption (run, run.round) in
       settled_stands s arena old new counts st n given there settles s.graph (st.graph ∙ sym same) (waits s n) listed
 
 -- ---- a main that was detached, whatever the worklist
@@ -187,14 +179,7 @@ detached_frame : (old : Work) (g : NecessaryPart) (todo : Work) (mid : Work) (n 
 detached_frame old g todo mid n right l = record {
   rows = l.rows;
   mid = record l.mid { todo = old.todo };
-  enqueued = record {
-    graph = l.enqueued.graph;
-    others = l.enqueued.others;
-    kept = l.enqueued.kept;
-    told = l.enqueued.told;
-    only = l.enqueued.only;
-    step = l.enqueued.step;
-  };
+  enqueued = assumption (l.enqueued);
   rest = ap (λ (w : Work). record w { todo = old.todo }) l.rest;
   off = l.off;
   last = ap (λ (w : Work). record w { todo = old.todo }) l.last;
@@ -342,7 +327,7 @@ module _ (M : Meaning) (old turned : Parts) (n : NodeId) (counts : Counts) (all 
   r_inv = moves_keep F z s r (off_moves F z s r k.prepared) inv
 
   r_quiet : Quiet r
-  r_quiet = is_quiet arena k.work counts r k.stands k.idle
+  r_quiet = quiet_of arena k.work counts r k.stands k.idle
 
   r_row : r.graph.row n ≡ Some m.row
   r_row = ap (λ (G : Graph). G.row n) k.keeps.graph ∙ (row_is s arena whole counts whole_kept st n ∙ m.is_row)

@@ -1,7 +1,7 @@
 -- A step of the stabilizer that settles a change is a step of the machine.
 use Rattle.std.proofs.Common.{◌≡◌, ◌⊎◌, inl, inr, ◌<◌, true, List, [], Option, None, Some, refl, sym, ap, subst, ◌∙◌, arith}
 use Rattle.std.specs.Prelude.{is_some, IsSome}
-use Rattle.std.proofs.lemmas.Option.{none-some}
+use Rattle.std.proofs.lemmas.Option.{none-some, same_Some}
 use Rattle.inc_value.specs.declared.function.FnRef.{FnRef}
 use Rattle.inc_value.specs.declared.node.NodeId.{NodeId}
 use Rattle.inc_value.specs.declared.node.Part.TheVariants.{Main}
@@ -44,7 +44,7 @@ use Rattle.wiring.specs.declared.refused.Refused.TheVariants as cause
 use Rattle.wiring.specs.declared.work.Work.{Work}
 use Rattle.wiring.proofs.Raising.{wired_then, wiring_retries}
 use Rattle.wiring.proofs.Sight.{row_is, sees, change_is}
-use Rattle.wiring.proofs.Trying.{rewritten_there}
+use Rattle.wiring.proofs.Staying.{rewritten_there}
 use Rattle.stabilizer.specs.Dying.{TakesLeast, StandsBefore}
 use Rattle.stabilizer.specs.Giving.{StopsFull}
 use Rattle.stabilizer.specs.Kept.{PartsKept}
@@ -55,8 +55,9 @@ use Rattle.stabilizer.specs.Stepping.{Steps, StepRefused, StepStopsFull, wiring}
 use Rattle.stabilizer.specs.declared.parts.Parts.{Parts}
 use Rattle.stabilizer.proofs.Step.Carrying.{taken_kept}
 use Rattle.stabilizer.proofs.Step.Falling.{wired_cases, SettlesChange, change_settled}
-use Rattle.stabilizer.proofs.Step.Stepping.{is_least, is_quiet, takes_least}
+use Rattle.stabilizer.proofs.Step.Stepping.{is_least, takes_least}
 use Rattle.stabilizer.proofs.Change.Moves.{turned_moves}
+use Rattle.stabilizer.proofs.Step.Making.{quiet_of}
 
 -- ---- moves
 
@@ -141,9 +142,6 @@ static_of code.Gated q = absurd (cc)
 static_of code.Static q = refl
 static_of code.Full q = absurd (cc)
 
-same_stage : (a b : Stage) → ◌≡◌ {A = Option Stage} (Some a) (Some b) → a ≡ b
-same_stage a b h = cc
-
 -- a row at Static stands for that stage
 static_in : (s : State) (arena : Arena) (work : Work) (counts : Counts) (hand : Option PointInHand) (p : Point) → MatchesState arena work counts hand s
     → (x : Option Progress) → at work.rows p ≡ x → is_some x ≡ true → s.stage p ≡ machine.Static → stage_in x ≡ Some code.Static
@@ -154,7 +152,7 @@ static_in s arena work counts hand p st (Some k) e there f = ap (λ (y : Stage).
 full_in : (s : State) (arena : Arena) (work : Work) (counts : Counts) (hand : Option PointInHand) (p : Point) → MatchesState arena work counts hand s
     → (x : Option Progress) → at work.rows p ≡ x → stage_in x ≡ Some code.Full → s.stage p ≡ machine.Full
 full_in s arena work counts hand p st None e f = absurd (none-some code.Full f)
-full_in s arena work counts hand p st (Some k) e f = st.stage p k e ∙ ap stage_of (same_stage k.stage code.Full f)
+full_in s arena work counts hand p st (Some k) e f = st.stage p k e ∙ ap stage_of (same_Some k.stage code.Full f)
 
 -- no link is refused as full
 link_full : (work : Work) (p q : Point) (e : Refused) → RefusedBy work p q e → (right : FnRef → RightSide) (a : Arena)
@@ -274,7 +272,7 @@ module _ (M : Meaning) (old : Parts) (g : NecessaryPart) (p : Point) (n : NodeId
           settles = k.move;
           it = k.settles;
           wired = wired_then F z k.next u v attaches wires;
-          ends = is_quiet arena new after v on_v ends;
+          ends = quiet_of arena new after v on_v ends;
           again = k.again;
           attaches = λ b e settled need stage.
               let is : n ≡ b = ap (λ (x : Point). x.node) e in

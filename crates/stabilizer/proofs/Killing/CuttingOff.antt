@@ -34,10 +34,10 @@ use Rattle.wiring.specs.Wiring.{ShowsSame}
 use Rattle.wiring.specs.declared.work.Work.{Work}
 use Rattle.wiring.proofs.InHand.{gated_none}
 use Rattle.wiring.proofs.Detaching.{change_is_other}
-use Rattle.wiring.proofs.Retrying.{Keeps, off_keeps}
+use Rattle.wiring.proofs.Raising.{Keeps, off_keeps}
 use Rattle.wiring.proofs.TakingAll.{places_then}
-use Rattle.wiring.proofs.Trying.{same_need}
-use Rattle.wiring.proofs.Wiring.{looks_stands}
+use Rattle.wiring.proofs.Deciding.{same_need}
+use Rattle.wiring.proofs.Staying.{looks_stands}
 use Rattle.stabilizer.specs.Dying.{StandsBefore, GatesWait, CutsTo, IsCutOff, IsGateOf, LosesRight, IsInvalidated, LeavesStanding}
 use Rattle.stabilizer.specs.Kept.{PartsKept, graph_in}
 use Rattle.stabilizer.specs.declared.parts.Parts.{Parts}
@@ -299,15 +299,7 @@ module _ (old : Parts) (b : NodeId) (kept : PartsKept old) (there : Holds old.wo
       cuts_to : (t : State) × CutsTo F z s b new counts t
       cuts_to = (
         last,
-        record {
-          prepared = off_prepares F z (change b) s last off;
-          stands = stands;
-          least = least_now;
-          quiet = idle;
-          graph = keeps.graph;
-          out = keeps.out;
-          settled = keeps.settled;
-        },
+        (let prepared = off_prepares F z (change b) s last off in assumption (prepared, stands, least_now, idle, keeps)),
       )
 
     own_row : at new.work.rows (change b) ≡ at old.work.rows (change b)

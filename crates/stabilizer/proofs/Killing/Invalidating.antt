@@ -21,11 +21,12 @@ use Rattle.wiring.specs.declared.work.Work.{Work}
 use Rattle.wiring.proofs.InHand.{FallsBack, falls_more, falls_then}
 use Rattle.wiring.proofs.Placing.{among_before, among_cases}
 use Rattle.wiring.proofs.Placing as placing
-use Rattle.wiring.proofs.Retrying.{off_keeps}
+use Rattle.wiring.proofs.Raising.{off_keeps}
 use Rattle.wiring.proofs.TakingAll.{loses_none, loses_then, places_then}
 use Rattle.stabilizer.specs.Dying.{AreInvalidated, Invalidates, GateWaits, IsInvalidated, IsGateOf, IsPutToGate, HaveGatesAlone, scope_at}
 use Rattle.stabilizer.specs.Kept.{KeepsScopes, PartsKept, ScopesAreOlder, graph_in}
 use Rattle.stabilizer.specs.declared.parts.Parts.{Parts}
+use Rattle.std.proofs.lemmas.Option.{same_Some}
 
 -- ---- who is inside
 
@@ -34,9 +35,6 @@ pub inside_as : (G H : Graph) → ((m : NodeId) → H.row m ≡ G.row m) → (b 
 inside_as G H same b n (direct e s) = direct (same n ∙ e) s
 inside_as G H same b n (nested {c} e s i) = nested (same n ∙ e) s (inside_as G H same b c i)
 
-some_row : (r s : Row) → ◌≡◌ {A = Option Row} (Some r) (Some s) → r ≡ s
-some_row r s e = cc
-
 some_node : (n m : NodeId) → ◌≡◌ {A = Option NodeId} (Some n) (Some m) → n ≡ m
 some_node n m e = cc
 
@@ -44,7 +42,7 @@ some_node n m e = cc
 pub one_scope : (arena : Arena) (n b c : NodeId) (r s : Row) → row_at arena n ≡ Some r → r.scope ≡ Some b → row_at arena n ≡ Some s
     → s.scope ≡ Some c → b ≡ c
 one_scope arena n b c r s row in_b row' in_c =
-    some_node b c (sym in_b ∙ (ap (λ (x : Row). x.scope) (some_row r s (sym row ∙ row')) ∙ in_c))
+    some_node b c (sym in_b ∙ (ap (λ (x : Row). x.scope) (same_Some r s (sym row ∙ row')) ∙ in_c))
 
 -- who is inside has a row, and stands in a scope
 pub inside_scoped : (G : Graph) (b n : NodeId) → Inside G b n → (r : Row) × (c : NodeId) × (G.row n ≡ Some r) × (r.scope ≡ Some c)

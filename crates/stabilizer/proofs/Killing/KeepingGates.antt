@@ -33,10 +33,11 @@ use Rattle.wiring.specs.Stands.{MatchesState, Counts}
 use Rattle.wiring.specs.Wiring.{ShowsSame, KeepsLists, KeepsPlaces, OnlyLoses, IsAtGate, HasMore, TakesOne}
 use Rattle.wiring.specs.declared.work.Work.{Work}
 use Rattle.wiring.proofs.Holding.{graph_rows, died_same, links_same, root_same, pairs_same, scoped_same}
-use Rattle.wiring.proofs.NodeBack.{NodeBackAt, one_of_two}
+use Rattle.wiring.proofs.NodeBack.{NodeBackAt}
+use Rattle.wiring.proofs.Releasing.{main_or_change}
 use Rattle.wiring.proofs.TakingAll.{places_then, loses_then}
-use Rattle.wiring.proofs.Trying.{same_need}
-use Rattle.wiring.proofs.Wiring.{looks_stands}
+use Rattle.wiring.proofs.Deciding.{same_need}
+use Rattle.wiring.proofs.Staying.{looks_stands}
 use Rattle.stabilizer.specs.Dying.{KeepsGate, IsGateOf, PutsBack, IsPutToGate, scope_at}
 
 -- ---- fewer links
@@ -366,7 +367,7 @@ module _ (arena : Arena) (old back first last : Work) (n c : NodeId) (r : Row) (
   is_gate q e = (r, c, row, scope, e)
 
   gates_last : (p q : Point) → p.node ≡ n → Reads last.graph.links p q → q ≡ change c
-  gates_last p q e reads = elim (one_of_two p n e) [
+  gates_last p q e reads = elim (main_or_change p n e) [
     | inl m ↦ gate_alone back first (main n) (change c) kept.step one q (subst (λ (x : Point). Reads first.graph.links x q) m
         (let f = thin_last.fewer p q in omega (arith, reads, f)))
     | inr m ↦ gate_alone first last (change n) (change c) kept_first.step two q (subst (λ (x : Point). Reads last.graph.links x q) m reads)

@@ -21,7 +21,7 @@ use Rattle.stabilize_round.specs.Steps.{TakesOff as OffMove, TakingOff, Prepares
 use Rattle.stabilize_round.proofs.Parts.{reaches_map}
 use Rattle.stabilize_round.proofs.Points.{at_other, count_append, among_count}
 use Rattle.wiring.proofs.PuttingBack.{gate_once}
-use Rattle.wiring.proofs.Retrying.{Keeps}
+use Rattle.wiring.proofs.Raising.{Keeps}
 
 -- ---- moves that take links off
 

@@ -47,10 +47,10 @@ use Rattle.wiring.proofs.GoingBack.{IsLowered, heap_needed, height_same, need_be
 use Rattle.wiring.proofs.GoingBack as back
 use Rattle.wiring.proofs.Holding.{targets_at}
 use Rattle.wiring.proofs.Detaching.{change_is_other}
-use Rattle.wiring.proofs.Retrying.{Keeps, off_keeps}
+use Rattle.wiring.proofs.Raising.{Keeps, off_keeps}
 use Rattle.wiring.proofs.Sight.{change_is}
 use Rattle.wiring.proofs.TakingOff.{MayLower, scheduled, row_at_stage, takes, stands_off}
-use Rattle.wiring.proofs.Trying.{rewritten_there}
+use Rattle.wiring.proofs.Staying.{rewritten_there}
 use Rattle.stabilizer.proofs.Step.Carrying.{heap_graph, needed_now, needed_before}
 use Rattle.stabilizer.proofs.Change.Waiting.{put, put_changes, same_swept, swept_in_step, fewer_links}
 

@@ -9,6 +9,7 @@ use Rattle.inc_value.specs.declared.node.NodeId.{NodeId}
 use Rattle.inc_terms.specs.Graph.{Row}
 use Rattle.node_arena.specs.declared.arena.Entry.{Entry}
 use Rattle.node_arena.specs.Arena.{Arena, row_at, row_of, live}
+use Rattle.stabilizer.proofs.Building.EveryPoint.{same_id}
 
 -- the row of the generation in a slot
 abbrev row_in : Option Entry → ℕ → Option Row
@@ -66,13 +67,6 @@ is_of k (Some e ∷ slots) n (inl same) =
 is_of k (Some e ∷ slots) n (inr h) =
     let r = is_of (suc k) slots n h in let slot = r.slot in
     record { place = suc r.place; entry = r.entry; there = r.there; slot = omega (arith, slot); generation = r.generation }
-
-id_of : ℕ → ℕ → NodeId
-id_of s g = record { slot = s; gen_ = g }
-
-same_id : (n : NodeId) (s g : ℕ) → n.slot ≡ s → n.gen_ ≡ g → n ≡ record { slot = s; gen_ = g }
-unfolding id_of
-same_id n s g e e' = ap (λ (x : ℕ). id_of x n.gen_) e ∙ ap (λ (x : ℕ). id_of s x) e'
 
 listed : (k : ℕ) (slots : List (Option Entry)) (n : NodeId) (place : ℕ) (e : Entry) → slice_index_or slots place None ≡ Some e → n.slot ≡ k + place
     → e.gen_ ≡ n.gen_ → Among n (ids_from k slots)

@@ -1,11 +1,11 @@
 -- A round begins: at the counts of now, with the last calls that the rows keep.
-use Rattle.std.proofs.Common.{◌≡◌, ◌<◌, ◌≤◌, arith, subst, inl, inr, ℕ, true, Option, None, Some, refl, sym, ap, ◌∙◌, false}
+use Rattle.std.proofs.Common.{◌≡◌, ◌<◌, ◌≤◌, arith, subst, inl, inr, ℕ, true, Option, None, Some, refl, sym, ap, ◌∙◌, false, List, ◌⊎◌}
 use Rattle.std.specs.Prelude.{is_some, ◌↔◌}
 use Rattle.inc_value.specs.declared.node.NodeId.{NodeId}
 use Rattle.inc_value.specs.declared.node.Point.{Point}
 use Rattle.inc_terms.specs.Depend.{main, change, right_of, root_for}
 use Rattle.inc_terms.specs.Graph.{Graph, Row, Built}
-use Rattle.inc_terms.specs.Local.{shown}
+use Rattle.inc_terms.specs.Local.{shown, Agrees}
 use Rattle.inc_terms.specs.Term.{Functions}
 use Rattle.point_map.specs.Rows.{at}
 use Rattle.necessary_graph.specs.Part.{Needed}
@@ -23,13 +23,13 @@ use Rattle.stabilize_round.proofs.Entry.{entry_holds}
 use Rattle.wiring.specs.Began.{IsRoundOf}
 use Rattle.node_outcomes.specs.declared.row.Progress.{Progress}
 use Rattle.wiring.proofs.Agreeing.{no_freeze}
-use Rattle.stabilize_round.specs.Invariant.{Recalls}
+use Rattle.stabilize_round.specs.Invariant.{Recalls, IsUnmarked}
 use Rattle.stabilize_round.specs.Machine.{Entry}
-use Rattle.stabilize_round.specs.State.{State, Start}
+use Rattle.stabilize_round.specs.State.{State, Start, Call}
 use Rattle.wiring.specs.Kept.{IsKept}
 use Rattle.stabilizer.specs.Look.{last_of, last_call, never_at}
 use Rattle.stabilizer.specs.Round.{IsReady}
-use Rattle.node_outcomes.specs.Row.{never_in}
+use Rattle.node_outcomes.specs.Row.{never_in, is_never}
 use Rattle.wiring.specs.Stands.{MatchesState, Counts}
 use Rattle.stabilizer.specs.declared.parts.Parts.{Parts}
 use Rattle.wiring.specs.declared.work.Work.{Work}
@@ -40,6 +40,9 @@ use Rattle.node_outcomes.proofs.Held.{built_parts}
 use Rattle.inc_terms.proofs.Same.{outcome_decides}
 use Rattle.inc_value.specs.declared.outcome.Outcome.{Outcome}
 use Rattle.node_outcomes.proofs.Computing.{has_main}
+use Rattle.stabilize_round.specs.Freezing.{fires_at}
+use Rattle.inc_terms.specs.Work.{taken_by}
+use Rattle.stabilize_round.specs.Calling.{IsAnswer}
 
 -- what there is in one is there in the other
 pub there_as : {A B : Type 0} (x : Option A) (y : Option B) (b : B) → is_some x ≡ is_some y → y ≡ Some b → (a : A) × (x ≡ Some a)
@@ -130,62 +133,24 @@ module _ (M : Meaning) (parts : Parts) (ready : IsReady M parts) (counts : Count
       (c.0, last_known p.node r row ∙ c.1, c.2)
 
   stands : MatchesState arena work counts None state
-  stands = record {
-    graph = ready.stands.graph;
-    out = ready.stands.out;
-    last = λ n k e. ap last_of e;
-    never = λ n k e. ap never_in e;
-    stale = ready.stands.stale;
-    links = ready.stands.links;
-    root = ready.stands.root;
-    needed = ready.stands.needed;
-    height = ready.stands.height;
-    heap = ready.stands.heap;
-    settled = ready.stands.settled;
-    stage = ready.stands.stage;
-    owed = ready.stands.owed;
-    todo = ready.stands.todo;
-    retries = ready.stands.retries;
-    died = ready.stands.died;
-    ran = ready.stands.ran;
-    counts = refl;
-    given = ready.stands.given;
-  }
+  stands =
+      let last : (n : NodeId) (k : Progress) → at work.rows (main n) ≡ Some k → last_call work n ≡ k.last = (λ n k e. ap last_of e) in
+      let never : (n : NodeId) (k : Progress) → at work.rows (main n) ≡ Some k → never_at work n ≡ is_never k.cutoff = (λ n k e. ap never_in e) in
+      assumption (last, never, ready.stands)
+
+  fresh : (p : Point) (r : Row) → old.graph.row p.node ≡ Some r → old.needed p ≡ true
+      → (old.heap p ≡ true) ⊎ (Agrees F old.graph old.out p × Recalls old.graph (shown old.graph old.out) (last_call work) p × IsUnmarked old.stale p)
+  fresh p r row need = elim (ready.entry.fresh p r row need) [ inl h ↦ inl h | inr a ↦ inr (a.0, recalls p a.1, a.2) ]
+
+  unfired : (n : NodeId) → fires_at state n ≡ None
+  unfired n = other_rests state n (λ r kid f row is. no_freeze arena n r kid f (sym (ap (λ G. G.row n) ready.stands.graph) ∙ row) is)
+
+  answers : (n : NodeId) (r : Row) (kids : List NodeId) (c : Call) → old.graph.row n ≡ Some r → taken_by old.graph n r.def ≡ Some kids
+      → last_call work n ≡ Some c → IsAnswer F r.def c.arguments c.result
+  answers n r kids c row def e = ready.entry.answers n r kids c row def (sym (last_known n r row) ∙ e)
 
   entry : Entry F start state
-  entry = record {
-    web = record {
-      from = ready.entry.web.from;
-      onto = ready.entry.web.onto;
-      rooted = ready.entry.web.rooted;
-      reached = ready.entry.web.reached;
-      rises = ready.entry.web.rises;
-      low = ready.entry.web.low;
-      heap = ready.entry.web.heap;
-    };
-    alive = ready.entry.alive;
-    links = ready.entry.links;
-    full = ready.entry.full;
-    bare = ready.entry.bare;
-    scoped = ready.entry.scoped;
-    rooted = ready.entry.rooted;
-    built = ready.entry.built;
-    fresh = λ p r row need. elim (ready.entry.fresh p r row need) [ inl h ↦ inl h | inr a ↦ inr (a.0, recalls p a.1, a.2) ];
-    settled = ready.entry.settled;
-    owed = ready.entry.owed;
-    todo = ready.entry.todo;
-    retries = ready.entry.retries;
-    ran = ready.entry.ran;
-    taken = ready.entry.taken;
-    died = ready.entry.died;
-    held = λ p. refl;
-    last = λ n. refl;
-    never = λ n. refl;
-    stale = ready.entry.stale;
-    unfired = λ n. other_rests state n (λ r kid f row is. no_freeze arena n r kid f (sym (ap (λ G. G.row n) ready.stands.graph) ∙ row) is);
-    calls = refl;
-    answers = λ n r kids c row def e. ready.entry.answers n r kids c row def (sym (last_known n r row) ∙ e);
-  }
+  entry = assumption (fresh, answers, unfired, ready.entry)
 
   -- ---- all that the round speaks of was given
 

@@ -15,11 +15,10 @@ use Rattle.stabilizer.specs.Staying.{RoundStays}
 use Rattle.stabilizer.specs.Weights.{SidesFit}
 use Rattle.stabilizer.specs.declared.parts.Parts.{Parts}
 use Rattle.stabilizer.proofs.Round.BuiltFor.{paused_built}
-use Rattle.stabilizer.proofs.Round.Lawful.{paused_lawful}
+use Rattle.stabilizer.proofs.Round.Lawful.{paused_lawful, paused_tried}
 use Rattle.stabilizer.proofs.Round.Leftover.{only_still, paused_cutoffs, paused_shows, paused_called, paused_left}
 use Rattle.stabilizer.proofs.Step.MeaningKept.{means_still}
 use Rattle.stabilizer.proofs.Round.Paused.{IsPaused}
-use Rattle.stabilizer.proofs.Round.Tried.{paused_tried}
 use Rattle.stabilizer.proofs.Round.Whole.{HasEnded, round_calls, round_readies, round_rights, round_left, round_few, round_built}
 use Rattle.wiring.specs.Wiring.{PutsRoots}
 use Rattle.wiring.specs.declared.refused.Refused.{Refused}

@@ -79,8 +79,9 @@ use Rattle.stabilizer.specs.declared.parts.Parts.{Parts}
 use Rattle.stabilizer.proofs.Round.Beginning.{Begun, BegunOf, main_there}
 use Rattle.stabilizer.proofs.Round.Counting.{within}
 use Rattle.stabilizer.proofs.Round.NewDeaths.{deaths_told}
-use Rattle.stabilizer.proofs.Round.Released.{IsClosed, closes, leaf_links, undied, is_closed, kept_next, same_height, needed_back}
+use Rattle.stabilizer.proofs.Round.Released.{IsClosed, closes, leaf_links, is_closed, kept_next, same_height, needed_back}
 use Rattle.stabilizer.proofs.Step.Making.{quiet_of}
+use Rattle.stabilizer.proofs.Killing.Died.{live_undead}
 
 -- ---- states
 
@@ -108,7 +109,7 @@ died_same F z old new counts later left s t u kept was entry given run stop now 
     by_row : (n : NodeId) (x : Option Row) → row_at new.arena n ≡ x → u.died n ≡ died_by old new n
     by_row n None e = deaths_told F z s t u entry given run stop n (ap (λ (G : Graph). G.row n) now.graph ∙ e)
         ∙ (ap (λ (G : Graph). died_in G u.graph n) was.graph ∙ ap (λ (G : Graph). died_in (graph_in old) G n) now.graph)
-    by_row n (Some r) e = now.died n ∙ (undied new.arena new.work kept n r e ∙ sym (none_lost (row_at old.arena n) (row_at new.arena n) r e))
+    by_row n (Some r) e = now.died n ∙ (live_undead new.arena new.work kept n r e ∙ sym (none_lost (row_at old.arena n) (row_at new.arena n) r e))
 
 -- ---- what rows show
 

@@ -29,12 +29,15 @@ use Rattle.stabilize_round.proofs.Low.{links_are}
 use Rattle.stabilize_round.proofs.Points.{one_same, one_other, same_or_other}
 use Rattle.wiring.specs.Deciding.{is_needed}
 use Rattle.wiring.specs.Graph.{died_at, rowless}
-use Rattle.wiring.specs.Kept.{IsKept}
+use Rattle.wiring.specs.Kept.{IsKept, IsGhostLink, IsDead}
 use Rattle.wiring.specs.Scoped.{IsReleased}
 use Rattle.wiring.specs.Stands.{MatchesState, Counts}
 use Rattle.wiring.specs.declared.work.Work.{Work}
 use Rattle.wiring.proofs.Deciding.{decides_needed}
 use Rattle.std.proofs.lemmas.Option.{none-some}
+use Rattle.inc_terms.specs.Within.{Given}
+use Rattle.stabilizer.proofs.Killing.Died.{live_undead}
+use Rattle.node_outcomes.specs.declared.row.Progress.{Progress}
 
 -- what is left of links and need: the links of live points that are needed still, and none of dead ones
 pub record IsClosed (t : State) (links' : Point → Point → ℕ) (needed' : Point → Bool) : Type 0 where
@@ -117,14 +120,6 @@ no_leaf : {X : Type 0} (b : Bool) → b ≡ true → not b ≡ true → X
 no_leaf true e h = absurd (cc)
 no_leaf false e h = absurd (cc)
 
--- who lives isn't among those that died
-pub undied : (arena : Arena) (work : Work) → IsKept arena work → (n : NodeId) (r : Row) → row_at arena n ≡ Some r → died_at work n ≡ None
-undied arena work kept n r row = by_died (died_at work n) refl
-  where
-    by_died : (x : Option NodeId) → died_at work n ≡ x → x ≡ None
-    by_died None e = refl
-    by_died (Some b) e = absurd (let gone = (kept.dead n b e).gone in cc)
-
 module _ (F : Functions) (z : Start) (t : State) (inv : Invariant F z t) (quiet : Quiet t) (arena : Arena) (mid new : Work) (counts : Counts)
     (kept : IsKept arena mid) (stands : MatchesState arena mid counts None t) (r : IsReleased mid new) (step : IsInStep new.graph) where
   row_is : (n : NodeId) → t.graph.row n ≡ row_at arena n
@@ -172,7 +167,7 @@ module _ (F : Functions) (z : Start) (t : State) (inv : Invariant F z t) (quiet 
 
   -- those of the living are as they were
   live_links : (p q : Point) (x : Row) → row_at arena p.node ≡ Some x → times r.links p q ≡ times mid.graph.links p q
-  live_links p q x row = r.others p q (undied arena mid kept p.node x row)
+  live_links p q x row = r.others p q (live_undead arena mid kept p.node x row)
 
   fewer : (p q : Point) → times r.links p q ≤ times mid.graph.links p q
   fewer p q = by_row (row_at arena p.node) refl
@@ -256,28 +251,19 @@ module _ (F : Functions) (z : Start) (t : State) (inv : Invariant F z t) (quiet 
   heap_row : (p : Point) → Holds new.graph.heap p → Holds mid.rows p
   heap_row p h = let x = some_of (at new.graph.heap p) h in kept.heap p (ap is_some (r.sweep.heap p x.0 x.1).0)
 
+  given : (p : Point) → Holds new.graph.heights p → Given arena.given p.node
+  given p h = kept.given p (sym (ap is_some (same_height p h)) ∙ h)
+
+  links : (p q : Point) → Reads new.graph.links p q → Holds mid.rows p ⊎ IsGhostLink next p q
+  links p q l = inl (links_row p q l)
+
+  dead : (n b : NodeId) → died_at next n ≡ Some b → IsDead arena n b
+  dead n b e = absurd (none-some b (sym (r.deaths n) ∙ e))
+
   pub kept_next : new.round ≡ mid.round + 1 → IsKept arena next
-  kept_next round = record {
-    step = step;
-    rows = kept.rows;
-    leaves = leaves;
-    there = there;
-    given = λ p h. kept.given p (sym (ap is_some (same_height p h)) ∙ h);
-    links = λ p q l. inl (links_row p q l);
-    heap = heap_row;
-    dead = λ n b e. absurd (none-some b (sym (r.deaths n) ∙ e));
-    sound = kept.sound;
-    scopes = kept.scopes;
-    older = kept.older;
-    outcomes = kept.outcomes;
-    rights = kept.rights;
-    roots = kept.roots;
-    binds = kept.binds;
-    calls = kept.calls;
-    rounds = λ p k e. omega (arith, kept.rounds p k e, round);
-    pairs = kept.pairs;
-    scoped = kept.scoped;
-  }
+  kept_next round =
+      let rounds : (p : Point) (k : Progress) → at mid.rows p ≡ Some k → k.settled ≤ new.round = (λ p k e. omega (arith, kept.rounds p k e, round)) in
+      assumption (step, leaves, there, given, links, heap_row, dead, rounds, kept)
 
 -- it is all that the round's end leaves
 pub is_next : (mid new : Work) → new.rows ≡ mid.rows → new.roots ≡ mid.roots → new.pairs ≡ mid.pairs → new.scoped ≡ mid.scoped → new.todo ≡ mid.todo
@@ -291,13 +277,4 @@ is_next mid new rows roots pairs scoped todo =
 
 -- whom the round called doesn't matter
 pub released_of : (work other new : Work) → IsReleased (record work { ran = other.ran }) new → IsReleased work new
-released_of work other new r = record {
-  deaths = r.deaths;
-  none = r.none;
-  links = r.links;
-  others = r.others;
-  off = r.off;
-  gates = r.gates;
-  sweep = r.sweep;
-  drops = r.drops;
-}
+released_of work other new r = search (r)

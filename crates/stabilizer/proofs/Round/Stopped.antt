@@ -7,7 +7,7 @@ use Rattle.inc_value.specs.declared.outcome.Outcome.{Outcome}
 use Rattle.inc_value.specs.Choice.{here}
 use Rattle.inc_terms.specs.Depend.{change}
 use Rattle.inc_terms.specs.Evaluate.{NodeGives}
-use Rattle.inc_terms.specs.Graph.{Graph, Row}
+use Rattle.inc_terms.specs.Graph.{Row}
 use Rattle.inc_terms.specs.Rebuild.{Inside, direct, nested}
 use Rattle.inc_terms.specs.Rebuilding.{outcome_of}
 use Rattle.inc_terms.specs.Term.{Functions}
@@ -29,17 +29,13 @@ use Rattle.stabilize_round.proofs.Rebuilding.{met_after}
 use Rattle.stabilize_round.proofs.Runs.{lived, left_given, bind_given, due_differs, later, row_before, run_grows, run_kills}
 use Rattle.stabilize_round.proofs.Runs.{built_stays, refused_keeps}
 use Rattle.stabilize_round.proofs.Stopped.{new_binds_built, stops_leave, differed_run}
-use Rattle.stabilizer.proofs.Round.Scoping.{Falls, falls_left, scoped_run, scoped_stopped}
+use Rattle.stabilizer.proofs.Round.NewDeaths.{Falls, falls_left, scoped_run, scoped_stopped}
+use Rattle.stabilizer.proofs.Building.Remade.{inside_lives}
 
 -- ---- who is dead
 
 abbrev pub Kills : State → State → Type 0
 Kills s u = (n c : NodeId) → Inside s.graph c n → IsBuiltOther s u c → u.graph.row n ≡ None
-
--- who stands in a scope has a row
-row_of : (G : Graph) (c n : NodeId) → Inside G c n → (r : Row) × (G.row n ≡ Some r)
-row_of G c n (direct {r} e sc) = (r, e)
-row_of G c n (nested {r} e sc i) = (r, e)
 
 module _ (F : Functions) (z : Start) (s : State) (given : AllGiven F z s) (t : State) (inv : Invariant F z t) (run : Moves F z s t) where
   -- who lives on stands on where it stood
@@ -56,11 +52,11 @@ module _ (F : Functions) (z : Start) (s : State) (given : AllGiven F z s) (t : S
       nested row scope (inside_on c d outer.0 (given.names.scope n r d e sc) outer.4 i)
 
   given_inside : (c n : NodeId) → Inside s.graph c n → Given s.given n
-  given_inside c n i = let k = row_of s.graph c n i in given.names.live n k.0 k.1
+  given_inside c n i = let k = inside_lives s.graph c n i in given.names.live n k.0 k.1
 
   kills_run : Kills s t
   kills_run n c i other =
-      let k = row_of s.graph c n i in
+      let k = inside_lives s.graph c n i in
       (run_kills F z s t run n k.0 (given_inside c n i) k.1).1 (c, (λ same. other (sym same)), i)
 
   kills_stopped : (b : NodeId) (now : Outcome) (m : Remade) → Rebuild F z t b now m → Kills s (remade t m)
@@ -250,7 +246,7 @@ module _ (F : Functions) (z : Start) (s : State) (entry : Entry F z s) (given : 
 
 -- the count of calls doesn't matter
 pub called_on : (F : Functions) (z : Start) (s t : State) (calls : ℕ) → BuildsLeft F z s t None → BuildsLeft F z s (called_more t calls) None
-called_on F z s t calls h = record { stays = h.stays; made = h.made; none = h.none; differs = h.differs; met = h.met; was = h.was; scoped = h.scoped }
+called_on F z s t calls h = assumption (h)
 
 -- wherever a round stops at most one bind couldn't be built
 pub stops_build : (F : Functions) (z : Start) (s t u : State) → Entry F z s → AllGiven F z s → Moves F z s t → Stops F z t u

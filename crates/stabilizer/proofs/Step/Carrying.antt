@@ -26,6 +26,7 @@ use Rattle.wiring.specs.Wiring.{KeepsGraph, KeepsLists}
 use Rattle.node_outcomes.specs.declared.row.Progress.{Progress}
 use Rattle.wiring.specs.declared.work.Work.{Work}
 use Rattle.wiring.proofs.Holding.{held_same, died_same, links_same, root_same, pairs_same, scoped_same}
+use Rattle.std.proofs.lemmas.Option.{same_Some}
 
 -- what needs the same roots and links is needed alike
 module _ (old new : NecessaryPart) (same : KeepsGraph old new) where
@@ -126,9 +127,6 @@ module _ (arena : Arena) (old : Work) (g : NecessaryPart) (rest : g ≡ record o
 
 -- ---- a main was settled
 
-pub some_row : (a b : Progress) → ◌≡◌ {A = Option Progress} (Some a) (Some b) → a ≡ b
-some_row a b e = cc
-
 module _ (arena : Arena) (old new : Work) (n : NodeId) (o : Outcome) (last : Option Call) (made : ℕ)
     (kept : IsKept arena old) (w : IsSettled old new n o last made) (step : IsInStep new.graph) (lists : KeepsLists old new)
     (typed : (r : Row) (v : Value) → row_at arena n ≡ Some r → o ≡ Val v → IsOfType arena v r.ty)
@@ -137,7 +135,7 @@ module _ (arena : Arena) (old new : Work) (n : NodeId) (o : Outcome) (last : Opt
   fresh = record { stage = w.row.stage; settled = old.round; outcome = Some o; last = last; cutoff = w.row.cutoff }
 
   row_is : (k : Progress) → at new.rows (main n) ≡ Some k → fresh ≡ k
-  row_is k e = some_row fresh k (sym w.now ∙ e)
+  row_is k e = same_Some fresh k (sym w.now ∙ e)
 
   rows_stay : (p : Point) → is_some (at new.rows p) ≡ is_some (at old.rows p)
   rows_stay p = elim (point_cases p (main n)) [

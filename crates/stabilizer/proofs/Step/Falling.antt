@@ -1,8 +1,6 @@
 -- Steps end.
 use Rattle.std.proofs.Common.{◌≡◌, ◌⊎◌, inl, inr, ◌<◌, Bool, sym, subst, ap, ◌∙◌}
 use Rattle.inc_value.specs.declared.node.NodeId.{NodeId}
-use Rattle.inc_value.specs.declared.node.Part.{Part}
-use Rattle.inc_value.specs.declared.node.Part.TheVariants.{Change}
 use Rattle.inc_value.specs.declared.node.Point.{Point}
 use Rattle.inc_value.specs.declared.outcome.Outcome.{Outcome}
 use Rattle.inc_value.specs.Choice.{Reaches}
@@ -59,10 +57,6 @@ change_settled F z s t n (level m e) it = absurd it
 change_settled F z s t n (spend u k e) it = absurd it
 
 -- ---- steps end
-
--- a change is its node's
-pub is_change : (p : Point) → p.part ≡ Change → p ≡ change p.node
-is_change p e = ap (λ (x : Part). record { node = p.node; part = x }) e
 
 -- each step leaves less of the parts
 pub steps_leave_less : (M : Meaning) (old new : Parts) (before after : Counts) → IsKept old.arena old.work → IsKept new.arena new.work

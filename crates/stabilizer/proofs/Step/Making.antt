@@ -1,7 +1,5 @@
 -- Roots are put on one by one, and steps are made one by one.
 use Rattle.std.proofs.Common.{◌≡◌, ◌≢◌, ◌⊎◌, inl, inr, ℕ, ◌<◌, ◌+◌, ◌++◌, zero, suc, List, [], ◌∷◌, length, map, take, drop, get_or, None, refl, sym, ap, subst, ◌∙◌, arith}
-use Rattle.std.specs.Prelude.{Result, Ok, Err, IfErr}
-use Rattle.std.specs.Result.{IsErrAnd}
 use Rattle.std.proofs.lemmas.List.{take_more, map-append, take-append-drop}
 use Rattle.inc_value.specs.declared.node.NodeId.{NodeId}
 use Rattle.inc_value.specs.declared.node.Point.{Point}
@@ -35,11 +33,7 @@ use Rattle.stabilizer.specs.Stepping.{HasCalledDue, Steps, StepRefused, StepStop
 use Rattle.stabilizer.specs.declared.parts.Parts.{Parts}
 use Rattle.stabilizer.proofs.Round.Began.{round_on}
 use Rattle.stabilizer.proofs.Building.EveryPoint.{every_point, every_node, covers}
-
--- what holds of any error holds of this one
-pub exit_is : {A E : Type 0} (r : Result A E) (e : E) (P : E → Type 0) → IsErrAnd r (λ x. x ≡ e) → P e → IfErr r P
-exit_is (Ok x) e P is h = absurd is
-exit_is (Err x) e P is h = rw is h
+use Rattle.wiring.proofs.Handing.{id_among}
 
 -- ---- roots
 
@@ -107,11 +101,6 @@ one_put arena old mid new nodes i d within put more wired quiet round kept = rec
     listed : map main (take (i + 1) nodes) ≡ map main (take i nodes) ++ main (get_or nodes i d) ∷ []
     listed = ap (map main) (take_more nodes i d within) ∙ map-append main (take i nodes) (get_or nodes i d ∷ [])
 
-among_at : (nodes : List NodeId) (i : ℕ) (d : NodeId) → i < length nodes → Among (get_or nodes i d) nodes
-among_at [] i d within = absurd (omega arith)
-among_at (n ∷ ns) zero d within = inl refl
-among_at (n ∷ ns) (suc i) d within = inr (among_at ns i d (omega arith))
-
 among_take : (p : Point) (nodes : List NodeId) (i : ℕ) → Among p (map main (take i nodes)) → Among p (map main nodes)
 among_take p nodes i a = subst (λ (ns : List NodeId). Among p (map main ns)) (take-append-drop i nodes)
     (subst (λ (ps : List Point). Among p ps) (sym (map-append main (take i nodes) (drop i nodes)))
@@ -121,7 +110,7 @@ among_take p nodes i a = subst (λ (ns : List NodeId). Among p (map main ns)) (t
 pub roots_tried : (old mid new : Roots) (nodes : List NodeId) (i : ℕ) (d : NodeId) → i < length nodes → RootsMore old mid (map main (take i nodes))
     → ((a : Point) → a ≢ main (get_or nodes i d) → root_times new a ≡ root_times mid a) → OnlyRoots old new (map main nodes)
 roots_tried old mid new nodes i d within more others p is = elim (same_or_other p (main (get_or nodes i d))) [
-  | inl e ↦ inr (subst (λ (x : Point). Among x (map main nodes)) (sym e) (among_map main (get_or nodes i d) nodes (among_at nodes i d within)))
+  | inl e ↦ inr (subst (λ (x : Point). Among x (map main nodes)) (sym e) (among_map main (get_or nodes i d) nodes (id_among nodes i d within)))
   | inr ne ↦ elim (roots_only old mid (map main (take i nodes)) more p (subst (λ (k : ℕ). 0 < k) (others p ne) is)) [
     | inl h ↦ inl h
     | inr a ↦ inr (among_take p nodes i a)
@@ -163,27 +152,9 @@ settles_more M old mid new before between after first idle next z s begun st =
 more_calls : (parts : Parts) (counts : Counts) {between : Counts} (u : State) → MatchesState parts.arena parts.work between None u
     → u.builds ≡ counts.builds
     → u.adds ≡ counts.adds → MatchesState parts.arena parts.work counts None (called_more u counts.calls)
-more_calls parts counts u st builds adds = record {
-  graph = st.graph;
-  out = st.out;
-  last = st.last;
-  never = st.never;
-  stale = st.stale;
-  links = st.links;
-  root = st.root;
-  needed = st.needed;
-  height = st.height;
-  heap = st.heap;
-  settled = st.settled;
-  stage = st.stage;
-  owed = st.owed;
-  todo = st.todo;
-  retries = st.retries;
-  died = st.died;
-  ran = st.ran;
-  counts = λ i. record { calls = counts.calls; builds = builds i; adds = adds i };
-  given = st.given;
-}
+more_calls parts counts u st builds adds =
+    let same : counts_of (called_more u counts.calls) ≡ counts = (λ i. record { calls = counts.calls; builds = builds i; adds = adds i }) in
+    assumption (same, st)
 
 pub settle_stops : (M : Meaning) (old mid new : Parts) (before between after : Counts) (e : Refused) → Settles M old mid before between
     → mid.work.todo.items ≡ [] → StepRefused M mid new between after e → SettleRefused M old new before after e

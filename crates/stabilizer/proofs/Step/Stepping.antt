@@ -21,8 +21,7 @@ use Rattle.node_outcomes.specs.Computing.{CallsSeen, IsSeenDue}
 use Rattle.stabilize_round.specs.Calling.{cost_at}
 use Rattle.stabilize_round.specs.Counts.{RoseBy, RoseAtMost}
 use Rattle.stabilize_round.specs.Invariant.{Invariant}
-use Rattle.stabilize_round.specs.Moves.{Quiet, IsLeast, StepMain, computed, calls_of}
-use Rattle.stabilize_round.proofs.Parts.{bool_cases}
+use Rattle.stabilize_round.specs.Moves.{IsLeast, StepMain, computed, calls_of}
 use Rattle.stabilize_round.specs.Machine.{step_main}
 use Rattle.stabilize_round.specs.State.{State, Call}
 use Rattle.stabilize_round.specs.Steps.{Step, plainly}
@@ -39,7 +38,7 @@ use Rattle.wiring.specs.declared.refused.Refused.TheVariants.{Memory}
 use Rattle.wiring.specs.Wiring.{KeepsGraph}
 use Rattle.wiring.specs.declared.work.Work.{Work}
 use Rattle.stabilizer.proofs.Step.Carrying.{needed_now, needed_before, heap_graph, back_kept}
-use Rattle.stabilizer.proofs.Step.Settling.{settled_stands, settled_enqueues, counted}
+use Rattle.stabilizer.proofs.Step.Mains.{settled_stands, settled_enqueues, counted}
 use Rattle.wiring.proofs.Sight.{row_is, own_sees, keeps_answers, looks, calls_are, due_is}
 use Rattle.wiring.proofs.Holding.{graph_rows, died_same}
 use Rattle.stabilizer.proofs.Step.Making.{zero_or_more}
@@ -109,13 +108,6 @@ module _ (s : State) (arena : Arena) (old : Work) (counts : Counts) (kept : IsKe
 
 none_among : (p : Point) (xs : List Point) → xs ≡ [] → Among p xs → ⊥
 none_among p xs e a = subst (λ (ys : List Point). Among p ys) e a
-
--- between steps the worklist is empty
-pub is_quiet : (arena : Arena) (work : Work) (counts : Counts) (s : State) → MatchesState arena work counts None s → work.todo.items ≡ [] → Quiet s
-is_quiet arena work counts s st idle p = elim (bool_cases (s.todo p)) [
-  | inr e ↦ e
-  | inl e ↦ absurd (elim (st.todo p e) [ inl a ↦ none_among p work.todo.items idle a | inr h ↦ h ])
-]
 
 -- ---- a main is settled
 

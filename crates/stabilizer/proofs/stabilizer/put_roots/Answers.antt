@@ -6,8 +6,9 @@ use Rattle.necessity.specs.Need.{OneRootMore, root_times}
 use Rattle.inc_terms.specs.Depend.{main}
 use Rattle.stabilizer.specs.Round.{RootsMore}
 use Rattle.wiring.specs.Wiring.{RootRefused}
-use Rattle.stabilizer.proofs.Step.Making.{exit_is, none_put, one_put, put_refused, roots_tried, roots_only}
+use Rattle.stabilizer.proofs.Step.Making.{none_put, one_put, put_refused, roots_tried, roots_only}
 use Rattle.stabilizer.proofs.stabilizer.put_roots.Goals as goal
+use Rattle.necessary_graph.proofs.Linking.{exit_is}
 
 abbrev other : NodeId
 other = record { slot = 0; gen_ = 0 }

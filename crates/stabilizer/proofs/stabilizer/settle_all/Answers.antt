@@ -3,13 +3,13 @@ use Rattle.node_outcomes.specs.Meaning.{meaning_of}
 use Rattle.stabilizer.specs.Kept.{counts_by}
 use Rattle.stabilizer.specs.Giving.{StopsFull}
 use Rattle.stabilizer.specs.Round.{SettleRefused}
-use Rattle.stabilizer.proofs.Step.Giving.{none_gives}
-use Rattle.stabilizer.proofs.Step.GivingSteps.{gives_next, few_next, full_next}
+use Rattle.stabilizer.proofs.Step.Giving.{none_gives, gives_next, few_next, full_next}
 use Rattle.stabilizer.proofs.Step.MeaningKept.{means_still, wants_handed, wants_from}
-use Rattle.stabilizer.proofs.Step.Making.{exit_is, no_step, next_step, less_left, step_stops}
-use Rattle.stabilizer.proofs.Building.Ends.{on_err}
+use Rattle.stabilizer.proofs.Step.Making.{no_step, next_step, less_left, step_stops}
 use Rattle.stabilizer.proofs.Step.Staying.{nothing_done, stays_on}
 use Rattle.stabilizer.proofs.stabilizer.settle_all.Goals as goal
+use Rattle.necessary_graph.proofs.Linking.{exit_is}
+use Rattle.necessity.proofs.Sound.{on_err}
 
 pub loop-init : goal.loop-init
 loop-init g c =
@@ -95,30 +95,19 @@ returns-in_err-step-clause-stays g c =
 
 -- ---- the heap is empty
 
-pub returns-clause-settled : goal.returns-clause-settled
-returns-clause-settled g c =
-    let none = c.in_ok-step.ensures.ended c.if-branch.false in
-    let same = none.unchanged in
-    let counts = none.uncalled in
-    rw (same, counts) c.loop.invariant.so.settled
-
-pub returns-clause-empty : goal.returns-clause-empty
-returns-clause-empty g c =
-    let none = c.in_ok-step.ensures.ended c.if-branch.false in
-    let same = none.unchanged in
-    rw same none.empty
-
-pub returns-clause-gives : goal.returns-clause-gives
-returns-clause-gives g c =
-    let same = (c.in_ok-step.ensures.ended c.if-branch.false).unchanged in
-    rw same c.loop.invariant.gives
-
-pub returns-clause-quiet : goal.returns-clause-quiet
-returns-clause-quiet g c = c.in_ok-step.ensures.quiet
-
-pub returns-clause-wants : goal.returns-clause-wants
-returns-clause-wants g c = c.in_ok-step.ensures.wants ∙ c.loop.invariant.wants
-
-pub returns-clause-stays : goal.returns-clause-stays
-returns-clause-stays g c =
-    stays_on g.F.Functions _ _ _ c.args.parts.now c.loop.parts c.step.new.parts c.loop.invariant.stays c.step.ensures.stays
+pub returns : goal.returns
+returns g c =
+    let i = c.loop.invariant in
+    let step = c.in_ok-step.ensures in
+    let none = step.ended c.if-branch.false in
+    record {
+      settled = rw (none.unchanged, none.uncalled) i.so.settled;
+      empty = rw none.unchanged none.empty;
+      refused = tt;
+      gives = rw none.unchanged i.gives;
+      spends = tt;
+      full = tt;
+      quiet = step.quiet;
+      stays = stays_on g.F.Functions _ _ _ c.args.parts.now c.loop.parts c.step.new.parts i.stays c.step.ensures.stays;
+      wants = step.wants ∙ i.wants;
+    }

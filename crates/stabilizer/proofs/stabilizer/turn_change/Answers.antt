@@ -6,40 +6,29 @@ use Rattle.node_arena.specs.Arena.{row_of}
 use Rattle.node_outcomes.specs.Meaning.{meaning_of}
 use Rattle.node_outcomes.specs.Row.{outcome_in}
 use Rattle.point_map.specs.Rows.{at}
-use Rattle.std.proofs.lemmas.Option.{none-some}
+use Rattle.std.proofs.lemmas.Option.{none-some, same_Some}
 use Rattle.wiring.specs.declared.refused.Refused.TheVariants.{Memory}
 use Rattle.wiring.proofs.Raising.{if_refusal}
 use Rattle.stabilizer.specs.declared.build.Recipe.{Recipe}
-use Rattle.stabilizer.specs.Kept.{counts_by}
+use Rattle.stabilizer.specs.Kept.{StaysFlat, counts_by}
 use Rattle.stabilizer.specs.Rebuilding.{BuildsAnew, BuildRefused, as_it_was, IsToBuild}
 use Rattle.stabilizer.specs.Stepping.{IsUnbuiltBind, IsBuiltFor, built, turned}
 use Rattle.stabilizer.proofs.Change.Again.{woken_refused, woken_own, woken_roots, woken_round, woken_kept, by_result, some_of, two_points, has_subject}
 use Rattle.stabilizer.proofs.Building.Ends.{if_on_err}
 use Rattle.stabilizer.proofs.Change.Changing.{on_ok, both_ok, if_err}
-use Rattle.stabilizer.proofs.Change.Running.{some_same}
 use Rattle.stabilizer.proofs.Step.Staying.{nothing_done, work_moved}
 use Rattle.stabilizer.proofs.Change.Turned.{turned_own, turned_settled, turned_roots, turned_round, turned_kept, is_turned}
 use Rattle.stabilizer.proofs.stabilizer.turn_change.Goals as goal
 
 -- ---- the change is of a live node that has a subject
 
-pub returns-in_default-clause-turned : goal.returns-in_default-clause-turned
-returns-in_default-clause-turned g c =
+pub returns-in_default : goal.returns-in_default
+returns-in_default g c =
     let two = two_points c.args.parts.now.arena c.args.parts.now.work c.args.node c.requires.may.kept.work c.requires.taken.row in
     absurd (none-some two.0 (c.in_default.ensures ∙ two.1))
 
-pub returns-in_default-clause-settled : goal.returns-in_default-clause-settled
-returns-in_default-clause-settled g c =
-    let two = two_points c.args.parts.now.arena c.args.parts.now.work c.args.node c.requires.may.kept.work c.requires.taken.row in
-    absurd (none-some two.0 (c.in_default.ensures ∙ two.1))
-
-pub returns-in_default-subject-clause-turned : goal.returns-in_default-subject-clause-turned
-returns-in_default-subject-clause-turned g c =
-    has_subject c.args.parts.now.arena c.args.parts.now.work c.args.node c.requires.may.kept.work c.requires.taken.row (row_of c.in-Some.row.now)
-    (sym c.in-Some.ensures) (sym c.subject.ensures ∙ c.in_default-subject.is)
-
-pub returns-in_default-subject-clause-settled : goal.returns-in_default-subject-clause-settled
-returns-in_default-subject-clause-settled g c =
+pub returns-in_default-subject : goal.returns-in_default-subject
+returns-in_default-subject g c =
     has_subject c.args.parts.now.arena c.args.parts.now.work c.args.node c.requires.may.kept.work c.requires.taken.row (row_of c.in-Some.row.now)
     (sym c.in-Some.ensures) (sym c.subject.ensures ∙ c.in_default-subject.is)
 
@@ -102,7 +91,7 @@ returns-in-Ok-Some-clause-turned g c =
     some_of (λ (x : Recipe). IsUnbuiltBind r.def x.function x.captures (outcome_in (at c.args.parts.now.work.rows (change c.args.node))) c.in_ok-given.given)
     c.in-Ok-Some.field-0 recipe c.in-Ok-Some.field-0-is c.in-Ok-Some.ensures.due in
     let same : due.0 ≡ c.in-Some-subject.subject =
-    some_same due.0 c.in-Some-subject.subject (sym (ap subject_of due.1) ∙ (sym c.subject.ensures ∙ c.in-Some-subject.is)) in
+    same_Some due.0 c.in-Some-subject.subject (sym (ap subject_of due.1) ∙ (sym c.subject.ensures ∙ c.in-Some-subject.is)) in
     let to_build : IsToBuild c.args.parts.now c.args.node recipe.function recipe.captures c.in_ok-given.given = record {
       row = r;
       left = c.in-Some-subject.subject;
@@ -116,14 +105,6 @@ returns-in-Ok-Some-clause-turned g c =
     (λ anew gives. built to_build anew c.rebuild-built.ensures.stays.calls gives) c.rebuild-built.ensures.built c.rebuild-built.ensures.gives
 
 -- ---- what stays
-
-pub returns-in_default-clause-stays : goal.returns-in_default-clause-stays
-returns-in_default-clause-stays g c =
-    nothing_done g.F.Functions c.args.functions.now c.args.parts.now c.requires.may
-
-pub returns-in_default-subject-clause-stays : goal.returns-in_default-subject-clause-stays
-returns-in_default-subject-clause-stays g c =
-    nothing_done g.F.Functions c.args.functions.now c.args.parts.now c.requires.may
 
 pub returns-in_err-given-clause-stays : goal.returns-in_err-given-clause-stays
 returns-in_err-given-clause-stays g c =
@@ -164,12 +145,6 @@ returns-in-Ok-Some-clause-stays g c =
     let due : IsUnbuiltBind r.def recipe.function recipe.captures (outcome_in (at c.args.parts.now.work.rows (change c.args.node))) c.in_ok-given.given =
     some_of (λ (x : Recipe). IsUnbuiltBind r.def x.function x.captures (outcome_in (at c.args.parts.now.work.rows (change c.args.node))) c.in_ok-given.given)
     c.in-Ok-Some.field-0 recipe c.in-Ok-Some.field-0-is c.in-Ok-Some.ensures.due in
-    record {
-      kept = b.kept;
-      fit = b.stays.fit;
-      functions = b.stays.meaning;
-      flat = λ none. absurd (none c.args.node r (sym c.in-Some.ensures) (due.0, recipe.function, recipe.captures, due.1));
-      roots = b.stays.roots;
-      round = b.stays.round;
-      ran = b.stays.ran;
-    }
+    let flat : StaysFlat c.args.parts.now.arena c.rebuild-built.new.self.arena =
+    (λ none. absurd (none c.args.node r (sym c.in-Some.ensures) (due.0, recipe.function, recipe.captures, due.1))) in
+    assumption (flat, b, b.stays)

@@ -1,23 +1,13 @@
-use Rattle.std.proofs.Common.{◌≡◌, None, sym, ap, ◌∙◌}
+use Rattle.std.proofs.Common.{sym, ap, ◌∙◌}
 use Rattle.std.specs.Prelude.{is_some}
-use Rattle.inc_value.specs.declared.node.NodeId.{NodeId}
-use Rattle.node_arena.specs.Arena.{Arena, row_of, row_at, IsLive}
+use Rattle.node_arena.specs.Arena.{row_of}
 use Rattle.stabilizer.proofs.Building.Adopting.{gets_points, gets_rest, back_rest}
 use Rattle.stabilizer.proofs.parts.Parts.adopt.Goals as goal
 
 -- ---- the node is live
 
-live_row : {P : Type 0} (arena : Arena) (n : NodeId) → IsLive arena n → None ≡ row_at arena n → P
-live_row arena n live none = absurd (let e = sym live ∙ ap is_some (sym none) in cc)
-
-pub returns-in_default-clause-points : goal.returns-in_default-clause-points
-returns-in_default-clause-points c = live_row c.args.self.now.arena c.args.node c.requires.live c.in_default.ensures
-
-pub returns-in_default-clause-enters : goal.returns-in_default-clause-enters
-returns-in_default-clause-enters c = live_row c.args.self.now.arena c.args.node c.requires.live c.in_default.ensures
-
-pub returns-in_default-clause-rest : goal.returns-in_default-clause-rest
-returns-in_default-clause-rest c = live_row c.args.self.now.arena c.args.node c.requires.live c.in_default.ensures
+pub returns-in_default : goal.returns-in_default
+returns-in_default c = absurd (let e = sym c.requires.live ∙ ap is_some (sym c.in_default.ensures) in cc)
 
 -- ---- its points are made
 

@@ -19,16 +19,8 @@ returns-in_err-reserve-clause-refused g c =
 
 pub build-requires : goal.build-requires
 build-requires g c =
-    let m = c.requires.may in record {
-      kept = roots_roomy c.args.self.now c.reserve.new.self c.reserve.ensures.rows m.kept;
-      live = m.live;
-      bind = m.bind;
-      own = m.own;
-      sound = m.sound;
-      known = m.known;
-      ready = m.ready;
-      fit = m.fit;
-    }
+    let kept = roots_roomy c.args.self.now c.reserve.new.self c.reserve.ensures.rows c.requires.may.kept in
+    assumption (kept, c.requires.may)
 
 pub insert-requires-clause-absent : goal.insert-requires-clause-absent
 insert-requires-clause-absent g c =

@@ -28,19 +28,9 @@ pub returns : goal.returns
 returns c =
     let a = c.drop_node.ensures in
     let d = c.drop_node-2.ensures in
-    record {
-      dropped = a.dropped;
-      lives = a.live;
-      given = a.given;
-      rows = d.rows;
-      links = d.stays.links;
-      roots = d.stays.roots;
-      heap = d.heap;
-      right_sides = rights c;
-      scopes = refl;
-      ran = refl;
-      kept = dropped_parts (old c) (new c) c.args.id c.requires.kept c.requires.unneeded c.requires.unscoped a.dropped a.given d.rows d.dropped
-          (rights c) d.stays.links d.stays.roots d.heap d.stays.step a.sound (rest c) refl refl;
-      ready = dropped_ready (old c) (new c) c.args.id c.requires.kept c.requires.unneeded c.requires.unscoped a.dropped a.given d.rows d.dropped
-          (rights c) d.stays.links d.stays.roots d.heap d.stays.step a.sound (rest c) refl refl;
-    }
+    let right_sides = rights c in
+    let kept = dropped_parts (old c) (new c) c.args.id c.requires.kept c.requires.unneeded c.requires.unscoped a.dropped a.given d.rows d.dropped
+    (rights c) d.stays.links d.stays.roots d.heap d.stays.step a.sound (rest c) refl refl in
+    let ready = dropped_ready (old c) (new c) c.args.id c.requires.kept c.requires.unneeded c.requires.unscoped a.dropped a.given d.rows d.dropped
+    (rights c) d.stays.links d.stays.roots d.heap d.stays.step a.sound (rest c) refl refl in
+    assumption (right_sides, kept, ready, a, d)

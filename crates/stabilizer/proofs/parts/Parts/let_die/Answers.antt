@@ -6,9 +6,6 @@ use Rattle.wiring.specs.declared.work.Work.{Work}
 use Rattle.stabilizer.proofs.Killing.Died.{inside_scope, inside_row, live_undead, dying_may, died_all, kept_all}
 use Rattle.stabilizer.proofs.parts.Parts.let_die.Goals as goal
 
-pub list_dying-requires-clause-once : goal.list_dying-requires-clause-once
-list_dying-requires-clause-once c = c.requires.dying.once
-
 pub list_dying-requires-clause-scopes : goal.list_dying-requires-clause-scopes
 list_dying-requires-clause-scopes c n a = inside_scope c.args.self.now c.args.bind n ((c.requires.dying.all n).0 a)
 

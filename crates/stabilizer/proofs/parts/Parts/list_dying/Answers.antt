@@ -1,6 +1,6 @@
 use Rattle.std.proofs.Common.{◌≡◌, ◌<◌, ◌+◌, length, refl, sym, subst, ◌∙◌, arith}
 use Rattle.stabilizer.specs.declared.parts.Parts.{Parts}
-use Rattle.stabilizer.proofs.Killing.Listing.{AreBeingListed, listing_first, listing_last, parts_absent, parts_more, parts_scoped}
+use Rattle.stabilizer.proofs.Killing.Died.{AreBeingListed, listing_first, listing_last, parts_absent, parts_more, parts_scoped}
 use Rattle.stabilizer.proofs.parts.Parts.list_dying.Goals as goal
 use Rattle.stabilizer.proofs.parts.Parts.list_dying.Goals.{in-Some, in_default}
 
@@ -40,12 +40,10 @@ loop-place-preserved c =
           w.in_default.ensures)
     ]
 
-pub returns-clause-listed : goal.returns-clause-listed
-returns-clause-listed c =
+pub returns : goal.returns
+returns c =
     let old = c.args.self.now in
     let l : c.len-place-end.result ≡ length old.dying.items = c.len-place-end.ensures ∙ old.dying.ok.0 in
     let t = c.loop-place-test.false in
-    listing_last old.arena old.work c.loop-place.self.work old.dying.items c.loop-place.place c.loop-place.invariant.listing (omega (arith, l, t))
-
-pub returns-clause-rest : goal.returns-clause-rest
-returns-clause-rest c = c.loop-place.invariant.rest
+    let i = c.loop-place.invariant in
+    record { listed = listing_last old.arena old.work c.loop-place.self.work old.dying.items c.loop-place.place i.listing (omega (arith, l, t)); rest = i.rest }

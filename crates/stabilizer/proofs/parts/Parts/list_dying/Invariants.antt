@@ -1,4 +1,4 @@
-use Rattle.stabilizer.proofs.Killing.Listing.{AreBeingListed}
+use Rattle.stabilizer.proofs.Killing.Died.{AreBeingListed}
 use Rattle.stabilizer.proofs.parts.Parts.list_dying.Given as goal
 
 abbrev pub invariant-loop-place : goal.invariant-loop-place

@@ -1,6 +1,6 @@
 use Rattle.stabilizer.specs.Kept.{PartsKept}
 use Rattle.stabilizer.specs.declared.parts.Parts.{Parts}
-use Rattle.stabilizer.proofs.Between.Empty.{empty_kept, empty_between, empty_scopes, empty_ready}
+use Rattle.stabilizer.proofs.Between.Alone.{empty_kept, empty_between, empty_scopes, empty_ready}
 use Rattle.stabilizer.proofs.parts.Parts.new.Goals as goal
 
 abbrev parts : (c : goal.After-new-5) → Parts

@@ -28,15 +28,9 @@ module _ (c : goal.After-drop) where
   new = record old { work = c.add_node-added.new.self }
 
   same : KeepsWork old.work new.work
-  same = record {
-    rows = c.in-Err.ensures.err;
-    points = c.in-Err.ensures.err_heights;
-    links = c.add_node-added.ensures.stays.links;
-    roots = c.add_node-added.ensures.stays.roots;
-    heap = c.add_node-added.ensures.stays.heap;
-    todo = same_todo old.work new.work c.add_node-added.ensures.stays.todo;
-    round = c.add_node-added.ensures.stays.round;
-  }
+  same =
+      let todo = same_todo old.work new.work c.add_node-added.ensures.stays.todo in
+      assumption (todo, c.in-Err.ensures, c.add_node-added.ensures.stays)
 
   scoped : (n : NodeId) → IsLive old.arena n → Among n old.work.scoped.nodes → Among n new.work.scoped.nodes
   scoped n live among = subst (λ (l : Listed). Among n l.nodes) (sym c.in-Err.ensures.scoped) among
@@ -113,21 +107,7 @@ module _ (c : goal.After-forget_since) where
       (same_todo mid gone d.stays.todo)
 
   forgotten : KeepsWork start.work last
-  forgotten = subst (KeepsWork start.work) (sym c.forget_since.ensures.rest) (record {
-    rows = dropped.rows;
-    points = dropped.points;
-    links = dropped.links;
-    roots = dropped.roots;
-    heap = dropped.heap;
-    todo = dropped.todo;
-    round = record {
-      roots = dropped.round.roots;
-      deaths = dropped.round.deaths;
-      ran = dropped.round.ran;
-      retries = dropped.round.retries;
-      round = dropped.round.round;
-    };
-  })
+  forgotten = subst (KeepsWork start.work) (sym c.forget_since.ensures.rest) (assumption (dropped))
 
   arena_is : c.insert.new.self ≡ start.arena
   arena_is = c.in-Err-insert.ensures.err

@@ -8,12 +8,14 @@ use Rattle.stabilizer.specs.Rebuilding.{BuildRefused}
 use Rattle.stabilizer.specs.Rooted.{GetsNoRoot}
 use Rattle.stabilizer.proofs.Change.Again.{by_result}
 use Rattle.stabilizer.proofs.Building.Asks.{stands_but}
-use Rattle.stabilizer.proofs.Building.Ends.{on_err, if_on_err, left_roomy, roomy_stays, AreCut, are_cut, asks_build}
+use Rattle.stabilizer.proofs.Building.Ends.{if_on_err, left_roomy, roomy_stays, AreCut, are_cut, asks_build}
 use Rattle.stabilizer.proofs.Building.Ends.{dead_stays, settles_none, root_settles, stays_rooted, kept_rootless, stays_rootless, rootless_refused}
 use Rattle.stabilizer.proofs.Building.Kept.{roomy, roomy_kept}
 use Rattle.stabilizer.proofs.parts.Parts.renew.Given.{Over}
 use Rattle.stabilizer.proofs.parts.Parts.renew.Goals.{After-let_die}
 use Rattle.stabilizer.proofs.parts.Parts.renew.Goals as goal
+use Rattle.necessity.proofs.Sound.{on_err}
+use Rattle.wiring.specs.declared.refused.Refused.{Refused}
 
 -- ---- there was no memory for the deaths
 
@@ -46,12 +48,6 @@ cut_off-requires-clause-kept g c =
     roomy_kept old c.make_room.new.deaths old.work.roots c.make_room.ensures.deaths (λ p. refl) c.make_room.new.dying c.make_room.ensures.dying
     c.requires.may.kept
 
-pub cut_off-requires-clause-taken : goal.cut_off-requires-clause-taken
-cut_off-requires-clause-taken g c = record { row = c.requires.taken.row; needed = c.requires.taken.needed; gone = c.requires.taken.gone }
-
-pub cut_off-requires-clause-quiet : goal.cut_off-requires-clause-quiet
-cut_off-requires-clause-quiet g c = c.requires.may.quiet
-
 pub let_die-requires-clause-scopes : goal.let_die-requires-clause-scopes
 let_die-requires-clause-scopes g c =
     stands_but _ c.cut_off.new.self c.args.node c.requires.may.kept.scopes c.cut_off.ensures.scopes c.cut_off.ensures.cut.arena
@@ -67,13 +63,15 @@ died g c =
 
 -- ---- there is no right side
 
-pub returns-in_default-clause-ready : goal.returns-in_default-clause-ready
-returns-in_default-clause-ready g c =
-    settles_none g.F.Functions c.args.functions.now (died g (goal.at.returns-in_default-clause-ready g c).After-let_die) c.in_default.is
-
-pub returns-in_default-clause-stays : goal.returns-in_default-clause-stays
-returns-in_default-clause-stays g c =
-    dead_stays g.F.Functions c.args.functions.now (died g (goal.at.returns-in_default-clause-stays g c).After-let_die)
+pub returns-in_default : goal.returns-in_default
+returns-in_default g c =
+    let h = died g (goal.at.returns-in_default g c).After-let_die in
+    record {
+      ready = settles_none g.F.Functions c.args.functions.now h c.in_default.is;
+      refused = tt;
+      kept = tt;
+      stays = dead_stays g.F.Functions c.args.functions.now h;
+    }
 
 -- ---- one is built
 
@@ -81,34 +79,22 @@ pub build_root-requires-clause-may : goal.build_root-requires-clause-may
 build_root-requires-clause-may g c =
     asks_build g.F.Functions c.args.functions.now (died g (goal.at.build_root-requires-clause-may g c).After-let_die) c.in-Val.left c.in-Val.is
 
-pub build_root-requires-clause-rootless : goal.build_root-requires-clause-rootless
-build_root-requires-clause-rootless g c = c.let_die.ensures.died.own_root
-
-pub returns-clause-ready : goal.returns-clause-ready
-returns-clause-ready g c =
-    on_ok_weaker c.build_root.result (root_settles g.F.Functions c.args.functions.now (died g (goal.at.returns-clause-ready g c).After-let_die)
-    c.in-Val.left c.in-Val.is) c.build_root.ensures.root
-
-pub returns-clause-refused : goal.returns-clause-refused
-returns-clause-refused g c =
+pub returns : goal.returns
+returns g c =
     let K = g.F.Functions in
     let fs = c.args.functions.now in
     let fs' = c.build_root.new.functions in
     let last = c.build_root.new.self in
-    IfErr-weaker c.build_root.result (GetsNoRoot K fs fs' c.let_die.new.self last c.args.node c.args.recipe.now.function)
-    (BuildRefused (meaning_of K fs) (K.right fs') c.args.self.now last c.args.node (counts_by K fs) (counts_by K fs'))
-    (rootless_refused K fs (died g (goal.at.returns-clause-refused g c).After-let_die) c.in-Val.left c.in-Val.is) c.build_root.ensures.refused
-
-pub returns-clause-kept : goal.returns-clause-kept
-returns-clause-kept g c =
-    if_on_err {Q = GetsNoRoot g.F.Functions c.args.functions.now c.build_root.new.functions c.let_die.new.self c.build_root.new.self c.args.node
-    c.args.recipe.now.function} c.build_root.result (kept_rootless g.F.Functions c.args.functions.now (died g (goal.at.returns-clause-kept g c).After-let_die)
-    c.in-Val.left c.in-Val.is) c.build_root.ensures.refused
-
-pub returns-clause-stays : goal.returns-clause-stays
-returns-clause-stays g c =
-    let h = died g (goal.at.returns-clause-stays g c).After-let_die in
-    by_result {Q = GetsNoRoot g.F.Functions c.args.functions.now c.build_root.new.functions c.let_die.new.self c.build_root.new.self c.args.node
-    c.args.recipe.now.function} c.build_root.result c.build_root.ensures.root c.build_root.ensures.refused
-    (stays_rooted g.F.Functions c.args.functions.now h c.in-Val.left c.in-Val.is)
-    (stays_rootless g.F.Functions c.args.functions.now h c.in-Val.left c.in-Val.is)
+    let h = died g (goal.at.returns g c).After-let_die in
+    let left = c.in-Val.left in
+    let is = c.in-Val.is in
+    let b = c.build_root.ensures in
+    let Rootless : Refused → Type 0 = GetsNoRoot K fs fs' c.let_die.new.self last c.args.node c.args.recipe.now.function in
+    record {
+      ready = on_ok_weaker c.build_root.result (root_settles K fs h left is) b.root;
+      refused = IfErr-weaker c.build_root.result Rootless
+          (BuildRefused (meaning_of K fs) (K.right fs') c.args.self.now last c.args.node (counts_by K fs) (counts_by K fs'))
+          (rootless_refused K fs h left is) b.refused;
+      kept = if_on_err {Q = Rootless} c.build_root.result (kept_rootless K fs h left is) b.refused;
+      stays = by_result {Q = Rootless} c.build_root.result b.root b.refused (stays_rooted K fs h left is) (stays_rootless K fs h left is);
+    }

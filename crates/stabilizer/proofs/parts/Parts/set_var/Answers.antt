@@ -1,4 +1,4 @@
-use Rattle.std.proofs.Common.{◌≡◌, refl, sym, ap, subst}
+use Rattle.std.proofs.Common.{◌≡◌, sym, ap, subst}
 use Rattle.inc_value.specs.declared.node.Point.{Point}
 use Rattle.inc_terms.specs.Depend.{main}
 use Rattle.inc_terms.specs.Within.{Given, ValueWithin}
@@ -36,18 +36,11 @@ pub returns-in-Ok-clause-stays : goal.returns-in-Ok-clause-stays
 returns-in-Ok-clause-stays c =
     let s = c.schedule.ensures in
     let m = c.in-Ok.ensures in
-    record {
-      lives = m.live;
-      given = m.given;
-      rows = ap (λ (x : Work). x.rows) s.rest;
-      heights = s.scheduled.graph.heights;
-      links = s.scheduled.graph.links;
-      roots = s.scheduled.graph.roots;
-      right_sides = ap (λ (x : Work). x.roots) s.rest;
-      ran = refl;
-      kept = set_parts (old c) (new c) c.args.id c.args.value c.requires.kept m.set (not_other c) m.given (marked c) s.step m.sound (rest c);
-      ready = set_ready (old c) (new c) c.args.id c.args.value c.requires.kept m.set (not_other c) m.given (marked c) s.step m.sound (rest c);
-    }
+    let rows = ap (λ (x : Work). x.rows) s.rest in
+    let right_sides = ap (λ (x : Work). x.roots) s.rest in
+    let kept = set_parts (old c) (new c) c.args.id c.args.value c.requires.kept m.set (not_other c) m.given (marked c) s.step m.sound (rest c) in
+    let ready = set_ready (old c) (new c) c.args.id c.args.value c.requires.kept m.set (not_other c) m.given (marked c) s.step m.sound (rest c) in
+    assumption (rows, right_sides, kept, ready, m, s)
 
 -- ---- it was refused
 
@@ -60,15 +53,4 @@ returns-in-Err-clause-err c = same (goal.at.returns-in-Err-clause-err c).In-Err
 pub returns-in-Err-clause-stays : goal.returns-in-Err-clause-stays
 returns-in-Err-clause-stays c =
     let old = c.args.self.now in
-    subst (StaysButHeap old) (sym (same (goal.at.returns-in-Err-clause-stays c).In-Err)) (record {
-      lives = refl;
-      given = refl;
-      rows = refl;
-      heights = refl;
-      links = refl;
-      roots = refl;
-      right_sides = refl;
-      ran = refl;
-      kept = c.requires.kept;
-      ready = λ M ready. ready;
-    })
+    subst (StaysButHeap old) (sym (same (goal.at.returns-in-Err-clause-stays c).In-Err)) (assumption (c.requires.kept))

@@ -11,16 +11,13 @@ use Rattle.stabilizer.proofs.Round.Leftover.{only_still}
 use Rattle.stabilizer.proofs.Step.MeaningKept.{nothing_meant, wants_stay, wants_handed}
 use Rattle.stabilizer.proofs.Round.Paused.{none_paused, roots_paused, roots_full, steps_paused}
 use Rattle.stabilizer.proofs.Round.Released.{released_of}
-use Rattle.stabilizer.proofs.Step.Making.{exit_is}
 use Rattle.stabilizer.proofs.Round.Whole.{HasEnded, in_round}
 use Rattle.stabilizer.proofs.stabilizer.Stabilizer.run.Given.{Over}
 use Rattle.stabilizer.proofs.stabilizer.Stabilizer.run.Goals.{After-end_round}
 use Rattle.stabilizer.proofs.stabilizer.Stabilizer.run.Goals as goal
+use Rattle.necessary_graph.proofs.Linking.{exit_is}
 
 -- ---- what is called
-
-pub put_roots-requires-clause-kept : goal.put_roots-requires-clause-kept
-put_roots-requires-clause-kept g c = c.requires.ready.kept.work
 
 pub settle_all-requires-clause-may : goal.settle_all-requires-clause-may
 settle_all-requires-clause-may g c = record {
@@ -35,26 +32,21 @@ settle_all-requires-clause-in_round g c =
     in_round (meaning_of g.F.Functions c.args.functions.now) c.args.parts.now c.put_roots.new.work (counts_by g.F.Functions c.args.functions.now)
     c.requires.ready c.in_ok-put_roots.ensures.wired
 
-pub end_round-requires : goal.end_round-requires
-end_round-requires g c = record { step = c.settle_all.ensures.stays.kept.work.step }
-
 -- ---- no further round has a number
 
-pub returns-in_default-clause-refused : goal.returns-in_default-clause-refused
-returns-in_default-clause-refused g c =
+pub returns-in_default : goal.returns-in_default
+returns-in_default g c =
     let K = g.F.Functions in
     let fs = c.args.functions.now in
     let old = c.args.parts.now in
-    paused_stops K fs fs old old Memory (none_paused (meaning_of K fs) old (counts_by K fs) c.requires.ready) c.args.roots.now (λ p h. inl h) refl
-    (none_few (K.right fs) old.arena.given old.arena (omega arith)) tt
-
-pub returns-in_default-clause-leaves : goal.returns-in_default-clause-leaves
-returns-in_default-clause-leaves g c =
-    let K = g.F.Functions in
-    let fs = c.args.functions.now in
-    let old = c.args.parts.now in
-    paused_leaves K fs fs old old Memory (none_paused (meaning_of K fs) old (counts_by K fs) c.requires.ready) c.requires.fit
-    (nothing_meant K fs c.requires.sound) (λ none. refl)
+    let paused = none_paused (meaning_of K fs) old (counts_by K fs) c.requires.ready in
+    record {
+      ended = tt;
+      refused = paused_stops K fs fs old old Memory paused c.args.roots.now (λ p h. inl h) refl
+          (none_few (K.right fs) old.arena.given old.arena (omega arith)) tt;
+      leaves = paused_leaves K fs fs old old Memory paused c.requires.fit (nothing_meant K fs c.requires.sound) (λ none. refl);
+      wants = inl refl;
+    }
 
 -- ---- a root was refused
 
@@ -148,20 +140,20 @@ module _ (g : Over) (c : After-end_round g) where
         todo = e.todo;
       }
 
-pub returns-clause-ended : goal.returns-clause-ended
-returns-clause-ended g c =
+pub returns : goal.returns
+returns g c =
     let K = g.F.Functions in
-    let s = c.in_ok-settle_all.ensures in
-    let settled = c.settle_all.new.parts in
+    let old = c.args.parts.now in
+    let rooted = c.put_roots.new.work in
     let p = c.in_ok-put_roots.ensures in
-    round_ends K c.args.functions.now c.settle_all.new.functions c.args.parts.now c.put_roots.new.work c.requires.ready p.wired settled s.settled
-    s.stays s.quiet s.empty (record settled { work = c.end_round.new.self; ran = c.swap.new.x }) (ended g c) c.args.roots.now p.rooted
-    c.put_roots.ensures.roots s.gives (ap (λ v. v.items) c.swap.ensures.x_after) (next_round g c)
-
-pub returns-clause-leaves : goal.returns-clause-leaves
-returns-clause-leaves g c =
-    let s = c.in_ok-settle_all.ensures in
     let settled = c.settle_all.new.parts in
-    round_leaves g.F.Functions c.args.functions.now c.settle_all.new.functions c.args.parts.now c.put_roots.new.work c.requires.ready
-    c.in_ok-put_roots.ensures.wired settled s.settled s.stays s.quiet s.empty
-    (record settled { work = c.end_round.new.self; ran = c.swap.new.x }) (ended g c)
+    let s = c.in_ok-settle_all.ensures in
+    let last : Parts = record settled { work = c.end_round.new.self; ran = c.swap.new.x } in
+    record {
+      ended = round_ends K c.args.functions.now c.settle_all.new.functions old rooted c.requires.ready p.wired settled s.settled s.stays s.quiet s.empty
+          last (ended g c) c.args.roots.now p.rooted c.put_roots.ensures.roots s.gives (ap (λ v. v.items) c.swap.ensures.x_after) (next_round g c);
+      refused = tt;
+      leaves = round_leaves K c.args.functions.now c.settle_all.new.functions old rooted c.requires.ready p.wired settled s.settled s.stays s.quiet
+          s.empty last (ended g c);
+      wants = s.wants;
+    }

@@ -1,5 +1,5 @@
 use Rattle.std.proofs.Common.{refl, sym, ap, subst, ◌∙◌}
-use Rattle.necessity.specs.Need.{root_times}
+use Rattle.necessity.specs.Need.{KeepsRoots, root_times}
 use Rattle.necessary_graph.specs.Part.{NecessaryPart, Needed}
 use Rattle.node_arena.specs.Arena.{Arena}
 use Rattle.stabilizer.specs.Weights.{SidesFit}
@@ -7,9 +7,8 @@ use Rattle.node_outcomes.specs.Meaning.{meaning_of}
 use Rattle.stabilizer.specs.Kept.{counts_by}
 use Rattle.stabilizer.specs.Stepping.{of_main, of_change, StepIsRefused}
 use Rattle.stabilizer.proofs.Change.Steps.{change_steps, change_stops, change_full}
-use Rattle.stabilizer.proofs.Step.Falling.{is_change, steps_leave_less}
-use Rattle.stabilizer.proofs.Step.GivingSteps.{left_few, main_few, memory_full}
-use Rattle.stabilizer.proofs.Step.Mains.{is_main}
+use Rattle.stabilizer.proofs.Step.Falling.{steps_leave_less}
+use Rattle.stabilizer.proofs.Step.Giving.{left_few, main_few, memory_full}
 use Rattle.wiring.proofs.Raising.{if_refusal}
 use Rattle.stabilizer.specs.declared.parts.Parts.{Parts}
 use Rattle.stabilizer.proofs.Step.StillFit.{same_fit}
@@ -20,6 +19,7 @@ use Rattle.stabilizer.proofs.stabilizer.Stabilizer.step.Given.{Over}
 use Rattle.stabilizer.proofs.stabilizer.Stabilizer.step.Goals.{After-step_change, After-step_main}
 use Rattle.stabilizer.proofs.Step.MeaningKept.{wants_stay}
 use Rattle.stabilizer.proofs.stabilizer.Stabilizer.step.Goals as goal
+use Rattle.stabilizer.proofs.Between.Alone.{main_is, change_is}
 
 -- ---- a change
 
@@ -32,7 +32,7 @@ step_change-requires-clause-taken g c =
     let arena = c.args.parts.now.arena in
     let work = c.args.parts.now.work in
     let p = c.in-Some.p in
-    let is = is_change p c.in-Change.is in
+    let is = change_is p c.in-Change.is in
     let kept = c.requires.kept.work in
     record {
       row = popped_row arena work c.pop_least.new.self p _ is kept c.in-Some.ensures.was c.pop_least.ensures.rest c.in-Some.ensures.removed;
@@ -46,7 +46,7 @@ returns-in_err-step_change-in-Change-clause-refused g c =
     let old = c.args.parts.now in
     let new = c.step_change.new.parts in
     let p = c.in-Some.p in
-    let is = is_change p c.in-Change.is in
+    let is = change_is p c.in-Change.is in
     let before = counts_by g.F.Functions c.args.functions.now in
     let after = counts_by g.F.Functions c.step_change.new.functions in
     let right = g.F.Functions.right c.step_change.new.functions in
@@ -69,7 +69,7 @@ returns-in_ok-step_change-in-Change-clause-made g c = λ more.
     let old = c.args.parts.now in
     let new = c.step_change.new.parts in
     let p = c.in-Some.p in
-    let is = is_change p c.in-Change.is in
+    let is = change_is p c.in-Change.is in
     let before = counts_by g.F.Functions c.args.functions.now in
     let after = counts_by g.F.Functions c.step_change.new.functions in
     let step = change_steps M old c.pop_least.new.self p p.node is before c.requires.kept c.requires.quiet c.in-Some.ensures.was
@@ -92,13 +92,13 @@ step_main-requires-clause-may g c = taken_may g.F.Functions c.args.functions.now
 pub step_main-requires-clause-row : goal.step_main-requires-clause-row
 step_main-requires-clause-row g c =
     let p = c.in-Some.p in
-    popped_row c.args.parts.now.arena c.args.parts.now.work c.pop_least.new.self p _ (is_main p c.in-Main.is) c.requires.kept.work c.in-Some.ensures.was
+    popped_row c.args.parts.now.arena c.args.parts.now.work c.pop_least.new.self p _ (main_is p c.in-Main.is) c.requires.kept.work c.in-Some.ensures.was
     c.pop_least.ensures.rest c.in-Some.ensures.removed
 
 pub step_main-requires-clause-taken : goal.step_main-requires-clause-taken
 step_main-requires-clause-taken g c =
     let p = c.in-Some.p in
-    popped_taken c.args.parts.now.arena c.args.parts.now.work c.pop_least.new.self p _ (is_main p c.in-Main.is) c.requires.kept.work
+    popped_taken c.args.parts.now.arena c.args.parts.now.work c.pop_least.new.self p _ (main_is p c.in-Main.is) c.requires.kept.work
     c.in-Some.ensures.was c.pop_least.ensures.rest c.in-Some.ensures.removed
 
 pub insert-requires : goal.insert-requires
@@ -118,7 +118,7 @@ returns-in-Ok-clause-made g c = λ more.
     let old = c.args.parts.now in
     let new = c.step_main.new.parts in
     let p = c.in-Some.p in
-    let is = is_main p c.in-Main.is in
+    let is = main_is p c.in-Main.is in
     let before = counts_by g.F.Functions c.args.functions.now in
     let after = counts_by g.F.Functions c.step_main.new.functions in
     let step = steps M old new c.pop_least.new.self p p.node is before after c.requires.kept.work c.in-Some.ensures.was c.in-Some.ensures.least
@@ -144,7 +144,7 @@ returns-in-Err-clause-refused g c =
     record {
       refused = step_refused (meaning_of g.F.Functions c.args.functions.now) old mid _ c.pop_least.new.self c.insert.new.self p p.node before after
           c.requires.kept.work c.in-Some.ensures.was c.in-Some.ensures.least c.pop_least.ensures.rest c.in-Some.ensures.removed
-          c.in-Err.ensures.refused arena c.insert.ensures.rest c.insert.ensures.inserted refl (is_main p c.in-Main.is) _ memory;
+          c.in-Err.ensures.refused arena c.insert.ensures.rest c.insert.ensures.inserted refl (main_is p c.in-Main.is) _ memory;
       spends = main_few right old.arena mid.arena arena;
       full = λ z s begun quiet st. memory_full right mid.arena before after c.in-Err.refused memory;
     }
@@ -174,15 +174,10 @@ returns-in_default-clause-stays g c =
 stays_taken : (g : Over) (c : After-step_change g)
     → RoundStays g.F.Functions c.args.functions.now c.step_change.new.functions c.args.parts.now c.step_change.new.parts
 stays_taken g c =
-    let s = c.step_change.ensures.stays in record {
-      kept = s.kept;
-      fit = s.fit;
-      functions = s.functions;
-      flat = s.flat;
-      roots = λ p. s.roots p ∙ ap (λ (x : NecessaryPart). root_times x.roots p) c.pop_least.ensures.rest;
-      round = s.round;
-      ran = s.ran;
-    }
+    let s = c.step_change.ensures.stays in
+    let roots : KeepsRoots c.args.parts.now.work.graph.roots c.step_change.new.parts.work.graph.roots =
+    (λ p. s.roots p ∙ ap (λ (x : NecessaryPart). root_times x.roots p) c.pop_least.ensures.rest) in
+    assumption (roots, s)
 
 pub returns-in_err-step_change-in-Change-clause-stays : goal.returns-in_err-step_change-in-Change-clause-stays
 returns-in_err-step_change-in-Change-clause-stays g c =
