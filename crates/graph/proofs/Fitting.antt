@@ -9,10 +9,9 @@ use Rattle.inc_value.specs.declared.function.FnRef.{FnRef}
 use Rattle.inc_value.specs.declared.node.NodeId.{NodeId}
 use Rattle.inc_value.specs.declared.ty.Ty.{Ty}
 use Rattle.inc_value.specs.declared.value.Value.{Value}
-use Rattle.inc_value.specs.declared.value.Value.TheVariants as value
 use Rattle.inc_terms.specs.Graph as graph
 use Rattle.inc_terms.specs.Graph.{Row, Def}
-use Rattle.inc_terms.specs.Within.{Given, Fit, DefWithin, ValueWithin}
+use Rattle.inc_terms.specs.Within.{Given, Fit, DefWithin}
 use Rattle.node_arena.specs.Arena.{Arena, row_at, Changes, IsLive, IsSet, with_value}
 use Rattle.node_arena.specs.Graph.{CallsFit}
 use Rattle.node_arena.specs.Listing.{Listed}
@@ -28,14 +27,9 @@ use Rattle.stabilizer.specs.Weights.{weight_of, weight_in, weight_at, IsInScope,
 use Rattle.stabilizer.specs.declared.parts.Parts.{Parts}
 use Rattle.stabilizer.proofs.Building.Weighing.{ScopesStay, scopes_stay, sides_last}
 use Rattle.graph.specs.Effects.{CallsKnown}
+use Rattle.node_arena.proofs.Growing.{value_any}
 
 -- ---- of a definition
-
-value_within : (v : Value) → ValueWithin (λ (n : NodeId). Unit {0}) v
-value_within (value.Node n base) = tt
-value_within (value.Int z) = tt
-value_within (value.Bool z) = tt
-value_within (value.Text z) = tt
 
 every_unit : (ns : List NodeId) → Every (λ (n : NodeId). Unit {0}) ns
 every_unit [] = tt
@@ -51,9 +45,9 @@ module _ (known : FnRef → Bool) (right : FnRef → RightSide) (sides : SidesHo
   map_fits a f k is = ((k, is), λ x among. absurd (subst (λ (ids : List Listed). Among x ids) (sides.maps f (k, is)).ids among))
 
   pub known_fits : (a b : Arena) (ty : Ty) (def : Def) → CallsKnown known right a def → Makes b def ty → IsDefFit known right a def
-  known_fits a b ty (graph.Const v) k m = value_within v
-  known_fits a b ty (graph.Var v) k m = value_within v
-  known_fits a b ty (graph.Fold f v ns) k m = (map_fits a f k m.kind, value_within v, every_unit ns)
+  known_fits a b ty (graph.Const v) k m = value_any v
+  known_fits a b ty (graph.Var v) k m = value_any v
+  known_fits a b ty (graph.Fold f v ns) k m = (map_fits a f k m.kind, value_any v, every_unit ns)
   known_fits a b ty (graph.Map f ns) k m = (map_fits a f k m.kind, every_unit ns)
   known_fits a b ty (graph.If t l r) k m = (tt, tt, tt)
   known_fits a b ty (graph.Join kid) k m = tt
@@ -154,7 +148,7 @@ module _ (known : FnRef → Bool) (right : FnRef → RightSide) (old new : Arena
   all_set fit n r is = elim (node_or_other n id) [
     | inl e ↦
         subst (λ (x : Option Row). IfSome x (λ (q : Row). IsDefFit known right new q.def))
-        (sym set.changes.changed ∙ (ap (row_at new) (sym e) ∙ is)) (value_within v)
+        (sym set.changes.changed ∙ (ap (row_at new) (sym e) ∙ is)) (value_any v)
     | inr other ↦ calls_more (IsFitIn known right old) (IsFitIn known right new) fit_in r.def (fit n r (sym (set.changes.others n other) ∙ is))
   ]
 

@@ -237,6 +237,7 @@ module _ (right : FnRef → RightSide) (a : Arena) (fit : ScopesFit right a)
       tops lists in
       inl (omega (arith, full, live))
 
-  -- so it is of what was refused as full
-  pub filled_by : (before after : Counts) (met : Refused) → StopsFull right a before after met → kept_of met ≡ kept.Full → IsFilled right a
-  filled_by before after met stops is = filled (full_by right a before after met stops is).1
+  -- so it is of what was refused as full, behind a build that was counted
+  pub filled_by : (before after : Counts) (met : Refused) → StopsFull right a before after met → kept_of met ≡ kept.Full
+      → IsFilled right a × HasBuilt before after
+  filled_by before after met stops is = let full = full_by right a before after met stops is in (filled full.1, full.0)

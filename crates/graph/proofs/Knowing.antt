@@ -136,20 +136,11 @@ module _ (named named' : List ℕ → Option FnRef) (known known' : FnRef → Bo
 
   pub ready_more : IsReady (record { functions = before; known = known; ids = ids_of right }) parts
       → IsReady (record { functions = after; known = known'; ids = ids_of right' }) parts
-  ready_more h = record {
-    kept = h.kept;
-    laws = laws;
-    fit = fit_lists_given known' right' parts.arena fit';
-    start = h.start;
-    state = h.state;
-    stands = h.stands;
-    entry = entry_same before after known values_same terms_same h.start h.state
-        (λ n r row. all_known n r (subst (λ (G : Graph). G.row n ≡ Some r) h.stands.graph row)) h.entry;
-    inside = h.inside;
-    numbered = h.numbered;
-    todo = h.todo;
-    ran = h.ran;
-  }
+  ready_more h =
+      let fits = fit_lists_given known' right' parts.arena fit' in
+      let entry = entry_same before after known values_same terms_same h.start h.state
+      (λ n r row. all_known n r (subst (λ (G : Graph). G.row n ≡ Some r) h.stands.graph row)) h.entry in
+      search (laws, fits, entry, h)
 
 -- what every graph keeps, it keeps with the further functions
 pub sound_more : (M M' : Meaning) (parts : Parts) (observers : List Observer) (rooted : ℕ) (refused : Option Refused)

@@ -5,7 +5,6 @@ pub mod Seeing
 pub mod Sound
 pub mod Faulting
 pub mod Adding
-pub mod Sounding
 pub mod Stabilizing
 pub mod Rounding
 pub mod Unobserving

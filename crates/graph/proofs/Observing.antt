@@ -1,5 +1,5 @@
 -- The nodes of the observers that are in use.
-use Rattle.std.proofs.Common.{◌≡◌, ◌⊎◌, inl, inr, ℕ, zero, suc, ◌<◌, ◌≤◌, Bool, true, false, cond, List, [], ◌∷◌, ◌++◌, length, map, take, drop, None, Some, refl, sym, ap, subst, ◌∙◌, arith}
+use Rattle.std.proofs.Common.{◌≡◌, inl, inr, ℕ, zero, suc, ◌<◌, ◌≤◌, Bool, true, false, cond, List, [], ◌∷◌, ◌++◌, length, map, take, drop, None, Some, refl, sym, ap, subst, ◌∙◌, arith}
 use Rattle.std.specs.Prelude.{slice_get, slice_set, slice_index_or, All}
 use Rattle.std.proofs.lemmas.Option.{none-some}
 use Rattle.std.proofs.lemmas.List.{map-append, take-append-drop}
@@ -11,6 +11,7 @@ use Rattle.stabilize_round.specs.State.{count}
 use Rattle.stabilize_round.proofs.Points.{count_append}
 use Rattle.graph.specs.Standing.{in_use, looked_at}
 use Rattle.graph.specs.declared.observer.Observer.{Observer}
+use Rattle.inc_terms.proofs.Plan.{among_left, among_right, among_parts}
 
 -- ---- membership
 
@@ -24,22 +25,8 @@ index_among (x ∷ xs) (suc k) d h = inr (index_among xs k d (omega (arith, h)))
 pub all_of : {A : Type 0} (P : A → Type 0) (xs : List A) → ((x : A) → Among x xs → P x) → All P xs
 all_of P xs h k d below = h (slice_index_or xs k d) (index_among xs k d below)
 
-pub among_left : {A : Type 0} (x : A) (xs ys : List A) → Among x xs → Among x (xs ++ ys)
-among_left x [] ys h = absurd h
-among_left x (y ∷ xs) ys (inl e) = inl e
-among_left x (y ∷ xs) ys (inr h) = inr (among_left x xs ys h)
-
-pub among_right : {A : Type 0} (x : A) (xs ys : List A) → Among x ys → Among x (xs ++ ys)
-among_right x [] ys h = h
-among_right x (y ∷ xs) ys h = inr (among_right x xs ys h)
-
-pub among_either : {A : Type 0} (x : A) (xs ys : List A) → Among x (xs ++ ys) → Among x xs ⊎ Among x ys
-among_either x [] ys h = inr h
-among_either x (y ∷ xs) ys (inl e) = inl (inl e)
-among_either x (y ∷ xs) ys (inr h) = elim (among_either x xs ys h) [ inl k ↦ inl (inr k) | inr k ↦ inr k ]
-
 pub among_swapped : {A : Type 0} (x : A) (xs ys : List A) → Among x (xs ++ ys) → Among x (ys ++ xs)
-among_swapped x xs ys h = elim (among_either x xs ys h) [ inl k ↦ among_right x ys xs k | inr k ↦ among_left x ys xs k ]
+among_swapped x xs ys h = elim (among_parts x xs ys h) [ inl k ↦ among_right x ys xs k | inr k ↦ among_left x ys xs k ]
 
 -- a list put together the other way counts the same
 pub count_swapped : (p : Point) (xs ys : List NodeId) → count p (map main (xs ++ ys)) ≡ count p (map main (ys ++ xs))
@@ -146,7 +133,7 @@ front_stays (x ∷ xs) (suc r) zero y h = absurd (omega (arith, h))
 front_stays (x ∷ xs) (suc r) (suc i) y h = ap (λ (ys : List _). x ∷ ys) (front_stays xs r i y (omega (arith, h)))
 
 pub left_is_among : (node n : NodeId) (before after : List NodeId) → IsLeftOut node before after → Among n after → Among n before
-left_is_among node n before after h among = subst (Among n) (sym h.was) (elim (among_either n h.front h.back (subst (Among n) h.now among)) [
+left_is_among node n before after h among = subst (Among n) (sym h.was) (elim (among_parts n h.front h.back (subst (Among n) h.now among)) [
   | inl k ↦ among_left n h.front (node ∷ h.back) k
   | inr k ↦ among_right n h.front (node ∷ h.back) (inr k)
 ])

@@ -1,16 +1,11 @@
 -- Who stands round a node: one walks outward, from scope to scope.
 use Rattle.std.proofs.Common.{◌≡◌, ◌⊎◌, inl, inr, refl, sym, ap, subst, ◌∙◌, Option, None, Some}
-use Rattle.std.specs.Prelude.{IfNone, IsSome, is_some}
+use Rattle.std.specs.Prelude.{IsSome, is_some}
 use Rattle.inc_value.specs.declared.node.NodeId.{NodeId}
 use Rattle.inc_terms.specs.Graph.{Graph, Row}
 use Rattle.inc_terms.specs.Local.{Scoped}
 use Rattle.inc_terms.specs.Rebuild.{Inside, direct, nested}
 use Rattle.graph.specs.Standing.{IsOwner}
-
--- an answer, where there is none
-pub if_none : {T A : Type 0} (x : Option T) → A → IfNone x A
-if_none None a = a
-if_none (Some t) a = tt
 
 no_live : (x : Option Row) → x ≡ None → IsSome x → ⊥
 no_live x gone live = let h = sym (ap is_some gone) ∙ live in cc

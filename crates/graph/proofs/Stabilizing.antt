@@ -24,7 +24,8 @@ use Rattle.wiring.specs.declared.refused.Refused.TheVariants.{Height, Cycle, Ful
 use Rattle.graph.specs.Inside.{CanStabilize}
 use Rattle.graph.specs.Standing.{in_use}
 use Rattle.graph.specs.declared.observer.Observer.{Observer}
-use Rattle.graph.proofs.Observing.{in_use_split, among_swapped, among_right, count_swapped}
+use Rattle.graph.proofs.Observing.{in_use_split, among_swapped, count_swapped}
+use Rattle.inc_terms.proofs.Plan.{among_right}
 
 module _ (F : Functions) (G : Graph) (died : NodeId → Option NodeId) (xs ys : List NodeId) (same : (n : NodeId) → Among n xs → Among n ys) where
   root_as : (n : NodeId) → IsRoot G xs n → IsRoot G ys n
@@ -41,16 +42,7 @@ module _ (F : Functions) (G : Graph) (died : NodeId → Option NodeId) (xs ys : 
 module _ (F : Functions) (G : Graph) (died : NodeId → Option NodeId) (old : Look) (xs ys : List NodeId) (to : (n : NodeId) → Among n xs → Among n ys)
     (back : (n : NodeId) → Among n ys → Among n xs) where
   due_as : (new : Look) (n : NodeId) → WasDueIn F G died old new xs n → WasDueIn F G died old new ys n
-  due_as new n d = record {
-    row = d.row;
-    kids = d.kids;
-    values = d.values;
-    is_row = d.is_row;
-    takes = d.takes;
-    gives = d.gives;
-    reason = d.reason;
-    met = met_as F G died xs ys to (IsNeeded old) (main n) d.met;
-  }
+  due_as new n d = let met : Met F G died ys (IsNeeded old) (main n) = met_as F G died xs ys to (IsNeeded old) (main n) d.met in search (met, d)
 
   pub called_as : (new : Look) (n : NodeId) → WasCalledIn F G died old new xs n → WasCalledIn F G died old new ys n
   unfolding due_as

@@ -3,9 +3,9 @@ use Rattle.std.proofs.Common.{◌≡◌, ◌⊎◌, inl, inr, ℕ, zero, suc, �
 use Rattle.inc_value.specs.declared.function.FnRef.{FnRef}
 use Rattle.inc_value.specs.declared.node.NodeId.{NodeId}
 use Rattle.inc_value.specs.declared.node.Point.{Point}
-use Rattle.inc_value.specs.Choice.{Among, here}
+use Rattle.inc_value.specs.Choice.{Among}
 use Rattle.inc_terms.specs.Depend.{main}
-use Rattle.necessary_graph.specs.Part.{NecessaryPart, Needed}
+use Rattle.necessary_graph.specs.Part.{Needed}
 use Rattle.necessity.specs.Need.{Roots, root_times}
 use Rattle.point_map.specs.Rows.{at}
 use Rattle.inc_terms.specs.Graph.{Row}
@@ -28,10 +28,7 @@ use Rattle.graph.specs.declared.observer.Observer.{Observer}
 use Rattle.graph.proofs.Sound.{can_still, ready_built}
 use Rattle.graph.proofs.Unobserving.{mains_among}
 use Rattle.graph.proofs.Needing.{needed_root, needed_linked, needed_has}
-
--- a root is needed
-root_is_needed : (g : NecessaryPart) (p : Point) → 0 < root_times g.roots p → Needed g p
-root_is_needed g p is = record { root = p; is_root = is; leads = here }
+use Rattle.necessary_graph.proofs.Reaching.{root_needed}
 
 -- observed nodes are older than a count where all that is needed is
 young_roots : (work : Work) (nodes : List NodeId) (count : ℕ) → AreRooted work nodes → ((p : Point) → Needed work.graph p → p.node.gen_ < count)
@@ -39,7 +36,7 @@ young_roots : (work : Work) (nodes : List NodeId) (count : ℕ) → AreRooted wo
 young_roots work nodes count roots low n among =
     let r = roots (main n) in
     let c = among_count (main n) (map main nodes) (mains_among n nodes among) in
-    low (main n) (root_is_needed work.graph (main n) (omega (arith, r, c)))
+    low (main n) (root_needed work.graph (main n) (omega (arith, r, c)))
 
 -- ---- what is kept then
 

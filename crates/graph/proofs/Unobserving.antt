@@ -23,7 +23,8 @@ use Rattle.graph.specs.Standing.{in_use, looked_at}
 use Rattle.graph.specs.Inside.{FitsInside}
 use Rattle.graph.specs.declared.observer.Observer.{Observer}
 use Rattle.graph.proofs.Sound.{ready_built}
-use Rattle.graph.proofs.Observing.{IsLeftOut, ended, left_out, left_is_among, front_set, front_stays, front_same, in_use_append, among_either}
+use Rattle.graph.proofs.Observing.{IsLeftOut, ended, left_out, left_is_among, front_set, front_stays, front_same, in_use_append}
+use Rattle.inc_terms.proofs.Plan.{among_parts}
 
 abbrev pub observing : NodeId → Observer
 observing node = record { node = node; in_use = true }
@@ -44,7 +45,7 @@ module _ (M : Meaning) (parts : Parts) (observers : List Observer) (rooted : ℕ
         record {
           ready = can.ready;
           roots = subst (λ (os : List Observer). AreRooted parts.work (in_use os)) (sym front) can.roots;
-          given = λ n among. elim (among_either n (in_use observers) (node ∷ []) (subst (Among n) (in_use_append observers (observing node ∷ [])) among)) [
+          given = λ n among. elim (among_parts n (in_use observers) (node ∷ []) (subst (Among n) (in_use_append observers (observing node ∷ [])) among)) [
             | inl k ↦ can.given n k
             | inr k ↦ elim k [ inl e ↦ subst (Given parts.arena.given) (sym e) given | inr none ↦ absurd none ]
           ];

@@ -1,5 +1,6 @@
 -- What a stabilize does.
-use Rattle.std.specs.Prelude.{◌≡◌, ℕ, length, Option, None, Some}
+use Rattle.std.specs.Prelude.{◌≡◌, ◌⊎◌, ℕ, length, Option, None, Some, Result, Ok, Err}
+use Rattle.inc_value.specs.Counts.{raised}
 use Rattle.inc_value.specs.declared.node.NodeId.{NodeId}
 use Rattle.inc_value.specs.declared.node.ObsId.{ObsId}
 use Rattle.inc_value.specs.declared.outcome.Outcome.{Outcome}
@@ -18,6 +19,14 @@ use Rattle.wiring.specs.declared.refused.Refused.{Refused}
 use Rattle.graph.specs.Fault.{kept_of}
 use Rattle.graph.specs.Standing.{GraphView, look, graph, in_use, node_at, shown_of, cutoff_of, IsUnbroken}
 use Rattle.graph.specs.declared.fault.Kept.{Kept}
+use Rattle.graph.specs.declared.fault.Kept.TheVariants as kept
+use Rattle.graph.specs.declared.fault.StabilizeFault.{StabilizeFault}
+use Rattle.graph.specs.declared.fault.StabilizeFault.TheVariants as fault
+
+-- the count of calls that found no memory: it stays, but that one which finds none refuses the stabilize as want of memory, and is counted
+abbrev pub WantsTell : {T : Type 0} → Result T StabilizeFault → ℕ → ℕ → Type 0
+WantsTell (Ok v) old new = new ≡ old
+WantsTell (Err e) old new = (new ≡ old) ⊎ ((e ≡ fault.Refused kept.Memory) × (new ≡ raised old))
 
 module _ {F : Type 0} where
   -- the graph that a stabilize left, as it read it: a freeze that got its value still follows its child

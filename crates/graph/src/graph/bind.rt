@@ -41,7 +41,8 @@ impl<F: Functions> Graph<F> {
     }
 
     /// Keeps one more function beside the others, and gives its name. Functions that were known stay so and mean what they
-    /// meant; what else stays, the functions tell by themselves. A refused call hands the function back, and changes nothing.
+    /// meant; what else stays, the functions tell by themselves. A refused call hands the function back and makes none known.
+    /// A broken graph stays as it is.
     pub fn more(&mut self, function: F::More) -> Result<FnRef, (GraphFault, F::More)>
         requires keepable { IsKeepable (F.known self.old.functions) (F.right self.old.functions)
             (F.brings function).kind (F.brings function).sig (F.brings function).side }
@@ -56,6 +57,7 @@ impl<F: Functions> Graph<F> {
             (F.right self.old.functions) (F.right self.new.functions) }
         ensures keeps { IsUnbroken self.old → F.keeps self.old.functions self.new.functions }
         ensures unbroken { OnOk result (IsUnbroken self.old) }
+        ensures stays { (cause : ACause) → IsBroken self.old cause → self.new ≡ self.old }
         ensures room { OnOk result ((F.tally self.old.functions).taken < (F.tally self.old.functions).most) }
         ensures no_more { OnErr result ((f : AFunction) → F.known self.new.functions f ≡ F.known self.old.functions f) }
         ensures tally { F.tally self.new.functions ≡ one_taken result (F.tally self.old.functions) }

@@ -1,20 +1,16 @@
 //! One call that brings what is observed up to date.
-ghost use Rattle.std.specs.Prelude.{◌≡◌, ◌⊎◌, ◌↔◌, None, Some, OnOk, OnErr, IsErrOf, ◌≤◌, ◌+◌};
-ghost use Rattle.inc_value.specs.Counts.{raised};
+ghost use Rattle.std.specs.Prelude.{◌≡◌, ◌↔◌, None, OnOk, IsErrOf, ◌≤◌, ◌+◌};
 ghost use Rattle.inc_value.specs.declared.node.NodeId.{NodeId};
 ghost use Rattle.node_arena.specs.Arena.{live};
-ghost use Rattle.node_arena.specs.Meanings.{SameNames, SameKnown, SameValues};
-ghost use Rattle.node_arena.specs.RightSide.{SameSides};
 ghost use Rattle.stabilize_round.specs.Calling.{costs_of};
 ghost use Rattle.stabilize_round.specs.Counts.{RoseBy};
 ghost use Rattle.stabilize_round.specs.Runs.{BuildsFew};
 ghost use Rattle.stabilizer.specs.Giving.{HasBuilt};
 ghost use Rattle.node_outcomes.specs.Meaning.{functions_of};
-ghost use Rattle.stabilizer.specs.Kept.{counts_by};
-ghost use Rattle.stabilizer.specs.Kept.{HasNoBinds};
+ghost use Rattle.stabilizer.specs.Kept.{HasNoBinds, KeepsMeaning, counts_by};
 ghost use Rattle.graph.specs.Few.{IdsAreFew, IsFilled};
 ghost use Rattle.graph.specs.Standing.{IsBroken, IsUnbroken, graph};
-ghost use Rattle.graph.specs.Stabilizes.{Stabilizes, IsRefusedFor, HasCalledMet, LeavesNodes, left_by};
+ghost use Rattle.graph.specs.Stabilizes.{Stabilizes, IsRefusedFor, HasCalledMet, LeavesNodes, WantsTell, left_by};
 ghost use Rattle.graph.specs.declared.fault.Kept.{Kept as ACause};
 ghost use Rattle.graph.specs.declared.fault.Kept.TheVariants as kept;
 
@@ -54,23 +50,14 @@ impl<F: Functions> Graph<F> {
             (graph self.new) None (counts_by F.Functions self.old.functions).builds
             (counts_by F.Functions self.new.functions).builds) }
         ensures ids { IdsAreFew (F.right self.new.functions) self.old.nodes.given self.new.nodes }
-        ensures full { IsErrOf result (StabilizeFault.Refused kept.Full) → IsFilled (F.right self.new.functions) self.new.nodes }
-        ensures rose { IsErrOf result (StabilizeFault.Refused kept.Full)
-            → HasBuilt (counts_by F.Functions self.old.functions) (counts_by F.Functions self.new.functions) }
+        ensures full { IsErrOf result (StabilizeFault.Refused kept.Full) → IsFilled (F.right self.new.functions) self.new.nodes
+            × HasBuilt (counts_by F.Functions self.old.functions) (counts_by F.Functions self.new.functions) }
         ensures lives { OnOk result (self.new.nodes.given ≤ self.old.nodes.given + live self.new.nodes) }
         ensures flat { HasNoBinds self.old.nodes → self.new.nodes ≡ self.old.nodes }
         ensures calls_grow { F.calls self.old.functions ≤ F.calls self.new.functions }
-        ensures wants { OnOk result (F.wants self.new.functions ≡ F.wants self.old.functions) }
-        ensures wanted { OnErr result ((F.wants self.new.functions ≡ F.wants self.old.functions)
-            ⊎ (IsErrOf result (StabilizeFault.Refused kept.Memory)
-            × (F.wants self.new.functions ≡ raised (F.wants self.old.functions)))) }
-        ensures taken { (F.tally self.new.functions).taken ≡ (F.tally self.old.functions).taken }
-        ensures most { (F.tally self.new.functions).most ≡ (F.tally self.old.functions).most }
+        ensures wants { WantsTell result (F.wants self.old.functions) (F.wants self.new.functions) }
         ensures unchanged { (cause : ACause) → IsErrOf result (StabilizeFault.Broken cause) → self.new ≡ self.old }
-        ensures names { SameNames (F.named self.old.functions) (F.named self.new.functions) }
-        ensures known { SameKnown (F.known self.old.functions) (F.known self.new.functions) }
-        ensures values { SameValues (F.value self.old.functions) (F.value self.new.functions) }
-        ensures sides { SameSides (F.right self.old.functions) (F.right self.new.functions) }
+        ensures functions { KeepsMeaning F.Functions self.old.functions self.new.functions }
     {
         if let Some(cause) = self.cause() {
             return Err(StabilizeFault::Broken(cause));

@@ -8,7 +8,7 @@ use Rattle.inc_terms.specs.Within.{Given}
 use Rattle.node_outcomes.specs.Row.{outcome_in}
 use Rattle.graph.proofs.Adding.{Passes, answers_as}
 use Rattle.graph.proofs.Seeing.{beside_as, built_still}
-use Rattle.graph.proofs.Sounding.{AddAnswers, adds_of, sound_still, answer_ready, answer_given, answer_fit}
+use Rattle.graph.proofs.Sound.{AddAnswers, adds_of, sound_still, answer_ready, answer_given, answer_fit}
 use Rattle.graph.proofs.graph.Graph.add.Goals as goal
 use Rattle.graph.proofs.graph.Graph.add.Goals.{in-Ok-added, in-Err-added}
 

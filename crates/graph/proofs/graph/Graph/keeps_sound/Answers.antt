@@ -5,17 +5,15 @@ use Rattle.graph.proofs.Nesting.{scopes_few}
 use Rattle.graph.proofs.Sound.{sound_of}
 use Rattle.graph.proofs.graph.Graph.keeps_sound.Goals as goal
 
-pub returns-clause-sound : goal.returns-clause-sound
-returns-clause-sound g c = rw (← c.self.view_is) (sound_of c.self.inside.functions (meaning_of g.F.Functions c.self.inside.functions)
-    c.self.inside.parts c.self.inside.observers.items c.self.inside.rooted c.self.inside.refused c.self.invariant.1)
-
-pub returns-clause-dead : goal.returns-clause-dead
-returns-clause-dead g c = rw (← c.self.view_is) (dead_equal c.self.inside.parts.arena c.self.inside.parts.work c.self.invariant.1.kept.work)
-
-pub returns-clause-few : goal.returns-clause-few
-returns-clause-few g c = rw (← c.self.view_is) (few_live (g.F.Functions.right c.self.inside.functions) c.self.inside.parts.arena
-    c.self.invariant.3.scopes c.self.invariant.1.kept.work.scopes)
-
-pub returns-clause-scopes : goal.returns-clause-scopes
-returns-clause-scopes g c = rw (← c.self.view_is) (scopes_few (g.F.Functions.right c.self.inside.functions) c.self.inside.parts.arena
-    c.self.inside.parts.work c.self.invariant.3.scopes c.self.invariant.1.kept.work)
+pub returns : goal.returns
+returns g c =
+    let inside = c.self.inside in
+    let fits = c.self.invariant.1 in
+    let right = g.F.Functions.right inside.functions in
+    rw (← c.self.view_is) (record {
+      sound = sound_of inside.functions (meaning_of g.F.Functions inside.functions) inside.parts inside.observers.items inside.rooted inside.refused fits;
+      functions = c.self.invariant.2;
+      few = few_live right inside.parts.arena c.self.invariant.3.scopes fits.kept.work.scopes;
+      scopes = scopes_few right inside.parts.arena inside.parts.work c.self.invariant.3.scopes fits.kept.work;
+      dead = dead_equal inside.parts.arena inside.parts.work fits.kept.work;
+    })

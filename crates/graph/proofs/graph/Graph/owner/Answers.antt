@@ -1,8 +1,9 @@
 use Rattle.std.proofs.Common.{sym}
 use Rattle.node_arena.specs.Arena.{row_of}
 use Rattle.wiring.specs.Graph.{graph_at}
-use Rattle.graph.proofs.Owning.{begins, further, was_dead, is_owner, if_none}
+use Rattle.graph.proofs.Owning.{begins, further, was_dead, is_owner}
 use Rattle.graph.proofs.graph.Graph.owner.Goals as goal
+use Rattle.link_table.proofs.Lists.{if_none}
 
 pub loop-bind-init : goal.loop-bind-init
 loop-bind-init g c = begins _ c.args.node

@@ -13,7 +13,7 @@ use Rattle.inc_terms.specs.Within.{Given}
 use Rattle.node_outcomes.specs.Row.{cutoff_in}
 use Rattle.graph.proofs.Seeing.{beside_as, built_set}
 use Rattle.graph.proofs.Fitting.{set_answer_fit}
-use Rattle.graph.proofs.Sounding.{sound_still}
+use Rattle.graph.proofs.Sound.{sound_still}
 use Rattle.graph.proofs.graph.Graph.set_var.Goals as goal
 use Rattle.graph.proofs.graph.Graph.set_var.Goals.{in-Ok-set_var, in-Err-set_var}
 

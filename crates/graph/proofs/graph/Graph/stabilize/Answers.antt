@@ -9,7 +9,7 @@ use Rattle.graph.specs.Inside.{CanStabilize}
 use Rattle.graph.specs.Standing.{in_use}
 use Rattle.stabilizer.specs.Kept.{graph_in, counts_by}
 use Rattle.stabilizer.proofs.Step.Giving.{live_few, gives_few}
-use Rattle.stabilizer.proofs.Step.MeaningKept.{means_still}
+use Rattle.stabilizer.proofs.Step.MeaningKept.{means_still, nothing_meant}
 use Rattle.wiring.specs.declared.refused.Refused.TheVariants.{Memory}
 use Rattle.graph.proofs.Observing.{all_of}
 use Rattle.graph.proofs.Sound.{ready_built}
@@ -116,12 +116,28 @@ returns-in-Err-ended-clause-ids g c =
 
 pub returns-in-Err-ended-clause-full : goal.returns-in-Err-ended-clause-full
 returns-in-Err-ended-clause-full g c is =
-    filled_by (g.F.Functions.right c.run-ended.new.functions) c.run-ended.new.parts.arena c.run-ended.ensures.leaves.fit.scopes
+    rw (← c.self.view_is) (filled_by (g.F.Functions.right c.run-ended.new.functions) c.run-ended.new.parts.arena c.run-ended.ensures.leaves.fit.scopes
     c.in-Err-ended.ensures.refused.kept.work.scopes (counts_by g.F.Functions c.self.inside.functions) (counts_by g.F.Functions c.run-ended.new.functions)
-    c.in-Err-ended.refused c.in-Err-ended.ensures.refused.full (let e = c.cause_of-cause.ensures in cc)
+    c.in-Err-ended.refused c.in-Err-ended.ensures.refused.full (let e = c.cause_of-cause.ensures in cc))
 
 pub returns-in-Err-ended-clause-flat : goal.returns-in-Err-ended-clause-flat
 returns-in-Err-ended-clause-flat g c no_binds = rw (← c.self.view_is) (c.run-ended.ensures.leaves.flat (rw (← c.self.view_is) at no_binds))
+
+-- ---- functions mean what they meant
+
+pub returns-in-Some-clause-functions : goal.returns-in-Some-clause-functions
+returns-in-Some-clause-functions g c = rw (← c.self.view_is) (nothing_meant g.F.Functions c.self.inside.functions c.self.invariant.2)
+
+pub returns-in-Err-clause-functions : goal.returns-in-Err-clause-functions
+returns-in-Err-clause-functions g c = rw (← c.self.view_is) (nothing_meant g.F.Functions c.self.inside.functions c.self.invariant.2)
+
+pub returns-in-Ok-ended-clause-functions : goal.returns-in-Ok-ended-clause-functions
+returns-in-Ok-ended-clause-functions g c = rw (← c.self.view_is) c.run-ended.ensures.leaves.functions
+
+pub returns-in-Err-ended-clause-functions : goal.returns-in-Err-ended-clause-functions
+returns-in-Err-ended-clause-functions g c = rw (← c.self.view_is) c.run-ended.ensures.leaves.functions
+
+-- ---- what the graph keeps
 
 pub invariant_of-self-in-Ok-ended : goal.invariant_of-self-in-Ok-ended
 invariant_of-self-in-Ok-ended g c =

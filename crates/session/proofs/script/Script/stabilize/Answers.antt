@@ -14,15 +14,17 @@ use Rattle.session.proofs.script.Script.stabilize.Goals as goal
 
 pub invariant_of-self : goal.invariant_of-self
 invariant_of-self g c =
+    let same = c.stabilize-stabilized.ensures.functions.same in
     let done = c.in-Ok.ensures.brought in
     let unbroken = rw (← c.self.view_is) at c.requires.unbroken in
     kept_sound _ _ _ _ c.self.inside.graph c.stabilize-stabilized.new.self
-    (g.L.Library.value c.self.inside.graph.functions.library) _ _ c.self.invariant refl c.stabilize-stabilized.ensures.known
-    c.stabilize-stabilized.ensures.sides c.keeps_sound.ensures.sound.nodes done.stays (c.stabilize-stabilized.ensures.left (c.self.invariant.unbroken unbroken))
+    (g.L.Library.value c.self.inside.graph.functions.library) _ _ c.self.invariant refl same.known
+    same.sides c.keeps_sound.ensures.sound.nodes done.stays (c.stabilize-stabilized.ensures.left (c.self.invariant.unbroken unbroken))
     done.observers _ _ (λ whole. done.unbroken)
 
 pub returns-in-Ok : goal.returns-in-Ok
 returns-in-Ok g c =
+    let same = c.stabilize-stabilized.ensures.functions.same in
     let done = c.in-Ok.ensures.brought in
     let l = c.self.inside.graph.functions.library in
     let new = c.stabilize-stabilized.new.self in
@@ -32,8 +34,8 @@ returns-in-Ok g c =
     let left = c.stabilize-stabilized.ensures.left (c.self.invariant.unbroken unbroken) in
     rw (← c.self.view_is) (ends_accepted g.L.Library.named g.L.Library.value g.L.Library.known g.L.Library.calls l new.functions.library
     c.self.inside.graph.functions.builds new.functions.builds _ new.functions.bodies.items c.self.inside.graph new _ _ c.self.invariant refl
-    c.stabilize-stabilized.ensures.known c.stabilize-stabilized.ensures.sides done.stays left done.observers unbroken _ _
-    c.keeps_sound.ensures.sound refl c.keeps_sound-2.ensures.sound refl c.stabilize-stabilized.ensures.names c.stabilize-stabilized.ensures.values
+    same.known same.sides done.stays left done.observers unbroken _ _
+    c.keeps_sound.ensures.sound refl c.keeps_sound-2.ensures.sound refl same.names same.values
     (g.met.L.Library.maps_alone l) c.stabilize-stabilized.ensures.ids c.stabilize-stabilized.ensures.calls_grow
     (not_fallen c.self.inside.graph.functions.builds new.functions.builds few_builds left.builds.1.count.kept)
     (λ sessions m stands. session_accepted (g.L.Library.named l) (g.L.Library.value l) _ c.self.inside.graph new sessions done c.keeps_sound-2.ensures.dead
@@ -46,17 +48,19 @@ deep_owner-requires-clause-targets g c = have_targets _ c.self.invariant
 
 pub invariant_of-self-in-Some : goal.invariant_of-self-in-Some
 invariant_of-self-in-Some g c =
+    let same = c.stabilize-stabilized.ensures.functions.same in
     let h = c.in-Err-Refused-Height in
     let for = refused_for h.is (rw h.is at h.field-0-is) (rw (rw h.is at h.field-0-is) at (rw h.is at h.field-0-0-is)) in
     let done = c.stabilize-stabilized.ensures.refused cause.Height for in
     let unbroken = rw (← c.self.view_is) at c.requires.unbroken in
     kept_sound _ _ _ _ c.self.inside.graph c.stabilize-stabilized.new.self
-    (g.L.Library.value c.self.inside.graph.functions.library) _ _ c.self.invariant refl c.stabilize-stabilized.ensures.known
-    c.stabilize-stabilized.ensures.sides c.keeps_sound.ensures.sound.nodes done.stays (c.stabilize-stabilized.ensures.left (c.self.invariant.unbroken unbroken))
+    (g.L.Library.value c.self.inside.graph.functions.library) _ _ c.self.invariant refl same.known
+    same.sides c.keeps_sound.ensures.sound.nodes done.stays (c.stabilize-stabilized.ensures.left (c.self.invariant.unbroken unbroken))
     done.observers _ _ (λ whole. absurd (cc))
 
 pub returns-in-Some : goal.returns-in-Some
 returns-in-Some g c =
+    let same = c.stabilize-stabilized.ensures.functions.same in
     let h = c.in-Err-Refused-Height in
     let for = refused_for h.is (rw h.is at h.field-0-is) (rw (rw h.is at h.field-0-is) at (rw h.is at h.field-0-0-is)) in
     let done = c.stabilize-stabilized.ensures.refused cause.Height for in
@@ -68,8 +72,8 @@ returns-in-Some g c =
     let left = c.stabilize-stabilized.ensures.left (c.self.invariant.unbroken unbroken) in
     rw (← c.self.view_is) (ends_too_deep g.L.Library.named g.L.Library.value g.L.Library.known g.L.Library.calls l new.functions.library
     c.self.inside.graph.functions.builds new.functions.builds _ new.functions.bodies.items c.self.inside.graph new _ _ c.self.invariant refl
-    c.stabilize-stabilized.ensures.known c.stabilize-stabilized.ensures.sides done.stays left done.observers unbroken _ _
-    c.keeps_sound.ensures.sound refl c.keeps_sound-2.ensures.sound refl c.stabilize-stabilized.ensures.names c.stabilize-stabilized.ensures.values
+    same.known same.sides done.stays left done.observers unbroken _ _
+    c.keeps_sound.ensures.sound refl c.keeps_sound-2.ensures.sound refl same.names same.values
     (g.met.L.Library.maps_alone l) c.stabilize-stabilized.ensures.ids c.stabilize-stabilized.ensures.calls_grow
     (not_fallen c.self.inside.graph.functions.builds new.functions.builds few_builds left.builds.1.count.kept) c.in-Some.target done (c.stabilize-stabilized.ensures.few cause.Height for) c.in-Some.ensures.found c.in-Some.ensures.within)
 
@@ -77,17 +81,19 @@ returns-in-Some g c =
 
 pub invariant_of-self-in-None : goal.invariant_of-self-in-None
 invariant_of-self-in-None g c =
+    let same = c.stabilize-stabilized.ensures.functions.same in
     let h = c.in-Err-Refused-Height in
     let for = refused_for h.is (rw h.is at h.field-0-is) (rw (rw h.is at h.field-0-is) at (rw h.is at h.field-0-0-is)) in
     let done = c.stabilize-stabilized.ensures.refused cause.Height for in
     let unbroken = rw (← c.self.view_is) at c.requires.unbroken in
     kept_sound _ _ _ _ c.self.inside.graph c.stabilize-stabilized.new.self
-    (g.L.Library.value c.self.inside.graph.functions.library) _ _ c.self.invariant refl c.stabilize-stabilized.ensures.known
-    c.stabilize-stabilized.ensures.sides c.keeps_sound.ensures.sound.nodes done.stays (c.stabilize-stabilized.ensures.left (c.self.invariant.unbroken unbroken))
+    (g.L.Library.value c.self.inside.graph.functions.library) _ _ c.self.invariant refl same.known
+    same.sides c.keeps_sound.ensures.sound.nodes done.stays (c.stabilize-stabilized.ensures.left (c.self.invariant.unbroken unbroken))
     done.observers _ _ (λ whole. absurd (cc))
 
 pub returns-in-None : goal.returns-in-None
 returns-in-None g c =
+    let same = c.stabilize-stabilized.ensures.functions.same in
     let h = c.in-Err-Refused-Height in
     let for = refused_for h.is (rw h.is at h.field-0-is) (rw (rw h.is at h.field-0-is) at (rw h.is at h.field-0-0-is)) in
     let done = c.stabilize-stabilized.ensures.refused cause.Height for in
@@ -99,8 +105,8 @@ returns-in-None g c =
     let left = c.stabilize-stabilized.ensures.left (c.self.invariant.unbroken unbroken) in
     rw (← c.self.view_is) (ends_untold g.L.Library.named g.L.Library.value g.L.Library.known g.L.Library.calls l new.functions.library
     c.self.inside.graph.functions.builds new.functions.builds _ new.functions.bodies.items c.self.inside.graph new _ _ c.self.invariant refl
-    c.stabilize-stabilized.ensures.known c.stabilize-stabilized.ensures.sides done.stays left done.observers unbroken _ _
-    c.keeps_sound.ensures.sound refl c.keeps_sound-2.ensures.sound refl c.stabilize-stabilized.ensures.names c.stabilize-stabilized.ensures.values
+    same.known same.sides done.stays left done.observers unbroken _ _
+    c.keeps_sound.ensures.sound refl c.keeps_sound-2.ensures.sound refl same.names same.values
     (g.met.L.Library.maps_alone l) c.stabilize-stabilized.ensures.ids c.stabilize-stabilized.ensures.calls_grow
     (not_fallen c.self.inside.graph.functions.builds new.functions.builds few_builds left.builds.1.count.kept) _ done (c.stabilize-stabilized.ensures.few cause.Height for) c.in-None.ensures.none)
 
@@ -108,17 +114,19 @@ returns-in-None g c =
 
 pub invariant_of-self-in-Err-Refused-Memory : goal.invariant_of-self-in-Err-Refused-Memory
 invariant_of-self-in-Err-Refused-Memory g c =
+    let same = c.stabilize-stabilized.ensures.functions.same in
     let h = c.in-Err-Refused-Memory in
     let for = refused_for h.is (rw h.is at h.field-0-is) (rw (rw h.is at h.field-0-is) at (rw h.is at h.field-0-0-is)) in
     let done = c.stabilize-stabilized.ensures.refused cause.Memory for in
     let unbroken = rw (← c.self.view_is) at c.requires.unbroken in
     kept_sound _ _ _ _ c.self.inside.graph c.stabilize-stabilized.new.self
-    (g.L.Library.value c.self.inside.graph.functions.library) _ _ c.self.invariant refl c.stabilize-stabilized.ensures.known
-    c.stabilize-stabilized.ensures.sides c.keeps_sound.ensures.sound.nodes done.stays (c.stabilize-stabilized.ensures.left (c.self.invariant.unbroken unbroken))
+    (g.L.Library.value c.self.inside.graph.functions.library) _ _ c.self.invariant refl same.known
+    same.sides c.keeps_sound.ensures.sound.nodes done.stays (c.stabilize-stabilized.ensures.left (c.self.invariant.unbroken unbroken))
     done.observers _ _ (λ whole. absurd (cc))
 
 pub returns-in-Err-Refused-Memory : goal.returns-in-Err-Refused-Memory
 returns-in-Err-Refused-Memory g c =
+    let same = c.stabilize-stabilized.ensures.functions.same in
     let h = c.in-Err-Refused-Memory in
     let for = refused_for h.is (rw h.is at h.field-0-is) (rw (rw h.is at h.field-0-is) at (rw h.is at h.field-0-0-is)) in
     let done = c.stabilize-stabilized.ensures.refused cause.Memory for in
@@ -130,8 +138,8 @@ returns-in-Err-Refused-Memory g c =
     let left = c.stabilize-stabilized.ensures.left (c.self.invariant.unbroken unbroken) in
     rw (← c.self.view_is) (ends_for_memory g.L.Library.named g.L.Library.value g.L.Library.known g.L.Library.calls l new.functions.library
     c.self.inside.graph.functions.builds new.functions.builds _ new.functions.bodies.items c.self.inside.graph new _ _ c.self.invariant refl
-    c.stabilize-stabilized.ensures.known c.stabilize-stabilized.ensures.sides done.stays left done.observers unbroken _ _
-    c.keeps_sound.ensures.sound refl c.keeps_sound-2.ensures.sound refl c.stabilize-stabilized.ensures.names c.stabilize-stabilized.ensures.values
+    same.known same.sides done.stays left done.observers unbroken _ _
+    c.keeps_sound.ensures.sound refl c.keeps_sound-2.ensures.sound refl same.names same.values
     (g.met.L.Library.maps_alone l) c.stabilize-stabilized.ensures.ids c.stabilize-stabilized.ensures.calls_grow
     (not_fallen c.self.inside.graph.functions.builds new.functions.builds few_builds left.builds.1.count.kept) _ done (c.stabilize-stabilized.ensures.few cause.Memory for))
 
@@ -139,17 +147,19 @@ returns-in-Err-Refused-Memory g c =
 
 pub invariant_of-self-in-Err-Refused-Cycle : goal.invariant_of-self-in-Err-Refused-Cycle
 invariant_of-self-in-Err-Refused-Cycle g c =
+    let same = c.stabilize-stabilized.ensures.functions.same in
     let h = c.in-Err-Refused-Cycle in
     let for = refused_for h.is (rw h.is at h.field-0-is) (rw (rw h.is at h.field-0-is) at (rw h.is at h.field-0-0-is)) in
     let done = c.stabilize-stabilized.ensures.refused cause.Cycle for in
     let unbroken = rw (← c.self.view_is) at c.requires.unbroken in
     kept_sound _ _ _ _ c.self.inside.graph c.stabilize-stabilized.new.self
-    (g.L.Library.value c.self.inside.graph.functions.library) _ _ c.self.invariant refl c.stabilize-stabilized.ensures.known
-    c.stabilize-stabilized.ensures.sides c.keeps_sound.ensures.sound.nodes done.stays (c.stabilize-stabilized.ensures.left (c.self.invariant.unbroken unbroken))
+    (g.L.Library.value c.self.inside.graph.functions.library) _ _ c.self.invariant refl same.known
+    same.sides c.keeps_sound.ensures.sound.nodes done.stays (c.stabilize-stabilized.ensures.left (c.self.invariant.unbroken unbroken))
     done.observers _ _ (λ whole. absurd (cc))
 
 pub returns-in-Err-Refused-Cycle : goal.returns-in-Err-Refused-Cycle
 returns-in-Err-Refused-Cycle g c =
+    let same = c.stabilize-stabilized.ensures.functions.same in
     let h = c.in-Err-Refused-Cycle in
     let for = refused_for h.is (rw h.is at h.field-0-is) (rw (rw h.is at h.field-0-is) at (rw h.is at h.field-0-0-is)) in
     let done = c.stabilize-stabilized.ensures.refused cause.Cycle for in
@@ -161,8 +171,8 @@ returns-in-Err-Refused-Cycle g c =
     let left = c.stabilize-stabilized.ensures.left (c.self.invariant.unbroken unbroken) in
     rw (← c.self.view_is) (ends_circular g.L.Library.named g.L.Library.value g.L.Library.known g.L.Library.calls l new.functions.library
     c.self.inside.graph.functions.builds new.functions.builds _ new.functions.bodies.items c.self.inside.graph new _ _ c.self.invariant refl
-    c.stabilize-stabilized.ensures.known c.stabilize-stabilized.ensures.sides done.stays left done.observers unbroken _ _
-    c.keeps_sound.ensures.sound refl c.keeps_sound-2.ensures.sound refl c.stabilize-stabilized.ensures.names c.stabilize-stabilized.ensures.values
+    same.known same.sides done.stays left done.observers unbroken _ _
+    c.keeps_sound.ensures.sound refl c.keeps_sound-2.ensures.sound refl same.names same.values
     (g.met.L.Library.maps_alone l) c.stabilize-stabilized.ensures.ids c.stabilize-stabilized.ensures.calls_grow
     (not_fallen c.self.inside.graph.functions.builds new.functions.builds few_builds left.builds.1.count.kept) done (c.stabilize-stabilized.ensures.few cause.Cycle for))
 
@@ -170,17 +180,18 @@ returns-in-Err-Refused-Cycle g c =
 
 pub unreachable-requires : goal.unreachable-requires
 unreachable-requires g c =
+    let same = c.stabilize-stabilized.ensures.functions.same in
     let h = c.in-Err-Refused-Full in
     let for = refused_for h.is (rw h.is at h.field-0-is) (rw (rw h.is at h.field-0-is) at (rw h.is at h.field-0-0-is)) in
     let done = c.stabilize-stabilized.ensures.refused cause.Full for in
     let r = rw (← c.self.view_is) at c.requires in
     let few = kept_few _ _ _ _ c.self.inside.graph c.stabilize-stabilized.new.self
-    (g.L.Library.value c.self.inside.graph.functions.library) _ _ c.self.invariant refl c.stabilize-stabilized.ensures.known
-    c.stabilize-stabilized.ensures.sides c.keeps_sound.ensures.sound.nodes done.stays
+    (g.L.Library.value c.self.inside.graph.functions.library) _ _ c.self.invariant refl same.known
+    same.sides c.keeps_sound.ensures.sound.nodes done.stays
     (c.stabilize-stabilized.ensures.left (c.self.invariant.unbroken r.unbroken)) done.observers in
     let given = gives_few _ _ _ few _ c.stabilize-stabilized.ensures.ids in
     let ids = r.ids in
-    never_full _ _ _ few (c.stabilize-stabilized.ensures.full for) (omega (arith, given, ids))
+    never_full _ _ _ few (c.stabilize-stabilized.ensures.full for).0 (omega (arith, given, ids))
 
 pub unreachable-requires-in-Err-Broken : goal.unreachable-requires-in-Err-Broken
 unreachable-requires-in-Err-Broken g c =
