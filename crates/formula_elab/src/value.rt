@@ -1,5 +1,7 @@
 //! Values of commands in a graph.
-ghost use Rattle.std.specs.Prelude.{◌≡◌, ◌<◌, length, IfOk};
+ghost use Rattle.std.specs.Prelude.{◌≡◌, ◌≢◌, ◌<◌, length, IfOk, IsOk};
+ghost use Rattle.inc_value.specs.Value.{type_of};
+ghost use Rattle.inc_value.specs.declared.ty.Ty.TheVariants.{Text};
 ghost use Rattle.formula_lang.specs.CommandView.{constant_view};
 ghost use Rattle.script_model.specs.Leaves.{EveryReference};
 ghost use Rattle.formula_elab.specs.Opened.{node_at};
@@ -13,7 +15,8 @@ use std::alloc::{AllocError, Global};
 /// is one to its node. Only a text needs memory.
 pub fn value_of(alloc: Global, constant: &Constant, ids: &[NodeId]) -> Result<Value, AllocError>
     requires names { EveryReference (λ n. n < length ids.now) (constant_view constant.now) }
-    ensures { IfOk result (λ value. value ≡ graph_value (node_at ids.now) (constant_view constant.now)) }
+    ensures value { IfOk result (λ value. value ≡ graph_value (node_at ids.now) (constant_view constant.now)) }
+    ensures scalar { type_of (graph_value (node_at ids.now) (constant_view constant.now)) ≢ Text → IsOk result }
 {
     Ok(match constant {
         Constant::Int(number) => Value::Int(*number),

@@ -17,25 +17,25 @@ value_of-requires g c =
 pub assign-requires-clause-variable : goal.assign-requires-clause-variable
 assign-requires-clause-variable g c =
     let fits = rw (← c.self.view_is) at c.requires.fits in
-    let value = rw c.as_slice.ensures at c.in-Ok.ensures in
+    let value = rw c.as_slice.ensures at c.in-Ok.ensures.value in
     (node_takes _ c.self.invariant c.args.target _ fits c.keeps_sound.ensures.sound.nodes _ value c.at.result c.at.ensures).variable
 
 pub assign-requires-clause-given : goal.assign-requires-clause-given
 assign-requires-clause-given g c =
     let fits = rw (← c.self.view_is) at c.requires.fits in
-    let value = rw c.as_slice.ensures at c.in-Ok.ensures in
+    let value = rw c.as_slice.ensures at c.in-Ok.ensures.value in
     (node_takes _ c.self.invariant c.args.target _ fits c.keeps_sound.ensures.sound.nodes _ value c.at.result c.at.ensures).given
 
 pub assign-requires-clause-within : goal.assign-requires-clause-within
 assign-requires-clause-within g c =
     let fits = rw (← c.self.view_is) at c.requires.fits in
-    let value = rw c.as_slice.ensures at c.in-Ok.ensures in
+    let value = rw c.as_slice.ensures at c.in-Ok.ensures.value in
     (node_takes _ c.self.invariant c.args.target _ fits c.keeps_sound.ensures.sound.nodes _ value c.at.result c.at.ensures).within
 
 pub assign-requires-clause-fits : goal.assign-requires-clause-fits
 assign-requires-clause-fits g c =
     let fits = rw (← c.self.view_is) at c.requires.fits in
-    let value = rw c.as_slice.ensures at c.in-Ok.ensures in
+    let value = rw c.as_slice.ensures at c.in-Ok.ensures.value in
     (node_takes _ c.self.invariant c.args.target _ fits c.keeps_sound.ensures.sound.nodes _ value c.at.result c.at.ensures).fits
 
 pub invariant_of-self : goal.invariant_of-self
@@ -44,7 +44,7 @@ invariant_of-self g c =
     let fits = rw (← c.self.view_is) at c.requires.fits in
     let node = target_node _ c.args.target c.at.result c.at.ensures in
     let sets = subst (λ (n : NodeId). Sets s.graph c.assign.new.self n c.in-Ok.value) node c.assign.ensures in
-    let value = rw c.as_slice.ensures at c.in-Ok.ensures in
+    let value = rw c.as_slice.ensures at c.in-Ok.ensures.value in
     let takes = node_takes _ c.self.invariant c.args.target _ fits c.keeps_sound.ensures.sound.nodes _ value c.at.result c.at.ensures in
     rw (ap (λ fs. fs.bodies.items) c.assign.ensures.beside.top.functions)
     (set_sound s.graph c.assign.new.self s.names s.nodes.items s.observers.items s.room s.accepted s.broken s.graph.functions.bodies.items
@@ -55,7 +55,7 @@ pub returns-in-Ok-clause-set : goal.returns-in-Ok-clause-set
 returns-in-Ok-clause-set g c =
     let s = c.self.inside in
     let fits = rw (← c.self.view_is) at c.requires.fits in
-    let value = rw c.as_slice.ensures at c.in-Ok.ensures in
+    let value = rw c.as_slice.ensures at c.in-Ok.ensures.value in
     let node = target_node _ c.args.target c.at.result c.at.ensures in
     let sets = subst (λ (n : NodeId). Sets s.graph c.assign.new.self n c.in-Ok.value) node c.assign.ensures in
     rw (← c.self.view_is, ap (λ fs. fs.bodies.items) c.assign.ensures.beside.top.functions)
