@@ -1,9 +1,9 @@
 //! What a run tells.
-ghost use Rattle.std.specs.Prelude.{◌≡◌, ◌≢◌, ◌++◌, [], IfOk, OnOk, string_bytes};
+ghost use Rattle.std.specs.Prelude.{◌≡◌, ◌≢◌, ◌⊎◌, ◌++◌, [], IfOk, OnOk, string_bytes};
 ghost use Rattle.std.specs.Io.KnownBytes.{Appends};
 ghost use Rattle.incr_bench.specs.Reports.{calls_line, each_of, last_line, with_number, with_time, with_times};
 ghost use Rattle.incr_bench.specs.Status.{SinksTell, status_of};
-ghost use Rattle.incr_bench.specs.declared.report.Ending.TheVariants.{Unwritten};
+ghost use Rattle.incr_bench.specs.declared.report.Ending.TheVariants.{Told, Unwritten};
 
 use crate::fault::Fault;
 use crate::job::Job;
@@ -108,6 +108,7 @@ pub fn of_rounds(alloc: Global, job: Job, rounds: Rounds) -> Result<Report, Allo
 
 /// Writes what was found. A write that fails is not tried again, and ends it.
 pub fn publish<K: Sink, N: Sink>(report: &Report, out: &mut K, notes: &mut N) -> Ending
+    ensures ends { (result ≡ Told) ⊎ (result ≡ Unwritten) }
     ensures counts { result ≢ Unwritten → Appends (K.written out.old) (K.written out.new) report.now.counts.items }
     ensures times { result ≢ Unwritten → Appends (N.written notes.old) (N.written notes.new) (string_bytes report.now.times) }
     ensures sinks { SinksTell (result ≡ Unwritten) (K.faults out.old) (K.faults out.new) (N.faults notes.old) (N.faults notes.new) }

@@ -1,6 +1,7 @@
 //! Rounds that change a graph.
-ghost use Rattle.std.specs.Prelude.{◌≡◌, ◌≤◌, ◌<◌, ◌+◌, ◌*◌, ◌%◌, ◌^◌, pos, IfOk};
+ghost use Rattle.std.specs.Prelude.{◌≡◌, ◌≤◌, ◌<◌, ◌+◌, ◌*◌, ◌%◌, ◌^◌, Some, pos, IfOk};
 ghost use Rattle.inc_value.specs.declared.value.Value.TheVariants.{Int};
+ghost use Rattle.incr_bench.specs.Shown.{shown_by};
 
 use crate::clock::{begin, since};
 use crate::counted::Counted;
@@ -76,6 +77,7 @@ pub fn measure<F: Counted, C: Clock>(
 ) -> Result<Rounds, Fault>
     ensures building { IfOk result (λ rounds. rounds.building ≡ building) }
     ensures calls { IfOk result (λ rounds. F.calls live.old.graph.functions + rounds.calls ≡ F.calls live.new.graph.functions) }
+    ensures last { IfOk result (λ rounds. shown_by live.new.graph (record { 0 = 0 }) ≡ Some rounds.last) }
 {
     let before = live.functions().count();
     let start = begin(clock);
