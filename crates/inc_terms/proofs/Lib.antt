@@ -22,3 +22,5 @@ pub mod Flat
 pub mod Crossing
 pub mod Seeing
 pub mod Visiting
+pub mod Quiet
+pub mod Copying

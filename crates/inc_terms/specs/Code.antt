@@ -1,7 +1,8 @@
 -- What the code's nodes are.
+use Rattle.std.specs.Prelude.{pos}
 use Rattle.inc_terms.specs.declared.def.Def as declared
 use Rattle.inc_terms.specs.declared.def.Def.TheVariants as code
-use Rattle.inc_terms.specs.Graph.{Def, Const, Var, Map, Fold, If, Join, Bind}
+use Rattle.inc_terms.specs.Graph.{Def, Const, Var, Map, Fold, If, Join, Bind, At, Steps, Now, Every}
 
 -- the definition that the code's one stands for
 abbrev pub def_of : declared.Def → Def
@@ -12,3 +13,7 @@ def_of (code.Fold f v kids) = Fold f v kids
 def_of (code.If t a b) = If t a b
 def_of (code.Join kid) = Join kid
 def_of (code.Bind left f captures) = Bind left f captures
+def_of (code.At t) = At t
+def_of (code.Steps v steps) = Steps v steps
+def_of code.Now = Now
+def_of (code.Every base span) = Every base (pos span)

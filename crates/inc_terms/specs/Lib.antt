@@ -11,6 +11,8 @@ pub mod Need
 pub mod Work
 pub mod Walk
 pub mod Local
+pub mod Clock
+pub mod Steps
 pub mod Code
 pub mod Laws
 pub mod Plan

@@ -4,6 +4,7 @@ ghost use Rattle.inc_value.specs.declared.node.NodeId.{NodeId};
 ghost use Rattle.inc_terms.specs.Depend.{subject_of, right_of};
 ghost use Rattle.inc_terms.specs.Graph.{Graph};
 
+use crate::StepList;
 use inc_value::{FnRef, NodeId, Outcome, Value};
 use smallvec::SmallVec;
 use std::alloc::{AllocError, Global};
@@ -76,6 +77,17 @@ pub enum Def {
         function: FnRef,
         captures: Nodes,
     },
+    /// Whether the clock has come to the time. Times are in nanoseconds.
+    At(i64),
+    /// The value until the first step begins, and then that of the last step of those that have begun.
+    Steps(Value, StepList),
+    /// The clock.
+    Now,
+    /// How many whole spans went by since the base.
+    Every {
+        base: i64,
+        span: u64,
+    },
 }
 
 impl Def {
@@ -88,8 +100,16 @@ impl Def {
         ensures { result.now ≡ kids (def_of self.now) }
     {
         match self {
-            Def::Const(_) | Def::Var(_) | Def::If { .. } | Def::Join(_) | Def::Bind { .. } => &[],
             Def::Map(_, kids) | Def::Fold(_, _, kids) => kids.as_slice(),
+            Def::Const(_)
+            | Def::Var(_)
+            | Def::If { .. }
+            | Def::Join(_)
+            | Def::Bind { .. }
+            | Def::At(_)
+            | Def::Steps(_, _)
+            | Def::Now
+            | Def::Every { .. } => &[],
         }
     }
 
@@ -101,7 +121,14 @@ impl Def {
             Def::If { test, .. } => Some(*test),
             Def::Join(kid) => Some(*kid),
             Def::Bind { left, .. } => Some(*left),
-            Def::Const(_) | Def::Var(_) | Def::Map(_, _) | Def::Fold(_, _, _) => None,
+            Def::Const(_)
+            | Def::Var(_)
+            | Def::Map(_, _)
+            | Def::Fold(_, _, _)
+            | Def::At(_)
+            | Def::Steps(_, _)
+            | Def::Now
+            | Def::Every { .. } => None,
         }
     }
 

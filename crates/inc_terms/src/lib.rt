@@ -2,8 +2,10 @@
 //! is, stands here.
 #![tactic(auto)]
 
+mod clock;
 mod def;
 mod laws;
+mod steps;
 
 pub use def::{Def, Nodes};
 pub use laws::{
@@ -12,3 +14,4 @@ pub use laws::{
     map_visits, met_grows, one_outcome, one_visit, plan_is_depends, rebuild_keeps,
     rebuilding_keeps, rising_walks_end, unfolds_gives, unfolds_stays, walks_reach,
 };
+pub use steps::{Step, StepList};
