@@ -29,6 +29,7 @@ grown_none uses b = record {
   total = omega arith;
   live = refl;
   few = omega arith;
+  time = refl;
 }
 
 -- a node counts as one at least
@@ -97,6 +98,7 @@ module _ (uses : List Use) (old mid new : Building) (k : ℕ) (grows : Grows use
       total = (let t' = grows.total in let e : sum_by weight_of nodes ≡ (0 + w) + sum_by weight_of grows.nodes = sum_by-append weight_of (record { node = id; weight = w } ∷ []) grows.nodes in omega (arith, t', e));
       live = (let e = grows.live in let l = adds.live in let g = adds.given in omega (arith, e, l, g));
       few = (let le = grows.few in let g = adds.given in let one = weighs_one uses def w weighs in omega (arith, le, g, one));
+      time = adds.changes.time ∙ grows.time;
     }
 
 -- a greater number
@@ -110,6 +112,7 @@ grown_most uses old new k l g le = record {
   total = (let t = g.total in omega (arith, t, le));
   live = g.live;
   few = (let f = g.few in omega (arith, f, le));
+  time = g.time;
 }
 
 -- ---- what was added stands there, and stays

@@ -77,10 +77,11 @@ module _ (a a' : Arena) (key : ℕ) (others : (other : ℕ) → other ≢ key �
 
   -- one id has the new row, and every other id what it had
   pub grown_changes : (e : Entry) → slice_index_or a.slots key None ≡ None → slice_index_or a'.slots key None ≡ Some e
-      → (id : NodeId) → id.slot ≡ key → id.gen_ ≡ e.gen_ → Changes a a' id (Some (row_of e.row))
-  grown_changes e was is id slot gen = record {
+      → (id : NodeId) → id.slot ≡ key → id.gen_ ≡ e.gen_ → a'.time ≡ a.time → Changes a a' id (Some (row_of e.row))
+  grown_changes e was is id slot gen time = record {
     changed = ap (λ (o : Option Entry). row_in o id.gen_) (ap (λ (s : ℕ). slice_index_or a'.slots s None) slot ∙ is) ∙ told e id.gen_ (sym gen);
     others = λ n ne. elim (grown e was is n) [ inl h ↦ absurd (ne (h.0 ∙ sym (same_id id key e.gen_ slot gen))) | inr h ↦ h ];
+    time = time;
   }
 
   -- every id has what it had, or nothing

@@ -15,7 +15,7 @@ module _ (a : Arena) (id : NodeId) (e e' : Entry) (v : Value) (gen : e'.gen_ ≡
     (changed : slice_index_or (slice_set a.slots id.slot (Some e')) id.slot None ≡ Some e')
     (others : (j : ℕ) → j ≢ id.slot → slice_index_or (slice_set a.slots id.slot (Some e')) j None ≡ slice_index_or a.slots j None) where
   abbrev after : Arena
-  after = record { slots = slice_set a.slots id.slot (Some e'); given = a.given }
+  after = record { slots = slice_set a.slots id.slot (Some e'); given = a.given; time = a.time }
 
   own : (e.gen_ ≡ id.gen_) × (row_of e.row ≡ variable.row)
   own = entry_of_row e id.gen_ variable.row (ap (λ (o : Option Entry). row_in o id.gen_) (sym there) ∙ variable.there)
@@ -39,9 +39,10 @@ module _ (a : Arena) (id : NodeId) (e e' : Entry) (v : Value) (gen : e'.gen_ ≡
     changes = record {
       changed = set_at;
       others = λ n other. elim (set n) [ inl h ↦ absurd (other h.0) | inr same ↦ same ];
+      time = refl;
     };
   }
 
   pub is_kept : (ids : List NodeId) → IsKept a ids → ValueWithin (Given a.given) v → FitsNode a id v → IsKept after ids
   is_kept ids kept names fits =
-      kept_set a after ids kept id (row_of e.row) v row_there set names fits refl (count_replaced a.slots id.slot e e' there)
+      kept_set a after ids kept id (row_of e.row) v row_there set names fits refl refl (count_replaced a.slots id.slot e e' there)

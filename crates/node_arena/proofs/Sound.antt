@@ -1,5 +1,6 @@
 -- Adding and dropping keep an arena sound.
-use Rattle.std.proofs.Common.{arith, ◌≡◌, ◌<◌, ◌≤◌, ◌+◌, ◌-◌, ◌^◌, ℕ, List, [], ◌∷◌, ◌++◌, ◌⊎◌, inl, inr, length, Option, Some, None, refl, sym, subst, ap, ◌∙◌, IsSome, IfSome, slice_index_or}
+use Rattle.std.proofs.Common.{arith, ◌≡◌, ◌<◌, ◌≤◌, ◌+◌, ◌-◌, ◌^◌, ◌≤ℤ◌, pos, ℕ, ℤ, List, [], ◌∷◌, ◌++◌, ◌⊎◌, inl, inr, length, Option, Some, None, refl, sym, subst, ap, ◌∙◌, IsSome, IfSome, slice_index_or}
+use Rattle.std.proofs.lemmas.Int.{ints}
 use Rattle.std.specs.List.{All, AllZip, Contains}
 use Rattle.std.proofs.lemmas.List.Elements.{All-push, Contains-append_left, Contains-push}
 use Rattle.std.proofs.lemmas.List.Sorted.{IsNonDecreasingBy-push}
@@ -13,8 +14,10 @@ use Rattle.inc_value.specs.Choice.{Every}
 use Rattle.inc_terms.specs.Term.{Step}
 use Rattle.inc_terms.specs.Graph as graph
 use Rattle.inc_terms.specs.Graph.{Row, Def}
+use Rattle.inc_terms.specs.Clock.{IsTimed}
 use Rattle.inc_terms.specs.Within.{Given}
 use Rattle.inc_terms.specs.Within.{ValueWithin}
+use Rattle.inc_terms.proofs.Quiet.{timed_on}
 use Rattle.node_arena.specs.Arena.{Arena, row_at, IsLive, live, NamesGiven, with_value}
 use Rattle.node_arena.specs.Sound.{IsSoundArena, IsOrder, IsKept}
 use Rattle.node_arena.specs.Typing.{Fits, FitsNode, BindTakes, FoldTakes, ReferenceFits, HasType, Makes}
@@ -88,6 +91,11 @@ module _ (a a' : Arena) (fits : (n : NodeId) (t : Ty) → Given a.given n → Fi
   bind_takes_still left ns [] is given h = absurd h
   bind_takes_still left ns (t ∷ tys) is given h = (fits left t is h.0, all_fit ns tys given h.1)
 
+  steps_still : (t : Ty) (ss : List Step) → Every (λ (s : Step). ValueWithin (Given a.given) s.value) ss
+      → Every (λ (s : Step). HasType a s.value t) ss → Every (λ (s : Step). HasType a' s.value t) ss
+  steps_still t [] given h = tt
+  steps_still t (s ∷ ss) given h = (has_type_still s.value t given.0 h.0, steps_still t ss given.1 h.1)
+
   pub makes_still : (def : Def) (t : Ty) → NamesGiven a.given def → Makes a def t → Makes a' def t
   makes_still (graph.Const v) t given h = has_type_still v t given h
   makes_still (graph.Var v) t given h = has_type_still v t given h
@@ -106,6 +114,10 @@ module _ (a a' : Arena) (fits : (n : NodeId) (t : Ty) → Given a.given n → Fi
     takes = bind_takes_still left captures f.sig.takes given.1 given.2 h.takes;
     gives = h.gives;
   }
+  makes_still (graph.At time) t given h = h
+  makes_still (graph.Steps v steps) t given h = (has_type_still v t given.0 h.0, steps_still t steps given.1 h.1)
+  makes_still graph.Now t given h = h
+  makes_still (graph.Every base span) t given h = h
   makes_still _ t given h = absurd h
 
 module _ (a a' : Arena) (later : (n : NodeId) → Given a.given n → (row_at a' n ≡ row_at a n) ⊎ (row_at a' n ≡ None)) where
@@ -120,7 +132,7 @@ module _ (a a' : Arena) (later : (n : NodeId) → Given a.given n → (row_at a'
 -- ---- a node dropped
 
 module _ (a a' : Arena) (ids : List NodeId) (kept : IsKept a ids) (less : (n : NodeId) → (row_at a' n ≡ row_at a n) ⊎ (row_at a' n ≡ None))
-    (given : a'.given ≡ a.given) (few : live a' + 1 ≡ live a) where
+    (given : a'.given ≡ a.given) (time : a'.time ≡ a.time) (few : live a' + 1 ≡ live a) where
   was_row : (n : NodeId) (r : Row) → row_at a' n ≡ Some r → row_at a n ≡ Some r
   was_row n r is = elim (less n) [ inl e ↦ sym e ∙ is | inr e ↦ absurd (let e' = sym e ∙ is in cc) ]
 
@@ -138,6 +150,8 @@ module _ (a a' : Arena) (ids : List NodeId) (kept : IsKept a ids) (less : (n : N
     names = λ n r is. names_more a.given a'.given (omega (arith, given)) r.def (kept.sound.names n r (was_row n r is));
     scopes = λ n r b is e. same_given b (kept.sound.scopes n r b (was_row n r is) e);
     types = λ n r is. makes_later a a' (λ k g. less k) r.def r.ty (kept.sound.names n r (was_row n r is)) (kept.sound.types n r (was_row n r is));
+    timed = λ n r is. subst (λ t. IsTimed t r.def) (sym time) (kept.sound.timed n r (was_row n r is));
+    time = subst (λ t. pos 0 ≤ℤ t) (sym time) kept.sound.time;
     few = (let h = kept.sound.few in omega (arith, few, h));
     count = (let h = kept.sound.count in subst (λ (x : ℕ). x < 2 ^ 64) (sym given) h);
   }
@@ -158,7 +172,7 @@ module _ (a a' : Arena) (ids : List NodeId) (kept : IsKept a ids) (less : (n : N
 module _ (a a' : Arena) (ids : List NodeId) (kept : IsKept a ids) (id : NodeId) (row : Row)
     (more : (n : NodeId) → ((n ≡ id) × (row_at a' n ≡ Some row)) ⊎ (row_at a' n ≡ row_at a n))
     (gen : id.gen_ ≡ a.given) (slot : id.slot < 1048576) (names : NamesGiven a.given row.def) (types : Makes a row.def row.ty)
-    (scope : IfSome row.scope (Given a.given)) (given : a'.given ≡ a.given + 1) (count : a.given < 2 ^ 64 - 1)
+    (scope : IfSome row.scope (Given a.given)) (timed : IsTimed a.time row.def) (given : a'.given ≡ a.given + 1) (time : a'.time ≡ a.time) (count : a.given < 2 ^ 64 - 1)
     (few : live a < 1048576) (one : live a' ≡ live a + 1) where
   still : (n : NodeId) → Given a.given n → Given a'.given n
   still n h = omega (arith, given, h)
@@ -202,6 +216,12 @@ module _ (a a' : Arena) (ids : List NodeId) (kept : IsKept a ids) (id : NodeId) 
     | inr old ↦ kept.sound.types n r old
   ]
 
+  timed_added : (n : NodeId) (r : Row) → row_at a' n ≡ Some r → IsTimed a.time r.def
+  timed_added n r is = elim (row_new_or_old n r is) [
+    | inl e ↦ subst (λ (x : Row). IsTimed a.time x.def) e timed
+    | inr old ↦ kept.sound.timed n r old
+  ]
+
   scope_given : (s : Option NodeId) → IfSome s (Given a.given) → (b : NodeId) → s ≡ Some b → Given a.given b
   scope_given s h b e = subst (λ (x : Option NodeId). IfSome x (Given a.given)) e h
 
@@ -216,6 +236,8 @@ module _ (a a' : Arena) (ids : List NodeId) (kept : IsKept a ids) (id : NodeId) 
       | inr old ↦ kept.sound.scopes n r b old e
     ]);
     types = λ n r is. makes_later a a' later r.def r.ty (names_added n r is) (types_added n r is);
+    timed = λ n r is. subst (λ t. IsTimed t r.def) (sym time) (timed_added n r is);
+    time = subst (λ t. pos 0 ≤ℤ t) (sym time) kept.sound.time;
     few = omega (arith, few, one);
     count = subst (λ (x : ℕ). x < 2 ^ 64) (sym given) (omega (arith, count));
   }
@@ -239,7 +261,7 @@ module _ (a a' : Arena) (ids : List NodeId) (kept : IsKept a ids) (id : NodeId) 
 
 module _ (a a' : Arena) (ids : List NodeId) (kept : IsKept a ids) (id : NodeId) (row : Row) (v : Value) (there : row_at a id ≡ Some row)
     (set : (n : NodeId) → ((n ≡ id) × (row_at a' n ≡ Some (with_value row v))) ⊎ (row_at a' n ≡ row_at a n))
-    (names : ValueWithin (Given a.given) v) (has : FitsNode a id v) (given : a'.given ≡ a.given) (few : live a' ≡ live a) where
+    (names : ValueWithin (Given a.given) v) (has : FitsNode a id v) (given : a'.given ≡ a.given) (time : a'.time ≡ a.time) (few : live a' ≡ live a) where
   same_given_set : (n : NodeId) → Given a.given n → Given a'.given n
   same_given_set n h = omega (arith, given, h)
 
@@ -279,6 +301,12 @@ module _ (a a' : Arena) (ids : List NodeId) (kept : IsKept a ids) (id : NodeId) 
     | inr s ↦ makes_still a a' fits_set r.def r.ty (kept.sound.names n r (sym s ∙ is)) (kept.sound.types n r (sym s ∙ is))
   ]
 
+  timed_set : (n : NodeId) (r : Row) → row_at a' n ≡ Some r → IsTimed a.time r.def
+  timed_set n r is = elim (set n) [
+    | inl s ↦ subst (λ (x : Row). IsTimed a.time x.def) (let same : with_value row v ≡ r = let e' = sym s.1 ∙ is in cc in same) tt
+    | inr s ↦ kept.sound.timed n r (sym s ∙ is)
+  ]
+
   sound_set : IsSoundArena a'
   sound_set = record {
     given = λ n is. same_given_set n (kept.sound.given n (was_live_set n is));
@@ -287,6 +315,8 @@ module _ (a a' : Arena) (ids : List NodeId) (kept : IsKept a ids) (id : NodeId) 
     names = λ n r is. names_more a.given a'.given (omega (arith, given)) r.def (names_set n r is);
     scopes = scope_set;
     types = types_set;
+    timed = λ n r is. subst (λ t. IsTimed t r.def) (sym time) (timed_set n r is);
+    time = subst (λ t. pos 0 ≤ℤ t) (sym time) kept.sound.time;
     few = (let h = kept.sound.few in omega (arith, few, h));
     count = (let h = kept.sound.count in subst (λ (x : ℕ). x < 2 ^ 64) (sym given) h);
   }
@@ -301,6 +331,33 @@ module _ (a a' : Arena) (ids : List NodeId) (kept : IsKept a ids) (id : NodeId) 
 
   pub kept_set : IsKept a' ids
   kept_set = record { sound = sound_set; order = order_set }
+
+-- ---- the time moved on
+
+pub kept_moved : (a : Arena) (time : ℤ) (ids : List NodeId) → a.time ≤ℤ time → IsKept a ids
+    → IsKept (record { slots = a.slots; given = a.given; time = time }) ids
+kept_moved a time ids on kept =
+    let a' : Arena = record { slots = a.slots; given = a.given; time = time } in
+    record {
+      sound = record {
+        given = kept.sound.given;
+        slots = kept.sound.slots;
+        generations = kept.sound.generations;
+        names = kept.sound.names;
+        scopes = kept.sound.scopes;
+        types = λ n r is. makes_still a a' (λ m t g h. h) r.def r.ty (kept.sound.names n r is) (kept.sound.types n r is);
+        timed = λ n r is. timed_on a.time time on r.def (kept.sound.timed n r is);
+        few = kept.sound.few;
+        count = kept.sound.count;
+        time = (let h = kept.sound.time in omega (arith, ints, h, on));
+      };
+      order = record {
+        once = kept.order.once;
+        rising = kept.order.rising;
+        given = kept.order.given;
+        covers = kept.order.covers;
+      };
+    }
 
 -- ---- ids taken off the order
 

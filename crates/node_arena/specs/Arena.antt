@@ -1,5 +1,5 @@
--- What an arena holds: the live nodes, by id, and how many ids it gave.
-use Rattle.std.specs.Prelude.{◌≡◌, ◌≢◌, ◌≤◌, ◌⊎◌, ◌==◌, ◌-◌, ◌^◌, ℕ, List, Option, Some, None, IsSome, slice_index_or, count_by, is_some, if◌then◌else◌}
+-- What an arena holds: the live nodes, by id, how many ids it gave, and the time by which its nodes are read.
+use Rattle.std.specs.Prelude.{◌≡◌, ◌≢◌, ◌≤◌, ◌⊎◌, ◌==◌, ◌-◌, ◌^◌, ℕ, ℤ, List, Option, Some, None, IsSome, slice_index_or, count_by, is_some, if◌then◌else◌}
 use Rattle.inc_value.specs.declared.node.NodeId.{NodeId}
 use Rattle.inc_value.specs.Choice.{and_then}
 use Rattle.inc_terms.specs.Code.{def_of}
@@ -10,10 +10,11 @@ use Rattle.inc_terms.specs.Within.{DefWithin}
 use Rattle.node_arena.specs.declared.arena.Row as code
 use Rattle.node_arena.specs.declared.arena.Entry.{Entry}
 
--- the entry in each slot, and how many ids were given
+-- the entry in each slot, how many ids were given, and the time
 pub record Arena : Type 0 where
   pub slots : List (Option Entry)
   pub given : ℕ
+  pub time : ℤ
 
 -- the row that the code's one stands for
 abbrev pub row_of : code.Row → Row
@@ -31,10 +32,11 @@ IsLive a n = IsSome (row_at a n)
 abbrev pub live : Arena → ℕ
 live a = count_by is_some a.slots
 
--- one id has this row, or none, and every other id keeps its row
+-- one id has this row, or none, every other id keeps its row, and the time stands
 pub record Changes (old new : Arena) (id : NodeId) (row : Option Row) : Type 0 where
   pub changed : row_at new id ≡ row
   pub others : (other : NodeId) → other ≢ id → row_at new other ≡ row_at old other
+  pub time : new.time ≡ old.time
 
 -- no further node can be added: 1,048,576 are live, or every id was given
 abbrev pub IsFull : Arena → Type 0

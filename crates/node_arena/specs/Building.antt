@@ -99,3 +99,4 @@ pub record Grows (uses : List Use) (old new : Building) (most : ℕ) : Type 0 wh
   pub total : sum_by (λ (x : Weighed). x.weight) nodes ≤ most
   pub live : live new.arena + old.arena.given ≡ live old.arena + new.arena.given
   pub few : new.arena.given ≤ old.arena.given + most
+  pub time : new.arena.time ≡ old.arena.time

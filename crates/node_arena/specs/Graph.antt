@@ -8,7 +8,7 @@ use Rattle.inc_terms.specs.Within.{DefWithin, Given, Fit}
 use Rattle.node_arena.specs.Arena.{Arena, row_at, Changes}
 use Rattle.node_arena.specs.Meanings.{KeepsKnown}
 use Rattle.node_arena.specs.Sound.{IsSoundArena}
-use Rattle.node_arena.specs.Today.{no_clock, no_freezes, no_experts}
+use Rattle.node_arena.specs.Today.{no_freezes, no_experts}
 
 -- what a graph holds beside its nodes: what each bind is built for
 pub record Holdings : Type 0 where
@@ -20,7 +20,7 @@ nothing_held = record { built = λ n. None }
 
 -- the graph of the nodes, with what is held beside them
 abbrev pub graph_of : Arena → Holdings → Graph
-graph_of a held = record { row = row_at a; built = held.built; now = no_clock; frozen = no_freezes; lists = no_experts }
+graph_of a held = record { row = row_at a; built = held.built; now = a.time; frozen = no_freezes; lists = no_experts }
 
 -- each function of the definition is known and of the kind that stands there, and of so many ids each that it lists was given
 abbrev pub CallsFit : ℕ → (FnRef → Bool) → (FnRef → List NodeId) → Def → Type 0

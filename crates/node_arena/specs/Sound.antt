@@ -1,16 +1,17 @@
 -- What every arena keeps.
-use Rattle.std.specs.Prelude.{◌≡◌, ◌≤◌, ◌<◌, ◌+◌, ◌*◌, ◌^◌, ℕ, List, [], ◌∷◌, Some, None, length, slice_index_or}
+use Rattle.std.specs.Prelude.{◌≡◌, ◌≤◌, ◌<◌, ◌+◌, ◌*◌, ◌^◌, ◌≤ℤ◌, pos, ℕ, List, [], ◌∷◌, Some, None, length, slice_index_or}
 use Rattle.std.specs.List.{All, AllWithin, Contains}
 use Rattle.std.specs.List.Sorted.{IsNonDecreasingBy}
 use Rattle.inc_value.specs.Choice.{Every}
 use Rattle.inc_value.specs.declared.node.NodeId.{NodeId}
 use Rattle.inc_terms.specs.Graph.{Row}
+use Rattle.inc_terms.specs.Clock.{IsTimed}
 use Rattle.inc_terms.specs.Within.{Given}
 use Rattle.node_arena.specs.Arena.{Arena, row_at, live, IsLive, NamesGiven}
 use Rattle.node_arena.specs.Typing.{Makes}
 
 -- what is live was given, in one of the slots; no two live nodes have one generation; what rows, their values and their scopes name was given;
--- each row is of the type that it makes; no more nodes are live, and no more ids given, than may be
+-- each row is of the type that it makes, and timed; no more nodes are live, and no more ids given, than may be; the time isn't below 0
 pub record IsSoundArena (a : Arena) : Type 0 where
   pub given : (n : NodeId) → IsLive a n → Given a.given n
   pub slots : (n : NodeId) → IsLive a n → n.slot < 1048576
@@ -18,8 +19,10 @@ pub record IsSoundArena (a : Arena) : Type 0 where
   pub names : (n : NodeId) (r : Row) → row_at a n ≡ Some r → NamesGiven a.given r.def
   pub scopes : (n : NodeId) (r : Row) (b : NodeId) → row_at a n ≡ Some r → r.scope ≡ Some b → Given a.given b
   pub types : (n : NodeId) (r : Row) → row_at a n ≡ Some r → Makes a r.def r.ty
+  pub timed : (n : NodeId) (r : Row) → row_at a n ≡ Some r → IsTimed a.time r.def
   pub few : live a ≤ 1048576
   pub count : a.given < 2 ^ 64
+  pub time : pos 0 ≤ℤ a.time
 
 -- the live node that was given first of those whose generation is not below the count
 pub record IsFirstSince (a : Arena) (count : ℕ) (id : NodeId) : Type 0 where

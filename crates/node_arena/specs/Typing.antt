@@ -12,7 +12,9 @@ use Rattle.inc_value.specs.declared.ty.Ty.{Ty}
 use Rattle.inc_value.specs.declared.ty.Ty.TheVariants as ty
 use Rattle.inc_value.specs.declared.value.Value.{Value}
 use Rattle.inc_value.specs.declared.value.Value.TheVariants.{Node}
-use Rattle.inc_terms.specs.Graph.{Row, Def, Const, Var, Map, Fold, If, Join, Bind}
+use Rattle.inc_terms.specs.Graph as graph
+use Rattle.inc_terms.specs.Graph.{Row, Def, Const, Var, Map, Fold, If, Join, Bind, At, Steps, Now}
+use Rattle.inc_terms.specs.Term.{Step}
 use Rattle.node_arena.specs.Arena.{Arena, row_at, live, NamesGiven}
 use Rattle.node_arena.specs.Today.{OtherIsMade}
 
@@ -71,6 +73,10 @@ pub record BindMakes (a : Arena) (left : NodeId) (f : FnRef) (captures : List No
   pub takes : BindTakes a left captures f.sig.takes
   pub gives : f.sig.gives ≡ t
 
+-- values of the type: the first, and that of each step
+abbrev pub StepsMake : Arena → Value → List Step → Ty → Type 0
+StepsMake a v steps t = HasType a v t × Every (λ (s : Step). HasType a s.value t) steps
+
 -- what the types of live children, of values and of the function make of the definition
 abbrev pub Makes : Arena → Def → Ty → Type 0
 Makes a (Const v) t = HasType a v t
@@ -80,6 +86,10 @@ Makes a (Fold f v kids) t = FoldMakes a f v kids t
 Makes a (If test left right) t = IfMakes a test left right t
 Makes a (Join kid) t = JoinMakes a kid t
 Makes a (Bind left f captures) t = BindMakes a left f captures t
+Makes a (At time) t = t ≡ ty.Bool
+Makes a (Steps v steps) t = StepsMake a v steps t
+Makes a Now t = t ≡ ty.Int
+Makes a (graph.Every base span) t = t ≡ ty.Int
 Makes a def t = OtherIsMade
 
 -- a node of this definition and type can be added, where there is memory

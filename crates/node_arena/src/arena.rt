@@ -1,6 +1,7 @@
 //! The nodes of a graph by id.
-ghost use Rattle.std.specs.Prelude.{◌≡◌, ◌+◌, ◌-◌, ◌<◌, ◌^◌, ◌↔◌, Some, None, IfOk, IfSome, IfNone, OnOk, OnErr, IsErrOf, IsTrue, option_copied, option_map};
+ghost use Rattle.std.specs.Prelude.{◌≡◌, ◌+◌, ◌-◌, ◌<◌, ◌^◌, ◌↔◌, ◌≤ℤ◌, pos, Some, None, IfOk, IfSome, IfNone, OnOk, OnErr, IsErrOf, IsTrue, option_copied, option_map};
 ghost use Rattle.inc_value.specs.declared.node.NodeId.{NodeId};
+ghost use Rattle.inc_terms.specs.Clock.{IsTimed};
 ghost use Rattle.inc_terms.specs.Code.{def_of};
 ghost use Rattle.inc_terms.specs.Within.{Given};
 ghost use Rattle.node_arena.specs.Arena.{row_of, row_at, live, IsLive, IsFull, Changes, NamesGiven};
@@ -39,12 +40,14 @@ struct Entry {
     row: Row,
 }
 
-/// The live nodes of a graph. An id is given once: a node that was dropped never lives again.
+/// The live nodes of a graph, and the time by which they are read. An id is given once: a node that was dropped never
+/// lives again.
 pub struct Arena {
     nodes: Slab<Entry>,
     // Given ids by rising generation, all that are live among them.
     order: Vec<NodeId>,
     given: u64,
+    time: i64,
 }
 
 // (written out: whoever drops one proves one call, and no drop of its parts)
@@ -54,6 +57,7 @@ impl Drop for Arena {
             nodes,
             order,
             given: _,
+            time: _,
         } = self;
         drop(nodes);
         drop(order);
@@ -65,11 +69,11 @@ impl Model for Arena {
 
     ghost Value = { spec.Arena };
 
-    ghost view = { λ a. record { slots = a.nodes.slots; given = a.given } };
+    ghost view = { λ a. record { slots = a.nodes.slots; given = a.given; time = a.time } };
 
     ghost use Rattle.node_arena.specs.Sound.{IsKept};
 
-    ghost invariant = { λ a. IsKept (record { slots = a.nodes.slots; given = a.given }) a.order.items };
+    ghost invariant = { λ a. IsKept (record { slots = a.nodes.slots; given = a.given; time = a.time }) a.order.items };
 }
 
 /// Why a node isn't added.
@@ -95,12 +99,14 @@ impl Arena {
         ensures empty { (n : NodeId) → row_at result n ≡ None }
         ensures live { live result ≡ 0 }
         ensures given { result.given ≡ 0 }
+        ensures time { result.time ≡ pos 0 }
         ensures sound { IsSoundArena result }
     {
         Arena {
             nodes: Slab::new(alloc),
             order: Vec::new(alloc),
             given: 0,
+            time: 0,
         }
     }
 
@@ -135,6 +141,25 @@ impl Arena {
         self.given
     }
 
+    /// The time by which the nodes are read, in nanoseconds.
+    pub fn time(&self) -> i64
+        ensures { result ≡ self.now.time }
+    {
+        self.time
+    }
+
+    /// Moves the time on to one in nanoseconds, not before the present one.
+    pub fn move_to(&mut self, time: i64)
+        requires forward { self.old.time ≤ℤ time }
+        ensures time { self.new.time ≡ time }
+        ensures rows { (n : NodeId) → row_at self.new n ≡ row_at self.old n }
+        ensures live { live self.new ≡ live self.old }
+        ensures given { self.new.given ≡ self.old.given }
+        ensures sound { IsSoundArena self.new }
+    {
+        self.time = time;
+    }
+
     /// Whether such a node can be added, whatever memory there is. What is looked at comes in the order of the faults.
     pub fn admits(&self, def: &Def, ty: Ty) -> Result<(), AddFault>
         ensures fits { OnOk result (IsAddable self.now (def_of def.now) ty) }
@@ -161,6 +186,7 @@ impl Arena {
     /// of the faults; a refused call leaves the arena as it was.
     pub fn add(&mut self, def: Def, ty: Ty, scope: Option<NodeId>) -> Result<NodeId, AddFault>
         requires scope { IfSome scope (Given self.old.given) }
+        requires timed { IsTimed self.old.time (def_of def) }
         ensures addable { OnOk result (IsAddable self.old (def_of def) ty) }
         ensures id { IfOk result (λ id. id.gen_ ≡ self.old.given) }
         ensures slot { IfOk result (λ id. id.slot < 1048576) }
@@ -206,6 +232,7 @@ impl Arena {
     pub fn insert(&mut self, id: NodeId, row: Row) -> Result<(), AllocError>
         requires fits { IsAddable self.old (def_of row.def) row.ty }
         requires scope { IfSome row.scope (Given self.old.given) }
+        requires timed { IsTimed self.old.time (def_of row.def) }
         ensures id { OnOk result (id.gen_ ≡ self.old.given) }
         ensures slot { OnOk result (id.slot < 1048576) }
         ensures fresh { OnOk result (row_at self.old id ≡ None) }

@@ -1,14 +1,17 @@
 //! The nodes of an arena while a function builds a right side.
-ghost use Rattle.std.specs.Prelude.{◌≡◌, IfOk, IfErr, OnErr};
+ghost use Rattle.std.specs.Prelude.{◌≡◌, IfOk, IfErr, OnErr, map};
 ghost use Rattle.inc_value.specs.Value.{type_of};
+ghost use Rattle.inc_value.specs.declared.ty.Ty.TheVariants as ty;
+ghost use Rattle.inc_terms.specs.Clock.{IsTimed};
 ghost use Rattle.inc_terms.specs.Code.{def_of};
-ghost use Rattle.inc_terms.specs.Graph.{Const, Map, Fold, If, Join, Bind};
+ghost use Rattle.inc_terms.specs.Steps.{step_of};
+ghost use Rattle.inc_terms.specs.Graph.{Const, Map, Fold, If, Join, Bind, At, Steps, Now};
 ghost use Rattle.inc_terms.specs.Within.{Given};
 ghost use Rattle.node_arena.specs.Sound.{IsSoundArena};
 ghost use Rattle.node_arena.specs.Building.{building_in, Answers, TellsFault, Adds};
 
 use crate::{AddFault, Arena};
-use inc_terms::{Def, Nodes};
+use inc_terms::{Def, Nodes, Step, StepList};
 use inc_value::{FnRef, NodeId, Ty, Value};
 use std::alloc::{AllocError, Global};
 use std::marker::Model;
@@ -132,6 +135,48 @@ impl Builder {
         self.add(def, f.sig.gives())
     }
 
+    /// Adds a node that shows whether the clock has come to a time, in nanoseconds. Faults as for a constant.
+    pub fn at(&mut self, time: i64) -> Result<NodeId, AddFault>
+        ensures answer { Answers self.old.arena (At time) ty.Bool result }
+        ensures told { TellsFault self.old.arena (At time) ty.Bool result }
+        ensures added { IfOk result (λ id. Adds self.old self.new id (At time) ty.Bool) }
+        ensures err { OnErr result (self.new ≡ self.old) }
+    {
+        self.add(Def::At(time), Ty::Bool)
+    }
+
+    /// Adds a node that shows the first value, and then that of the last step whose time has come, up to the first whose
+    /// time hasn't. Faults as for a constant.
+    pub fn steps(&mut self, initial: Value, steps: Vec<Step>) -> Result<NodeId, AddFault>
+        ensures answer { Answers self.old.arena (Steps initial (map step_of steps.items)) (type_of initial) result }
+        ensures told { TellsFault self.old.arena (Steps initial (map step_of steps.items)) (type_of initial) result }
+        ensures added { IfOk result (λ id. Adds self.old self.new id (Steps initial (map step_of steps.items)) (type_of initial)) }
+        ensures err { OnErr result (self.new ≡ self.old) }
+    {
+        self.listed_steps(initial, StepList::new(steps))
+    }
+
+    /// The same, of a list of steps.
+    pub fn listed_steps(&mut self, initial: Value, steps: StepList) -> Result<NodeId, AddFault>
+        ensures answer { Answers self.old.arena (Steps initial steps) (type_of initial) result }
+        ensures told { TellsFault self.old.arena (Steps initial steps) (type_of initial) result }
+        ensures added { IfOk result (λ id. Adds self.old self.new id (Steps initial steps) (type_of initial)) }
+        ensures err { OnErr result (self.new ≡ self.old) }
+    {
+        let ty = initial.ty();
+        self.add(Def::Steps(initial, steps), ty)
+    }
+
+    /// Adds a node that shows the clock, in nanoseconds. Faults as for a constant.
+    pub fn now(&mut self) -> Result<NodeId, AddFault>
+        ensures answer { Answers self.old.arena Now ty.Int result }
+        ensures told { TellsFault self.old.arena Now ty.Int result }
+        ensures added { IfOk result (λ id. Adds self.old self.new id Now ty.Int) }
+        ensures err { OnErr result (self.new ≡ self.old) }
+    {
+        self.add(Def::Now, Ty::Int)
+    }
+
     /// The nodes as a list of a definition.
     fn listed(&self, nodes: &[NodeId]) -> Result<Nodes, AddFault>
         ensures ok { IfOk result (λ list. list ≡ nodes.now) }
@@ -145,6 +190,7 @@ impl Builder {
 
     /// Adds a node to the scope.
     fn add(&mut self, def: Def, ty: Ty) -> Result<NodeId, AddFault>
+        requires timed { IsTimed self.old.arena.time (def_of def) }
         ensures answer { Answers self.old.arena (def_of def) ty result }
         ensures told { TellsFault self.old.arena (def_of def) ty result }
         ensures added { IfOk result (λ id. Adds self.old self.new id (def_of def) ty) }

@@ -1,5 +1,5 @@
 //! Ids in the order in which they were given. Ids of dropped nodes stay until many have gathered.
-ghost use Rattle.std.specs.Prelude.{◌≡◌, ◌<◌, ◌≤◌, IfSome, IfNone, OnOk, None, is_some, length, vec_len, vec_capacity};
+ghost use Rattle.std.specs.Prelude.{◌≡◌, ◌<◌, ◌≤◌, pos, IfSome, IfNone, OnOk, None, is_some, length, vec_len, vec_capacity};
 ghost use Rattle.std.specs.List.{AllWithin};
 ghost use Rattle.std.specs.List.Sorted.{IsNonDecreasingBy, IsPartitionPoint};
 ghost use Rattle.inc_value.specs.declared.node.NodeId.{NodeId};
@@ -65,7 +65,7 @@ fn keep_live(nodes: &Slab<Entry>, order: &mut Vec<NodeId>)
 
 /// Whether the node stands in its slot.
 fn has(nodes: &Slab<Entry>, id: NodeId) -> bool
-    ensures { result ≡ is_some (row_at (record { slots = nodes.now.slots; given = 0 }) id) }
+    ensures { result ≡ is_some (row_at (record { slots = nodes.now.slots; given = 0; time = pos 0 }) id) }
 {
     match nodes.get(id.slot) {
         Some(entry) => entry.gen_ == id.gen_,

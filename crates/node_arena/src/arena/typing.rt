@@ -1,16 +1,18 @@
 //! Whether what a node names was given, and is of the types that the node wants.
-ghost use Rattle.std.specs.Prelude.{◌≡◌, ◌↔◌, IsTrue};
+ghost use Rattle.std.specs.Prelude.{◌≡◌, ◌↔◌, IsTrue, map};
 ghost use Rattle.inc_value.specs.Choice.{Every};
 ghost use Rattle.inc_value.specs.Ty.{base_of};
 ghost use Rattle.std.specs.List.{AllZip};
 ghost use Rattle.inc_terms.specs.Code.{def_of};
+ghost use Rattle.inc_terms.specs.Steps.{step_of};
+ghost use Rattle.inc_terms.specs.Term.{Step as AStep};
 ghost use Rattle.inc_terms.specs.Within.{Given};
 ghost use Rattle.inc_terms.specs.Within.{ValueWithin};
 ghost use Rattle.node_arena.specs.Arena.{NamesGiven};
 ghost use Rattle.node_arena.specs.Typing.{Makes, Fits, BindMakes, BindTakes, FoldMakes, FoldTakes, JoinMakes, HasType, ReferenceFits};
 
 use super::Arena;
-use inc_terms::Def;
+use inc_terms::{Def, Step};
 use inc_value::{FnKind, FnRef, NodeId, Ty, Value};
 
 /// Whether each of the nodes was given, of so many.
@@ -30,6 +32,18 @@ pub(super) fn value_given(given: u64, value: &Value) -> bool
     }
 }
 
+/// Whether the steps' values name no node that was never given, of so many.
+fn steps_given(given: u64, steps: &[Step]) -> bool
+    ensures { IsTrue result ↔ Every (λ (s : AStep). ValueWithin (Given given) s.value) (map step_of steps.now) }
+{
+    for step in steps {
+        if !value_given(given, &step.value) {
+            return false;
+        }
+    }
+    true
+}
+
 /// Whether each node that the definition names was given, of so many.
 pub(super) fn names_given(given: u64, def: &Def) -> bool
     ensures { IsTrue result ↔ NamesGiven given (def_of def.now) }
@@ -45,6 +59,9 @@ pub(super) fn names_given(given: u64, def: &Def) -> bool
         Def::Bind { left, captures, .. } => {
             left.gen_ < given && all_given(given, captures.as_slice())
         }
+        Def::Steps(initial, steps) => value_given(given, initial)
+            && steps_given(given, steps.as_slice()),
+        Def::At(_) | Def::Now | Def::Every { .. } => true,
     }
 }
 
@@ -83,6 +100,18 @@ pub(super) fn has_type(arena: &Arena, value: &Value, ty: Ty) -> bool
     ensures { IsTrue result ↔ HasType arena.now value.now ty }
 {
     value.ty() == ty && reference_fits(arena, value)
+}
+
+/// Whether the steps' values are of the type.
+fn steps_have_type(arena: &Arena, steps: &[Step], ty: Ty) -> bool
+    ensures { IsTrue result ↔ Every (λ (s : AStep). HasType arena.now s.value ty) (map step_of steps.now) }
+{
+    for step in steps {
+        if !has_type(arena, &step.value, ty) {
+            return false;
+        }
+    }
+    true
 }
 
 /// Whether the nodes are of the types, one for one; a dead node is of every type.
@@ -168,5 +197,10 @@ pub(super) fn makes(arena: &Arena, def: &Def, ty: Ty) -> bool
             function,
             captures,
         } => binds(arena, *left, *function, captures.as_slice(), ty),
+        Def::At(_) => ty == Ty::Bool,
+        Def::Steps(initial, steps) => {
+            has_type(arena, initial, ty) && steps_have_type(arena, steps.as_slice(), ty)
+        }
+        Def::Now | Def::Every { .. } => ty == Ty::Int,
     }
 }

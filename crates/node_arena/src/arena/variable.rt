@@ -32,6 +32,7 @@ impl Arena {
         ensures set { OnOk result (IsSet self.old self.new id value) }
         ensures live { live self.new ≡ live self.old }
         ensures given { self.new.given ≡ self.old.given }
+        ensures time { self.new.time ≡ self.old.time }
         ensures sound { IsSoundArena self.new }
         ensures unknown { IsErrOf result SetFault.Unknown
             ↔ ¬ (Given self.old.given id × ValueWithin (Given self.old.given) value) }

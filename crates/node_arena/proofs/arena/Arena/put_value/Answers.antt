@@ -11,7 +11,7 @@ use Rattle.node_arena.proofs.arena.Arena.put_value.Goals as goal
 
 pub invariant_of-self : goal.invariant_of-self
 invariant_of-self c =
-    let a : Arena = record { slots = c.self.inside.nodes.slots; given = c.self.inside.given } in
+    let a : Arena = record { slots = c.self.inside.nodes.slots; given = c.self.inside.given; time = c.self.inside.time } in
     let e : Entry = c.unwrap-entry.result.now in
     let e' : Entry = record { gen_ = e.gen_; row = record { def = Var c.args.value; ty = e.row.ty; scope = e.row.scope } } in
     let there : get c.self.inside.nodes c.args.id.slot ≡ Some e = sym (rw c.unwrap-entry.ensures at c.get_mut.ensures.value) in
@@ -24,14 +24,14 @@ invariant_of-self c =
 
 pub returns-clause-set : goal.returns-clause-set
 returns-clause-set c =
-    let a : Arena = record { slots = c.self.inside.nodes.slots; given = c.self.inside.given } in
+    let a : Arena = record { slots = c.self.inside.nodes.slots; given = c.self.inside.given; time = c.self.inside.time } in
     let e : Entry = c.unwrap-entry.result.now in
     let e' : Entry = record { gen_ = e.gen_; row = record { def = Var c.args.value; ty = e.row.ty; scope = e.row.scope } } in
     let there : get c.self.inside.nodes c.args.id.slot ≡ Some e = sym (rw c.unwrap-entry.ensures at c.get_mut.ensures.value) in
     let updates = Updates-with_value c.self.inside.nodes c.args.id.slot e' (subst IsSome (sym there) refl) in
     let still = sym c.self.view_is in
     let set = is_set a c.args.id e e' c.args.value refl refl there (subst (λ (x : Arena). IsVariable x c.args.id) still c.requires.variable) updates.changed updates.others in
-    let a' : Arena = record { slots = slice_set a.slots c.args.id.slot (Some e'); given = a.given } in
+    let a' : Arena = record { slots = slice_set a.slots c.args.id.slot (Some e'); given = a.given; time = a.time } in
     subst (λ (x : Arena). IsSet x a' c.args.id c.args.value) c.self.view_is set
 
 pub returns-clause-sound : goal.returns-clause-sound
