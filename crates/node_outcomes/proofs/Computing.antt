@@ -24,6 +24,7 @@ use Rattle.inc_terms.specs.Depend.{main, change, subject_of, right_of}
 use Rattle.inc_terms.specs.Evaluate.{Gathered, Unknown, SomeInvalid, Values, joined, given, with_value}
 use Rattle.inc_terms.specs.Term.{Functions}
 use Rattle.inc_terms.specs.Graph.{Graph, Row, Def, Const, Var, Map, Fold, kids}
+use Rattle.inc_terms.specs.Clock.{clock_value, reads_clock}
 use Rattle.inc_terms.specs.Work.{cost_of}
 use Rattle.inc_terms.specs.Local.{own, see_right}
 use Rattle.point_map.specs.Rows.{Rows, at, Holds}
@@ -42,6 +43,7 @@ use Rattle.node_outcomes.specs.Computing.{ran_then, IsCalled, Calls, IsKnown, Al
 use Rattle.node_outcomes.specs.Choosing.{built_by, held_in, right_in}
 use Rattle.node_outcomes.specs.Row.{IsRewritten, with_last, value_of, value_in, outcome_in}
 use Rattle.node_outcomes.specs.declared.row.Progress.{Progress}
+use Rattle.node_outcomes.proofs.ByClock.{none_taken_by_clock, own_by_clock, typed_by_clock}
 use Rattle.node_outcomes.proofs.Held.{built_live, right_is}
 use Rattle.node_outcomes.proofs.Reasons.{reason_of, no_reason}
 use Rattle.node_outcomes.proofs.Pairs.{IsPair, ShowsRight, gives_own_right, right_shows}
@@ -452,6 +454,19 @@ module _ (F : Functions) (arena : Arena) (roots : Rows NodeId) (round : ℕ) (ol
         type = subst (λ (d : Def). Makes arena d row.ty) h (sound.types n row is_row);
         within = subst (NamesGiven arena.given) h (sound.names n row is_row);
       }
+
+  -- what reads the clock gives what it shows at the time
+  pub clock_computes : (v : Value) → reads_clock row.def ≡ true → clock_value arena.time row.def ≡ Some v → Computes F arena held round old old n (Val v)
+  clock_computes v reads is = uncalled_computes (Val v) (none_taken_by_clock G n row.def reads) (λ looks. own_by_clock F G (seen old.rows) n row.def v is)
+      (λ w e. let value_is : v ≡ w = cc in
+      subst (λ (x : Value). IsOfType arena x row.ty) value_is
+      (typed_by_clock arena arena.time row.def row.ty v (sound.names n row is_row) (sound.types n row is_row) is))
+
+  pub clock_ends : {E : Type 0} (result : Result Outcome E) → reads_clock row.def ≡ true
+      → IfOk result (λ (o : Outcome). (v : Value) × (o ≡ Val v) × (clock_value arena.time row.def ≡ Some v)) → Ends F arena held round old old n result
+  clock_ends (Ok o) reads shows =
+      subst (λ (x : Outcome). Computes F arena held round old old n x) (sym shows.1) (clock_computes shows.0 reads shows.2)
+  clock_ends (Err e) reads h = record { rows = λ p. refl; ran = refl; count = inl refl }
 
   module _ (d : declared.Def) (is_def : row.def ≡ def_of d) (pair : IsPair (def_of d)) where
     there_change : Holds old.rows (change n)

@@ -4,5 +4,6 @@ pub mod Rewriting
 pub mod Held
 pub mod Pairs
 mod Reasons
+pub mod ByClock
 pub mod Computing
 pub mod Rights

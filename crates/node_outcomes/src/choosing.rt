@@ -30,7 +30,11 @@ pub fn right_side(
         | Def::Map(_, _)
         | Def::Fold(_, _, _)
         | Def::If { .. }
-        | Def::Join(_) => def.right_side(given),
+        | Def::Join(_)
+        | Def::At(_)
+        | Def::Steps(_, _)
+        | Def::Now
+        | Def::Every { .. } => def.right_side(given),
     }
 }
 

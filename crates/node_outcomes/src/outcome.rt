@@ -1,7 +1,10 @@
 //! What a node gives by its own function of what its children show.
-ghost use Rattle.std.specs.Prelude.{◌≡◌, List, length, IsTrue, IfOk};
+ghost use Rattle.std.specs.Prelude.{◌≡◌, ◌≤ℤ◌, pos, true, Some, List, length, IsTrue, IfOk};
 ghost use Rattle.std.specs.List.{AllZip};
 ghost use Rattle.inc_value.specs.Value.{HaveTypes};
+ghost use Rattle.inc_value.specs.declared.outcome.Outcome.TheVariants.{Val};
+ghost use Rattle.inc_terms.specs.Clock.{clock_value, reads_clock, IsTimed};
+ghost use Rattle.inc_terms.specs.Code.{def_of};
 ghost use Rattle.inc_terms.specs.Depend.{main};
 ghost use Rattle.inc_terms.specs.Evaluate.{folded};
 ghost use Rattle.inc_terms.specs.Graph.{Map, Fold};
@@ -28,7 +31,8 @@ use std::alloc::{AllocError, Global};
 /// What a node gives. A map's or a fold's function is called unless it was last called on the same
 /// values of its children, none of which has cutoff Never and was settled in this round. A node of two
 /// points gives what the right side shows that its change chose, and Invalid where it chose none; a bind's is
-/// its root, which stands among the roots by its change.
+/// its root, which stands among the roots by its change. A node that reads the clock gives what it shows at the arena's
+/// time.
 pub fn compute<F: Functions>(
     alloc: Global,
     arena: &Arena,
@@ -70,12 +74,29 @@ pub fn compute<F: Functions>(
             initial,
             kids.as_slice(),
         ),
+        Def::At(_) | Def::Steps(_, _) | Def::Now | Def::Every { .. } => {
+            by_clock(alloc, &row.def, arena.time())
+        }
         Def::If { .. } | Def::Join(_) | Def::Bind { .. } => {
             match right_side(rows, roots, node, &row.def) {
                 Some(target) => shown(alloc, rows, target),
                 None => Ok(Outcome::Invalid),
             }
         }
+    }
+}
+
+/// What a node that reads the clock gives at a time.
+fn by_clock(alloc: Global, def: &Def, time: i64) -> Result<Outcome, AllocError>
+    requires reads { reads_clock (def_of def.now) ≡ true }
+    requires timed { IsTimed time (def_of def.now) }
+    requires time { pos 0 ≤ℤ time }
+    ensures { IfOk result (λ o. (v : Value) × (o ≡ Val v) × (clock_value time (def_of def.now) ≡ Some v)) }
+{
+    match def.clock_value(alloc, time) {
+        Ok(Some(value)) => Ok(Outcome::Val(value)),
+        Ok(None) => Ok(Outcome::Invalid),
+        Err(AllocError) => Err(AllocError),
     }
 }
 

@@ -1,6 +1,10 @@
-use Rattle.std.proofs.Common.{◌≡◌, Option, Some, refl, sym, ap, subst, ◌∙◌, length}
+use Rattle.std.proofs.Common.{arith, rules, pos, ◌≤ℤ◌, IfOk, FitsSigned, to_z, of_z, w64, ◌≡◌, Option, Some, refl, sym, ap, subst, ◌∙◌, length}
 use Rattle.inc_value.specs.declared.node.NodeId.{NodeId}
-use Rattle.inc_value.specs.declared.outcome.Outcome.TheVariants.{Invalid}
+use Rattle.std.proofs.lemmas.Int.{ints}
+use Rattle.inc_value.specs.declared.outcome.Outcome.{Outcome}
+use Rattle.inc_value.specs.declared.value.Value.{Value}
+use Rattle.inc_value.specs.declared.outcome.Outcome.TheVariants.{Invalid, Val}
+use Rattle.inc_terms.specs.Clock.{clock_value, IsTimed}
 use Rattle.inc_terms.specs.Code.{def_of}
 use Rattle.inc_terms.specs.Evaluate.{folded}
 use Rattle.inc_terms.specs.Graph.{Map, Fold}
@@ -8,8 +12,9 @@ use Rattle.node_arena.specs.Arena.{row_at, row_of}
 use Rattle.node_outcomes.specs.Computing.{noted}
 use Rattle.node_arena.specs.RightSideLaws.{ids_of}
 use Rattle.node_outcomes.specs.Meaning.{functions_of}
-use Rattle.node_outcomes.proofs.Computing.{holder_computes, pair_computes, pair_ends, map_fits, map_gives, map_base, fold_fits, fold_gives, fold_base, call_ends, holds_value}
+use Rattle.node_outcomes.proofs.Computing.{holder_computes, clock_ends, pair_computes, pair_ends, map_fits, map_gives, map_base, fold_fits, fold_gives, fold_base, call_ends, holds_value}
 use Rattle.node_outcomes.proofs.Keeping.{no_want}
+use Rattle.node_outcomes.proofs.ByClock.{reads_of}
 use Rattle.node_outcomes.proofs.Pairs.{ShowsRight, pair_of}
 use Rattle.node_outcomes.proofs.outcome.compute.Goals as goal
 
@@ -70,6 +75,32 @@ returns-in-Fold-clause-computed g c =
     (g.F.Functions.known c.args.functions.now) (ids_of (g.F.Functions.right c.args.functions.now)) (g.met.F.Functions.known_maps c.args.functions.now c.requires.sound) c.requires.fit)
     (noted c.compute_fold.new.rows c.compute_fold.new.ran.items (g.F.Functions.calls c.compute_fold.new.functions))
     c.compute_fold.result c.compute_fold.ensures.computed
+
+pub by_clock-requires : goal.by_clock-requires
+by_clock-requires g c =
+    let row = row_of c.unwrap-row.result.now in
+    let is_row : row_at c.args.arena.now c.args.node ≡ Some row = sym (rw c.unwrap-row.ensures at c.get.ensures) in
+    let d = c.unwrap-row.result.now.def in
+    let fits : FitsSigned w64 c.time.result = search rules in
+    let same : to_z w64 (of_z w64 c.time.result) ≡ c.args.arena.now.time = (let e = c.time.ensures in omega (arith, ints, fits, e)) in
+    record {
+      reads = reads_of d c.in-At.is;
+      timed = subst (λ t. IsTimed t (def_of d)) (sym same) (c.requires.arena.timed c.args.node row is_row);
+      time = subst (λ t. pos 0 ≤ℤ t) (sym same) c.requires.arena.time;
+    }
+
+pub returns-in-At-clause-computed : goal.returns-in-At-clause-computed
+returns-in-At-clause-computed g c =
+    let F = functions_of g.F.Functions c.args.functions.now in
+    let old = noted c.args.rows.now c.args.ran.now.items (g.F.Functions.calls c.args.functions.now) in
+    let row = row_of c.unwrap-row.result.now in
+    let is_row : row_at c.args.arena.now c.args.node ≡ Some row = sym (rw c.unwrap-row.ensures at c.get.ensures) in
+    let d = c.unwrap-row.result.now.def in
+    let fits : FitsSigned w64 c.time.result = search rules in
+    let same : to_z w64 (of_z w64 c.time.result) ≡ c.args.arena.now.time = (let e = c.time.ensures in omega (arith, ints, fits, e)) in
+    clock_ends F c.args.arena.now c.args.roots.now c.args.round old c.args.node row c.requires.types c.requires.arena is_row c.by_clock.result
+    (reads_of d c.in-At.is)
+    (subst (λ t. IfOk c.by_clock.result (λ (o : Outcome). (v : Value) × (o ≡ Val v) × (clock_value t (def_of d) ≡ Some v))) same c.by_clock.ensures)
 
 pub returns-in-Ok-clause-computed : goal.returns-in-Ok-clause-computed
 returns-in-Ok-clause-computed g c =
