@@ -1,0 +1,8 @@
+//! The nodes that read the clock: which of them show another value once the time moved on.
+#![tactic(auto)]
+
+mod clock;
+mod settle;
+mod watch;
+
+pub use clock::{AdvanceFault, AfterFault, Clock};
