@@ -1,5 +1,6 @@
--- What a live node's points are linked to, look at and agree with, in two arenas in which its row is the same, and in which it is built alike.
-use Rattle.std.proofs.Common.{◌≡◌, inl, ℕ, ◌==◌, Bool, true, false, if◌then◌else◌, slice_index_or, List, [], ◌++◌, map, Option, None, Some, refl, sym, ap, subst, ◌∙◌}
+-- What a live node's points are linked to, look at and agree with, in two arenas in which its row is the same, it shows the same by the clock, and it is
+-- built alike.
+use Rattle.std.proofs.Common.{◌≡◌, inl, ℕ, ℤ, ◌==◌, Bool, true, false, if◌then◌else◌, slice_index_or, List, [], ◌++◌, map, Option, None, Some, refl, sym, ap, subst, ◌∙◌}
 use Rattle.std.specs.Prelude.{is_some, IsSome}
 use Rattle.std.proofs.lemmas.Option.{none-some}
 use Rattle.inc_value.specs.declared.function.FnRef.{FnRef}
@@ -8,15 +9,17 @@ use Rattle.inc_value.specs.declared.node.Part.{Part}
 use Rattle.inc_value.specs.declared.node.Part.TheVariants.{Main, Change}
 use Rattle.inc_value.specs.declared.node.Point.{Point}
 use Rattle.inc_value.specs.declared.outcome.Outcome.{Outcome}
+use Rattle.inc_value.specs.declared.outcome.Outcome.TheVariants.{Val}
 use Rattle.inc_value.specs.declared.value.Value.{Value}
 use Rattle.inc_value.specs.Choice.{Among, and_then}
 use Rattle.inc_terms.specs.declared.def.Def as declared
 use Rattle.inc_terms.specs.declared.def.Def.TheVariants as form
+use Rattle.inc_terms.specs.Clock.{clock_value}
 use Rattle.inc_terms.specs.Code.{def_of}
 use Rattle.inc_terms.specs.Depend.{main, change, subject_of, kids_of, main_reads, fixed_reads, right_of, at_most_one}
 use Rattle.inc_terms.specs.Graph as graph
 use Rattle.inc_terms.specs.Graph.{Graph, Row, Def}
-use Rattle.inc_terms.specs.Local.{shown, shown_of, IsBuilt, PartAgrees, Agrees}
+use Rattle.inc_terms.specs.Local.{own, shown, shown_of, IsBuilt, PartAgrees, Agrees}
 use Rattle.inc_terms.specs.Plan.{gate_of, targets, right_links, plan}
 use Rattle.inc_terms.specs.Term.{Functions}
 use Rattle.inc_terms.specs.Work.{taken_by}
@@ -121,8 +124,22 @@ one_point_built F G n _ o one = tt
 
 -- ---- agreement
 
+abbrev outcome_by : Option Value → Option Outcome
+outcome_by None = None
+outcome_by (Some v) = Some (Val v)
+
+-- at a time at which a node shows the same by the clock its own function sees the same
+own_at : (F : Functions) (G : Graph) (time : ℤ) (see : Point → Option Outcome) (n : NodeId) (def : Def) → clock_value G.now def ≡ clock_value time def
+    → own F G see n def ≡ own F (record G { now = time }) see n def
+own_at F G time see n (graph.At t) same = ap outcome_by same
+own_at F G time see n (graph.Steps v steps) same = ap outcome_by same
+own_at F G time see n graph.Now same = ap outcome_by same
+own_at F G time see n (graph.Every base span) same = ap outcome_by same
+own_at F G time see n _ same = refl
+
 module _ (F : Functions) (before arena : Arena) (held held' : Holdings) (out out' : Point → Option Outcome) (p : Point) (r : Row)
     (row : row_at before p.node ≡ Some r) (row' : row_at arena p.node ≡ Some r) (here : out' p ≡ out p)
+    (clock : clock_value arena.time r.def ≡ clock_value before.time r.def)
     (same_built : held'.built p.node ≡ held.built p.node)
     (still_built : (o : Outcome) → IsBuilt F (graph_of before held) p.node r.def o → IsBuilt F (graph_of arena held') p.node r.def o)
     (looked : (q : Point) → Among q (looks (graph_of before held) out p r) → shown (graph_of arena held') out' q ≡ shown (graph_of before held) out q) where
@@ -135,13 +152,18 @@ module _ (F : Functions) (before arena : Arena) (held held' : Holdings) (out out
   read : (q : Point) → Among q (fixed_reads G p.node r.def p.part) → shown G' out' q ≡ shown G out q
   read q a = looked q (among_left q (fixed_reads G p.node r.def p.part) _ a)
 
+  -- its own function sees the same in both
+  own_alike : own F G' (shown G' out') p.node r.def ≡ own F G (shown G' out') p.node r.def
+  own_alike = own_at F G' before.time (shown G' out') p.node r.def clock
+      ∙ own_crosses G (record G' { now = before.time }) p.node F (shown G' out') refl refl refl same_built r.def
+
   part_agrees : (part : Part) → p.part ≡ part → PartAgrees F G out p.node r.def part → PartAgrees F G' out' p.node r.def part
   part_agrees Main is o =
       let at_change : shown G out (change p.node) ≡ out (change p.node) = ap (λ (x : Option Row). shown_of x (out (change p.node))) row in
       let same = own_same F G (shown G out) (shown G' out') p.node r.def (λ q a. read q (rw is a))
       (λ q a. looked q (among_right q (fixed_reads G p.node r.def p.part) _ (rw is (rw at_change at a)))) in
       let mine : main p.node ≡ p = λ i. record { node = p.node; part = is' i } in
-      (o.0, rw (mine, here, ← mine) o.1, own_crosses G G' p.node F (shown G' out') refl refl refl same_built r.def ∙ (same ∙ o.2))
+      (o.0, rw (mine, here, ← mine) o.1, own_alike ∙ (same ∙ o.2))
     where
       is' : Main ≡ p.part
       is' = sym is

@@ -51,11 +51,10 @@ use Rattle.wiring.proofs.Scheduling.{put_in, put_stands, scheduled}
 
 -- the definition's children
 pub reads_kids : (G : Graph) (n : NodeId) (d : declared.Def) → subject_of (def_of d) ≡ None → fixed_reads G n (def_of d) Main ≡ map main (kids (def_of d))
-reads_kids G n (form.Const v) one = refl
-reads_kids G n (form.Var v) one = refl
-reads_kids G n (form.Map f ks) one = refl
-reads_kids G n (form.Fold f v ks) one = refl
-reads_kids G n _ one = absurd (cc)
+reads_kids G n (form.If t a b) one = absurd (cc)
+reads_kids G n (form.Join k) one = absurd (cc)
+reads_kids G n (form.Bind l f caps) one = absurd (cc)
+reads_kids G n _ one = refl
 
 -- a point reads these points, and has no right side
 pub record Reads (p : Point) (r : Row) (links : List Point) : Type 0 where

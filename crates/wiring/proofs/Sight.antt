@@ -118,8 +118,6 @@ module _ (s : State) (arena : Arena) (work : Work) (counts : Counts) (kept : IsK
   by_form : (F : Functions) (n : NodeId) (d : declared.Def)
       → (IsSome (subject_of (def_of d)) → shown s.graph s.out (change n) ≡ seen work.rows (change n))
       → own F (graph_at arena work) (shown s.graph s.out) n (def_of d) ≡ own F (graph_at arena work) (seen work.rows) n (def_of d)
-  by_form F n (form.Const v) own_change = refl
-  by_form F n (form.Var v) own_change = refl
   by_form F n (form.Map f ns) own_change = let e = sees_together ns in rw e refl
   by_form F n (form.Fold f v ns) own_change = let e = sees_together ns in rw e refl
   by_form F n (form.If t a b) own_change =
@@ -128,6 +126,7 @@ module _ (s : State) (arena : Arena) (work : Work) (counts : Counts) (kept : IsK
       own_right_same (graph_at arena work) (shown s.graph s.out) (seen work.rows) n (def_of (form.Join k)) sees (own_change refl)
   by_form F n (form.Bind l f caps) own_change =
       own_right_same (graph_at arena work) (shown s.graph s.out) (seen work.rows) n (def_of (form.Bind l f caps)) sees (own_change refl)
+  by_form F n _ own_change = refl
 
   -- a live node's own function sees the same in the state
   pub own_sees : (F : Functions) (n : NodeId) (r : Row) → row_at arena n ≡ Some r
