@@ -5,6 +5,7 @@ use Rattle.inc_value.specs.declared.node.NodeId.{NodeId}
 use Rattle.inc_value.specs.declared.node.Point.{Point}
 use Rattle.inc_value.specs.declared.outcome.Outcome.{Outcome}
 use Rattle.inc_value.specs.declared.value.Value.{Value}
+use Rattle.inc_terms.specs.Clock.{clock_value}
 use Rattle.inc_terms.specs.Depend.{main, change, subject_of}
 use Rattle.inc_terms.specs.Graph.{Row, Var}
 use Rattle.inc_terms.specs.Local.{shown, Agrees, IsBuilt}
@@ -76,11 +77,13 @@ pub record StandsAs (arena : Arena) (n b : NodeId) (was : Row) : Type 0 where
   pub scope : row.scope ≡ Some b
   pub same : (row ≡ was) ⊎ ((v : Value) × (was.def ≡ Var v))
 
--- between rounds this may change: less may be needed, and what is so keeps its links, its row and its place in the heap; its node stays, or is a
--- variable with another value and in the heap; what was called or has run was so before; no row is settled that wasn't; live binds keep their
+-- between rounds this may change: less may be needed, and what is so keeps its links, its row and its place in the heap; its node shows what it showed by
+-- the clock, and stays, or is in the heap and shows another value, or is a variable with one; what was called or has run was so before; no row is settled that wasn't; live binds keep their
 -- roots, and live nodes the outcomes of their changes; and the nodes in scopes stand there as they did, each as it is, but for variables
 pub record Stays (before arena : Arena) (old work : Work) : Type 0 where
   pub needed : (p : Point) → Needed work.graph p → Needed old.graph p
+  pub clock : (p : Point) (r : Row) → Needed work.graph p → row_at arena p.node ≡ Some r
+      → Holds work.graph.heap p ⊎ (clock_value arena.time r.def ≡ clock_value before.time r.def)
   pub links : (p q : Point) → Needed work.graph p → times work.graph.links p q ≡ times old.graph.links p q
   pub heap : (p : Point) → Needed work.graph p → Holds old.graph.heap p → Holds work.graph.heap p
   pub rows : (p : Point) → Needed work.graph p → at work.rows p ≡ at old.rows p
@@ -106,6 +109,7 @@ pub record Stays (before arena : Arena) (old work : Work) : Type 0 where
 pub record HasDropped (old new : Parts) (count : ℕ) : Type 0 where
   pub older : (n : NodeId) → n.gen_ < count → row_at new.arena n ≡ row_at old.arena n
   pub given : new.arena.given ≡ old.arena.given
+  pub time : new.arena.time ≡ old.arena.time
   pub rows : (p : Point) → p.node.gen_ < count → at new.work.rows p ≡ at old.work.rows p
   pub cutoffs : (n : NodeId) → n.gen_ < count → cutoff_at new.work n ≡ cutoff_at old.work n
   pub other_cutoffs : (n : NodeId) → (cutoff_at new.work n ≡ cutoff_at old.work n) ⊎ (cutoff_at new.work n ≡ Equal)
@@ -159,11 +163,12 @@ pub record LosesNode (old new : Parts) (id : NodeId) : Type 0 where
   pub kept : PartsKept new
   pub ready : (M : Meaning) → IsReady M old → IsReady M new
 
--- no node is left whose id was given since the count, and what is kept of others stays; a round may still begin
+-- no node is left whose id was given since the count, what is kept of others stays, and the time stands; a round may still begin
 pub record IsTakenBack (old new : Parts) (count : ℕ) : Type 0 where
   pub older : (n : NodeId) → n.gen_ < count → row_at new.arena n ≡ row_at old.arena n
   pub dropped : (n : NodeId) → count ≤ n.gen_ → row_at new.arena n ≡ None
   pub given : new.arena.given ≡ old.arena.given
+  pub time : new.arena.time ≡ old.arena.time
   pub no_pair : (n : NodeId) → Among n new.work.pairs.nodes → n.gen_ < count
   pub no_scoped : (n : NodeId) → Among n new.work.scoped.nodes → n.gen_ < count
   pub rows : (p : Point) → p.node.gen_ < count → at new.work.rows p ≡ at old.work.rows p

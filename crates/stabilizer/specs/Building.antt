@@ -28,9 +28,10 @@ abbrev pub new_row : Progress
 new_row = record { stage = Bare; settled = 0; outcome = None; last = None; cutoff = Equal }
 
 -- every id that was given keeps its row, or has none as before, and so do its points. Each further node stands in the bind's scope; nothing was done to its points yet. No link was
--- made, and no root
+-- made, and no root; the time stands
 pub record HasGrown (old new : Parts) (b : NodeId) : Type 0 where
   pub later : old.arena.given ≤ new.arena.given
+  pub time : new.arena.time ≡ old.arena.time
   pub sound : IsSoundArena new.arena
   pub nodes : (n : NodeId) → Given old.arena.given n → row_at new.arena n ≡ row_at old.arena n
   pub scope : (n : NodeId) (r : Row) → row_at new.arena n ≡ Some r → old.arena.given ≤ n.gen_ → (r.scope ≡ Some b) × Given new.arena.given n
@@ -206,10 +207,11 @@ pub record HaveLeft (old new : Parts) (b : NodeId) : Type 0 where
   pub dying : new.dying.items ≡ old.dying.items
   pub ran : new.ran ≡ old.ran
 
--- the nodes whose ids were given since the count are dropped, one for each of these ids at most
+-- the nodes whose ids were given since the count are dropped, one for each of these ids at most, and the time stands
 pub record DropsSince (old new : Arena) (count : ℕ) : Type 0 where
   pub sound : IsSoundArena new
   pub given : new.given ≡ old.given
+  pub time : new.time ≡ old.time
   pub nodes : (n : NodeId) → n.gen_ < count → row_at new n ≡ row_at old n
   pub gone : (n : NodeId) → count ≤ n.gen_ → row_at new n ≡ None
   pub room : live old ≤ live new + (old.given - count)

@@ -191,10 +191,11 @@ IsBindOf arena n f = (r : Row) (l : NodeId) (g : FnRef) (captures : List NodeId)
 
 -- ---- dying
 
--- of the nodes just those inside the bind's scope died, and the bind is built for nothing. What lives on and read one of them is in the heap, unless it was settled;
+-- of the nodes just those inside the bind's scope died, and the bind is built for nothing; the time stands. What lives on and read one of them is in the heap, unless it was settled;
 -- of what died nothing is kept but its needed points with their links
 pub record HasDied (old new : Parts) (b : NodeId) : Type 0 where
   pub given : new.arena.given ≡ old.arena.given
+  pub time : new.arena.time ≡ old.arena.time
   pub sound : IsSoundArena new.arena
   pub nodes : (n : NodeId) → (Inside (graph_in old) b n × (row_at new.arena n ≡ None))
       ⊎ ((Inside (graph_in old) b n → ⊥) × (row_at new.arena n ≡ row_at old.arena n))
@@ -247,6 +248,7 @@ pub record MayForget (arena : Arena) (work : Work) (nodes : List NodeId) : Type 
 -- died in the round, is in the heap, unless it was settled
 pub record AreForgotten (before arena : Arena) (old new : Work) (nodes : List NodeId) : Type 0 where
   pub given : arena.given ≡ before.given
+  pub time : arena.time ≡ before.time
   pub sound : IsSoundArena arena
   pub dead : (n : NodeId) → Among n nodes → row_at arena n ≡ None
   pub others : (n : NodeId) → (Among n nodes → ⊥) → row_at arena n ≡ row_at before n

@@ -1,8 +1,9 @@
 //! The nodes of a graph with all that a stabilizer keeps of them.
-ghost use Rattle.std.specs.Prelude.{◌≡◌, ◌≢◌, ◌↔◌, ◌+◌, ◌<◌, ◌≤◌, [], None, Some};
+ghost use Rattle.std.specs.Prelude.{◌≡◌, ◌≢◌, ◌↔◌, ◌+◌, ◌<◌, ◌≤◌, pos, [], None, Some};
 ghost use Rattle.std.specs.Prelude.{OnOk, OnErr, IsErrOf, option_copied};
 ghost use Rattle.inc_value.specs.declared.node.NodeId.{NodeId};
 ghost use Rattle.inc_value.specs.declared.node.Point.{Point};
+ghost use Rattle.inc_terms.specs.Clock.{IsTimed};
 ghost use Rattle.inc_terms.specs.Code.{def_of};
 ghost use Rattle.inc_terms.specs.Depend.{change, main};
 ghost use Rattle.inc_terms.specs.Graph.{Row as ARow};
@@ -71,6 +72,7 @@ impl Parts {
         ensures empty { (n : NodeId) → row_at result.arena n ≡ None }
         ensures live { live result.arena ≡ 0 }
         ensures given { result.arena.given ≡ 0 }
+        ensures time { result.arena.time ≡ pos 0 }
         ensures roots { AreRooted result.work [] }
         ensures ran { result.ran.items ≡ [] }
         ensures rows { (a : Point) → at result.work.rows a ≡ None }
@@ -93,10 +95,12 @@ impl Parts {
         &self.arena
     }
 
-    /// Adds a node outside any scope, with all memory that a round takes for it but for links and calls. What is
-    /// looked at comes in the order of the faults. A refused call leaves all nodes and all that is kept of them.
+    /// Adds a node outside any scope, with all memory that a round takes for it but for links and calls. Spans that it
+    /// counts begin between 0 and the present time, and aren't empty. What is looked at comes in the order of the faults.
+    /// A refused call leaves all nodes and all that is kept of them.
     pub fn add(&mut self, def: Def, ty: Ty) -> Result<NodeId, AddFault>
         requires kept { PartsKept self.old }
+        requires timed { IsTimed self.old.arena.time (def_of def) }
         ensures unknown { IsErrOf result AddFault.Unknown ↔ ¬ NamesGiven self.old.arena.given (def_of def) }
         ensures wrong_type { IsErrOf result AddFault.WrongType
             ↔ (NamesGiven self.old.arena.given (def_of def) × ¬ Makes self.old.arena (def_of def) ty) }
@@ -121,6 +125,7 @@ impl Parts {
     fn place(&mut self, id: NodeId, def: Def, ty: Ty) -> Result<(), AllocError>
         requires kept { PartsKept self.old }
         requires fits { IsAddable self.old.arena (def_of def) ty }
+        requires timed { IsTimed self.old.arena.time (def_of def) }
         requires next { id.gen_ ≡ self.old.arena.given }
         ensures placed { OnOk result (HasNode self.old self.new id (record { def = def_of def; ty = ty; scope = None })) }
         ensures left { OnErr result (AddsNothing self.old self.new) }

@@ -1,5 +1,5 @@
 -- A node is added, or its points added and dropped again.
-use Rattle.std.proofs.Common.{◌≡◌, ◌≢◌, ◌⊎◌, inl, inr, ℕ, ◌+◌, ◌≤◌, true, Option, None, Some, refl, sym, ap, subst, ◌∙◌, arith}
+use Rattle.std.proofs.Common.{◌≡◌, ◌≢◌, ◌⊎◌, inl, inr, ℕ, ℤ, ◌+◌, ◌≤◌, true, Option, None, Some, refl, sym, ap, subst, ◌∙◌, arith}
 use Rattle.std.specs.Prelude.{is_some}
 use Rattle.std.proofs.lemmas.Option.{none-some}
 use Rattle.inc_value.specs.declared.node.NodeId.{NodeId}
@@ -7,6 +7,7 @@ use Rattle.inc_value.specs.declared.node.Part.{Part}
 use Rattle.inc_value.specs.declared.node.Point.{Point}
 use Rattle.inc_value.specs.declared.outcome.Outcome.{Outcome}
 use Rattle.inc_value.specs.Choice.{Among}
+use Rattle.inc_terms.specs.Clock.{clock_value}
 use Rattle.inc_terms.specs.Depend.{main, change, subject_of}
 use Rattle.inc_terms.specs.Graph.{Row}
 use Rattle.inc_terms.specs.Within.{Given}
@@ -232,6 +233,7 @@ module _ (before arena : Arena) (old work : Work) (id : NodeId) (row : Row) (hei
   pub added_stays : Stays before arena old work
   added_stays = record {
     needed = need_before;
+    clock = λ p r need row. inr (ap (λ (t : ℤ). clock_value t r.def) added.time);
     links = λ p q n. ap (λ (x : Links). times x p q) links;
     heap = λ p n h. ap is_some (heap p) ∙ h;
     rows = λ p n. rows.others p (needed_other p n);
@@ -285,6 +287,7 @@ module _ (arena : Arena) (old work : Work) (kept : IsKept arena old) (same : Kee
 pub back_stays : (arena : Arena) (old work : Work) → KeepsWork old work → Stays arena arena old work
 back_stays arena old work same = record {
   needed = λ p n. need_same work.graph old.graph (sym same.links) (sym same.roots) p n;
+  clock = λ p r need row. inr refl;
   links = λ p q n. ap (λ (x : Links). times x p q) same.links;
   heap = λ p n h. ap is_some (same.heap p) ∙ h;
   rows = λ p n. same.rows p;

@@ -10,6 +10,7 @@ use Rattle.inc_value.specs.declared.node.Part.TheVariants.{Main, Change}
 use Rattle.inc_value.specs.declared.node.Point.{Point}
 use Rattle.inc_value.specs.declared.outcome.Outcome.{Outcome}
 use Rattle.inc_value.specs.Choice.{Among}
+use Rattle.inc_terms.specs.Clock.{clock_value}
 use Rattle.inc_terms.specs.Depend.{main, change, subject_of, fixed_reads}
 use Rattle.inc_terms.specs.Graph as graph
 use Rattle.inc_terms.specs.Graph.{Graph, Row, Def, Bind}
@@ -200,12 +201,12 @@ module _ (M : Meaning) (parts : Parts) (ready : IsReady M parts) where
     last_now is = let k = row_of arena work kept p.node r row in ap last_of k.1 ∙ sym (ready.stands.last p.node k.0 k.1)
 
     agrees_now : Agrees F s.graph s.out p → Agrees F (graph_at arena work) (out_of work) p
-    agrees_now a = agrees_still F arena arena (held_at arena work) (held_at arena work) s.out (out_of work) p r row row here_now refl
+    agrees_now a = agrees_still F arena arena (held_at arena work) (held_at arena work) s.out (out_of work) p r row row here_now refl refl
         (λ o h. h) looked_now
         (subst (λ (G : Graph). Agrees F G s.out p) ready.stands.graph a)
 
     recalls_now : Recalls s.graph (shown s.graph s.out) s.last p → Recalls (graph_at arena work) (shown (graph_at arena work) (out_of work)) (last_call work) p
-    recalls_now a = recalls_still F arena arena (held_at arena work) (held_at arena work) s.out (out_of work) p r row row here_now refl
+    recalls_now a = recalls_still F arena arena (held_at arena work) (held_at arena work) s.out (out_of work) p r row row here_now refl refl
         (λ o h. h) looked_now s.last (last_call work) last_now
         (subst (λ (G : Graph). Recalls G (shown G s.out) s.last p) ready.stands.graph a)
 
@@ -500,12 +501,12 @@ module _ (F : Functions) (before arena : Arena) (old work : Work) (b : IsBetween
     same_built : G'.built p.node ≡ G.built p.node
     same_built = built_as p.node r row was (change_still p r need was)
 
-    fresh_still : Agrees F G (out_of old) p × Recalls G (shown G (out_of old)) (last_call old) p
+    fresh_still : clock_value arena.time r.def ≡ clock_value before.time r.def → Agrees F G (out_of old) p × Recalls G (shown G (out_of old)) (last_call old) p
         → Agrees F G' (out_of work) p × Recalls G' (shown G' (out_of work)) (last_call work) p
-    fresh_still f = (
-      agrees_still F before arena (held_at before old) (held_at arena work) (out_of old) (out_of work) p r was row (out_still p need)
+    fresh_still clock f = (
+      agrees_still F before arena (held_at before old) (held_at arena work) (out_of old) (out_of work) p r was row (out_still p need) clock
           same_built (λ o h. is_built p.node r.def o same_built h) looked_still f.0,
-      recalls_still F before arena (held_at before old) (held_at arena work) (out_of old) (out_of work) p r was row (out_still p need)
+      recalls_still F before arena (held_at before old) (held_at arena work) (out_of old) (out_of work) p r was row (out_still p need) clock
           same_built (λ o h. is_built p.node r.def o same_built h) looked_still (last_call old) (last_call work) last_still f.1,
     )
 
@@ -558,7 +559,7 @@ module _ (F : Functions) (before arena : Arena) (old work : Work) (b : IsBetween
       | inr h ↦ inl h.0
       | inl same ↦ elim (b.fresh p r (stays.needed p need) same) [
         | inl h ↦ inl (stays.heap p need h)
-        | inr f ↦ inr (fresh_still p r need row same f)
+        | inr f ↦ elim (stays.clock p r need row) [ inl h ↦ inl h | inr clock ↦ inr (fresh_still p r need row same clock f) ]
       ]
     ];
     inside = scopes_still;

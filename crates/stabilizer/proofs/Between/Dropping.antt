@@ -1,5 +1,5 @@
 -- A node that isn't needed is dropped.
-use Rattle.std.proofs.Common.{◌≡◌, ◌≢◌, ◌⊎◌, inl, inr, ℕ, ◌+◌, ◌^◌, ◌<◌, ◌≤◌, Option, None, Some, IsSome, refl, sym, ap, subst, ◌∙◌, arith}
+use Rattle.std.proofs.Common.{◌≡◌, ◌≢◌, ◌⊎◌, inl, inr, ℕ, ℤ, ◌+◌, ◌^◌, ◌<◌, ◌≤◌, Option, None, Some, IsSome, refl, sym, ap, subst, ◌∙◌, arith}
 use Rattle.std.specs.Prelude.{is_some}
 use Rattle.std.proofs.lemmas.Bool.{cases_lt}
 use Rattle.std.proofs.lemmas.Option.{none-some}
@@ -7,6 +7,7 @@ use Rattle.inc_value.specs.declared.node.NodeId.{NodeId}
 use Rattle.inc_value.specs.declared.node.Part.TheVariants.{Main}
 use Rattle.inc_value.specs.declared.node.Point.{Point}
 use Rattle.inc_value.specs.Choice.{Among}
+use Rattle.inc_terms.specs.Clock.{clock_value}
 use Rattle.inc_terms.specs.Depend.{main, change}
 use Rattle.inc_terms.specs.Graph.{Row}
 use Rattle.point_map.specs.Rows.{Rows, at, Holds}
@@ -174,6 +175,7 @@ module _ (before arena : Arena) (old work : Work) (id : NodeId) (kept : IsKept b
   pub dropped_stays : Stays before arena old work
   dropped_stays = record {
     needed = need_before;
+    clock = λ p r need row. inr (ap (λ (t : ℤ). clock_value t r.def) dropped.time);
     links = λ p q n. ap (λ (x : Links). times x p q) links;
     heap = λ p n h. ap is_some (same_heap p) ∙ h;
     rows = λ p n. rows.others p (needed_other p (need_before p n));
@@ -234,6 +236,7 @@ module _ (old mid new : Parts) (count : ℕ) (id : NodeId) (so_far : HasDropped 
   dropped_more = record {
     older = λ n h. dropped.others n (younger n h) ∙ so_far.older n h;
     given = given ∙ so_far.given;
+    time = dropped.time ∙ so_far.time;
     rows = λ p h. rows.others p (younger p.node h) ∙ so_far.rows p h;
     cutoffs = λ n h. ap cutoff_in (rows.others (main n) (younger n h) ∙ so_far.rows (main n) h);
     other_cutoffs = λ n. elim (node_or_other n id) [
@@ -330,6 +333,7 @@ module _ (old left : Parts) (count : ℕ) (so : HasDropped old left count) (ran 
   forgotten_stays : Stays left.arena left.arena left.work work
   forgotten_stays = record {
     needed = λ p n. n;
+    clock = λ p r need row. inr refl;
     links = λ p q n. refl;
     heap = λ p n h. h;
     rows = λ p n. refl;

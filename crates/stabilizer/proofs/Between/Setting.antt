@@ -1,5 +1,5 @@
 -- A variable is set to another value.
-use Rattle.std.proofs.Common.{◌≡◌, ◌⊎◌, inl, inr, ◌≤◌, false, List, Option, Some, refl, sym, ap, subst, ◌∙◌, arith, None}
+use Rattle.std.proofs.Common.{ℤ, ◌≡◌, ◌⊎◌, inl, inr, ◌≤◌, false, List, Option, Some, refl, sym, ap, subst, ◌∙◌, arith, None}
 use Rattle.std.specs.Prelude.{is_some, IsSome}
 use Rattle.std.proofs.lemmas.Option.{none-some}
 use Rattle.inc_value.specs.declared.function.FnRef.{FnRef}
@@ -13,6 +13,7 @@ use Rattle.inc_value.specs.declared.value.Value.{Value}
 use Rattle.inc_terms.specs.declared.def.Def as declared
 use Rattle.inc_terms.specs.declared.def.Def.TheVariants as form
 use Rattle.inc_terms.specs.Code.{def_of}
+use Rattle.inc_terms.specs.Clock.{clock_value}
 use Rattle.inc_terms.specs.Depend.{main, change, subject_of, right_of}
 use Rattle.inc_terms.specs.Graph as graph
 use Rattle.inc_terms.specs.Graph.{Row, Def, Var}
@@ -253,6 +254,7 @@ module _ (before arena : Arena) (old work : Work) (id : NodeId) (v : Value) (kep
   pub set_stays : Stays before arena old work
   set_stays = record {
     needed = need_before;
+    clock = λ p r need row. inr (ap (λ (t : ℤ). clock_value t r.def) set.changes.time);
     links = λ p q n. ap (λ (x : Links). times x p q) marked.graph.links;
     heap = λ p n h. elim (point_cases p (main id)) [
       | inl is ↦ subst (λ (x : Point). Holds work.graph.heap x) (sym is) (marked.told (need_before (main id) (subst (λ (x : Point). Needed work.graph x) is n)))

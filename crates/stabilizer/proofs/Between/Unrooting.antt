@@ -110,6 +110,7 @@ module _ (old : Work) (g : NecessaryPart) (id : NodeId) (off : IsUnrooted (rowle
     pub unrooted_stays : Stays arena arena old work
     unrooted_stays = record {
       needed = need_before;
+      clock = λ p r need row. inr refl;
       links = λ p q n. off.sweep.kept p q ((off.sweep.reached p).0 n);
       heap = λ p n h. ap is_some (off.sweep.heap_kept p ((off.sweep.reached p).0 n)) ∙ h;
       rows = λ p n. refl;

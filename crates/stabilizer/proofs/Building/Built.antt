@@ -154,6 +154,7 @@ module _ (old mid : Parts) (b : NodeId) (side : RightSide) (kept : PartsKept old
       pub has_grown : HasGrown old new b
       has_grown = record {
         later = subst (λ (x : Arena). old.arena.given ≤ x.given) (sym so.arena) grows.later;
+        time = ap (λ (x : Arena). x.time) so.arena ∙ grows.time;
         sound = subst IsSoundArena (sym so.arena) sound;
         nodes = λ n g. ap (λ (x : Arena). row_at x n) so.arena ∙ grows.keeps n g;
         scope = λ n r e s. subst (λ (x : Arena). (r.scope ≡ Some b) × Given x.given n) (sym so.arena)
@@ -275,6 +276,7 @@ module _ (old mid : Parts) (b : NodeId) (side : RightSide) (kept : PartsKept old
       is_unbuilt = record {
         grown = record {
           later = later_last;
+          time = dis.arena.time ∙ (ap (λ (x : Arena). x.time) so.arena ∙ grows.time);
           sound = dis.arena.sound;
           nodes = λ n g. nodes_old n g;
           scope = λ n r e s. absurd (none-some r (sym (dis.arena.gone n s) ∙ e));

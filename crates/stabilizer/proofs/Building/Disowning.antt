@@ -184,6 +184,7 @@ module _ (old now : Parts) (b : NodeId) (so : AreLeaving old now b) (none : (n :
 pub record AreDropping (old now : Arena) (count next : ℕ) : Type 0 where
   pub sound : IsSoundArena now
   pub given : now.given ≡ old.given
+  pub time : now.time ≡ old.time
   pub nodes : (n : NodeId) → n.gen_ < count → row_at now n ≡ row_at old n
   pub gone : (n : NodeId) → count ≤ n.gen_ → n.gen_ < next → row_at now n ≡ None
   pub room : live old ≤ live now + (next - count)
@@ -194,6 +195,7 @@ pub dropping_begins : (a : Arena) (count : ℕ) → IsSoundArena a → count ≤
 dropping_begins a count sound later = record {
   sound = sound;
   given = refl;
+  time = refl;
   nodes = λ n h. refl;
   gone = λ n s h. absurd (omega (arith, s, h));
   room = omega arith;
@@ -233,6 +235,7 @@ module _ (old now : Arena) (count next : ℕ) (so : AreDropping old now count ne
       dropping_more = record {
         sound = sound;
         given = given ∙ so.given;
+        time = dropped.time ∙ so.time;
         nodes = λ n h. dropped.others n (older n h) ∙ so.nodes n h;
         gone = λ n s h. elim (some_or_none (row_at new n)) [
           | inr none ↦ none
@@ -250,6 +253,7 @@ module _ (old now : Arena) (count next : ℕ) (so : AreDropping old now count ne
   drops_since none = record {
     sound = so.sound;
     given = so.given;
+    time = so.time;
     nodes = so.nodes;
     gone = λ n s. elim (some_or_none (row_at now n)) [
       | inr gone ↦ gone

@@ -292,6 +292,7 @@ module _ (parts : Parts) (b : NodeId) (kept : IsKept parts.arena parts.work) whe
   pub none_grown : HasGrown parts parts b
   none_grown = record {
     later = omega arith;
+    time = refl;
     sound = kept.sound;
     nodes = λ n g. refl;
     scope = λ n r row le. absurd (none_later n r row le);

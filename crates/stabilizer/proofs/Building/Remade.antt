@@ -273,7 +273,7 @@ module _ (F : Functions) (z : Start) (t : State) (b : NodeId) (now : Outcome) (c
 
     rebuilt : Rebuilt (Given t.given) t.graph G' b
     rebuilt = record {
-      clock = sym (ap (λ (G : Graph). G.now) a.stands.graph);
+      clock = a.grown.time ∙ (a.died.time ∙ sym (ap (λ (G : Graph). G.now) a.stands.graph));
       frozen = λ n g. sym (ap (λ (G : Graph). G.frozen n) a.stands.graph);
       lists = λ n g. sym (ap (λ (G : Graph). G.lists n) a.stands.graph);
       rows = λ n g. rows_after n g;

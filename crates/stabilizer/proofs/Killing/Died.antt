@@ -324,6 +324,7 @@ module _ (old : Parts) (listed forgot : Work) (b : NodeId) (nodes : List NodeId)
     pub all_died : HasDied old new b
     all_died = record {
       given = forgotten.given;
+      time = forgotten.time;
       sound = forgotten.sound;
       nodes = λ n. elim (among_or_not n nodes) [
         | inl a ↦ inl (inside n a, forgotten.dead n a)

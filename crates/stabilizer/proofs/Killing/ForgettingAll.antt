@@ -147,6 +147,7 @@ module _ (before mid : Arena) (old now : Work) (all left rest : List NodeId) (n 
     one_forgotten : AreForgotten before arena old new (n ∷ so.done)
     one_forgotten = record {
       given = given ∙ so.forgotten.given;
+      time = dropped.time ∙ so.forgotten.time;
       sound = sound;
       dead = λ m a. elim a [
         | inl e ↦ ap (row_at arena) e ∙ dropped.changed
