@@ -11,7 +11,8 @@ use Rattle.inc_value.specs.declared.ty.Ty.{Ty}
 use Rattle.inc_value.specs.declared.value.Value.{Value}
 use Rattle.inc_terms.specs.Graph as graph
 use Rattle.inc_terms.specs.Graph.{Row, Def}
-use Rattle.inc_terms.specs.Within.{Given, Fit, DefWithin}
+use Rattle.inc_terms.specs.Term.{Step}
+use Rattle.inc_terms.specs.Within.{Given, Fit, DefWithin, ValueWithin}
 use Rattle.node_arena.specs.Arena.{Arena, row_at, Changes, IsLive, IsSet, with_value}
 use Rattle.node_arena.specs.Graph.{CallsFit}
 use Rattle.node_arena.specs.Listing.{Listed}
@@ -35,6 +36,10 @@ every_unit : (ns : List NodeId) → Every (λ (n : NodeId). Unit {0}) ns
 every_unit [] = tt
 every_unit (n ∷ ns) = (tt, every_unit ns)
 
+every_step : (steps : List Step) → Every (λ (s : Step). ValueWithin (λ (n : NodeId). Unit {0}) s.value) steps
+every_step [] = tt
+every_step (s ∷ steps) = (value_any s.value, every_step steps)
+
 -- each function of the definition is fit
 abbrev pub IsDefFit : (FnRef → Bool) → (FnRef → RightSide) → Arena → Def → Type 0
 IsDefFit known right a def = DefWithin (λ (n : NodeId). Unit {0}) (IsFitIn known right a) def
@@ -52,6 +57,10 @@ module _ (known : FnRef → Bool) (right : FnRef → RightSide) (sides : SidesHo
   known_fits a b ty (graph.If t l r) k m = (tt, tt, tt)
   known_fits a b ty (graph.Join kid) k m = tt
   known_fits a b ty (graph.Bind l f captures) k m = (((k.0, m.kind), k.1), tt, every_unit captures)
+  known_fits a b ty (graph.At t) k m = tt
+  known_fits a b ty (graph.Steps v steps) k m = (value_any v, every_step steps)
+  known_fits a b ty graph.Now k m = tt
+  known_fits a b ty (graph.Every base span) k m = tt
   known_fits a b ty def k m = absurd m
 
 -- then they list given nodes

@@ -7,6 +7,7 @@ use Rattle.inc_value.specs.declared.node.NodeId.{NodeId}
 use Rattle.inc_value.specs.declared.node.Point.{Point}
 use Rattle.inc_value.specs.declared.value.Value.{Value}
 use Rattle.inc_value.specs.declared.ty.Ty.{Ty}
+use Rattle.inc_terms.specs.Clock.{IsTimed}
 use Rattle.inc_terms.specs.Graph.{Row, Def, Map, Fold, Bind}
 use Rattle.inc_terms.specs.Within.{Given}
 use Rattle.map_nodes.specs.declared.cutoff.Cutoff.{Cutoff}
@@ -36,7 +37,8 @@ NoneScopedSince a count = (n : NodeId) (r : Row) → row_at a n ≡ Some r → c
 
 -- why a node may not be added
 abbrev pub IsAddFault : GraphFault → Type 0
-IsAddFault e = ((cause : Kept) × (e ≡ fault.Broken cause)) ⊎ (e ≡ fault.Unknown) ⊎ (e ≡ fault.WrongType) ⊎ (e ≡ fault.Full) ⊎ (e ≡ fault.Memory)
+IsAddFault e = ((cause : Kept) × (e ≡ fault.Broken cause)) ⊎ (e ≡ fault.Unknown) ⊎ (e ≡ fault.WrongType) ⊎ (e ≡ fault.Span) ⊎ (e ≡ fault.Full)
+    ⊎ (e ≡ fault.Memory)
 
 module _ {F : Type 0} where
   -- the functions stay, what the last accepted stabilize told and what broke the graph
@@ -81,9 +83,13 @@ module _ {F : Type 0} where
   abbrev pub IsMistyped : GraphView F → Def → Ty → Type 0
   IsMistyped s def ty = NamesGiven s.nodes.given def × ¬ Makes s.nodes def ty
 
-  -- it makes the type, and no further node can be added
+  -- it makes the type, and counts spans that are empty, or whose base is below 0 or wasn't reached
+  abbrev pub IsUntimed : GraphView F → Def → Ty → Type 0
+  IsUntimed s def ty = NamesGiven s.nodes.given def × Makes s.nodes def ty × ¬ IsTimed s.nodes.time def
+
+  -- it makes the type, counts no such spans, and no further node can be added
   abbrev pub HasNoRoom : GraphView F → Def → Ty → Type 0
-  HasNoRoom s def ty = NamesGiven s.nodes.given def × Makes s.nodes def ty × IsFull s.nodes
+  HasNoRoom s def ty = NamesGiven s.nodes.given def × Makes s.nodes def ty × IsTimed s.nodes.time def × IsFull s.nodes
 
   -- no node changed and no id was given, and all stays beside
   pub record KeepsAll (old new : GraphView F) : Type 0 where
@@ -108,6 +114,7 @@ module _ {F : Type 0} where
     pub broken : (cause : Kept) → IsErrOf answer (fault.Broken cause) ↔ IsBroken old cause
     pub unknown : IsErrOf answer fault.Unknown ↔ (IsUnbroken old × NamesUnknown old def)
     pub wrong_type : IsErrOf answer fault.WrongType ↔ (IsUnbroken old × IsMistyped old def ty)
+    pub span : IsErrOf answer fault.Span ↔ (IsUnbroken old × IsUntimed old def ty)
     pub full : IsErrOf answer fault.Full ↔ (IsUnbroken old × HasNoRoom old def ty)
     pub adding : IfErr answer IsAddFault
     pub err : OnErr answer (KeepsAll old new)
@@ -141,12 +148,13 @@ module _ {F : Type 0} where
     pub need : KeepsNeed old new
     pub of_nodes : KeepsNodes (λ n. Unit {0}) old new
 
-  -- the nodes of ids from a count on were dropped, and their ids stay used up
+  -- the nodes of ids from a count on were dropped, their ids stay used up, and the time stands
   pub record TakesBack (old new : GraphView F) (count : ℕ) : Type 0 where
     pub beside : KeepsBeside (λ n. n.gen_ < count) old new
     pub older : (n : NodeId) → n.gen_ < count → row_at new.nodes n ≡ row_at old.nodes n
     pub dropped : (n : NodeId) → count ≤ n.gen_ → row_at new.nodes n ≡ None
     pub given : new.nodes.given ≡ old.nodes.given
+    pub time : new.nodes.time ≡ old.nodes.time
 
   -- ---- observers
 

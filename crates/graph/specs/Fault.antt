@@ -3,6 +3,8 @@ use Rattle.graph.specs.declared.fault.Kept.{Kept}
 use Rattle.graph.specs.declared.fault.Kept.TheVariants as kept
 use Rattle.graph.specs.declared.fault.GraphFault.{GraphFault}
 use Rattle.graph.specs.declared.fault.GraphFault.TheVariants as fault
+use Rattle.inc_value.specs.declared.ty.Ty.{Ty}
+use Rattle.inc_value.specs.declared.ty.Ty.TheVariants as ty
 use Rattle.node_arena.specs.declared.arena.AddFault.{AddFault}
 use Rattle.node_arena.specs.declared.arena.AddFault.TheVariants as add
 use Rattle.node_arena.specs.declared.arena.variable.SetFault.{SetFault}
@@ -23,6 +25,11 @@ of_add add.Unknown = fault.Unknown
 of_add add.WrongType = fault.WrongType
 of_add add.Full = fault.Full
 of_add add.Memory = fault.Memory
+
+-- why a node isn't added that counts spans and isn't timed: a count is an integer
+abbrev pub of_untimed : Ty → GraphFault
+of_untimed ty.Int = fault.Span
+of_untimed t = fault.WrongType
 
 -- why a variable isn't set
 abbrev pub of_set : SetFault → GraphFault

@@ -1,7 +1,8 @@
 //! Why a call of a graph is refused.
 ghost use Rattle.std.specs.Prelude.{◌≡◌, ◌↔◌};
-ghost use Rattle.graph.specs.Fault.{kept_of, of_add, of_set};
+ghost use Rattle.graph.specs.Fault.{kept_of, of_add, of_set, of_untimed};
 
+use inc_value::Ty;
 use node_arena::{AddFault, MoreFault, SetFault};
 use stabilizer::Refused;
 use std::alloc::AllocError;
@@ -35,6 +36,9 @@ pub enum GraphFault {
     /// The types don't fit.
     #[error("the types don't fit")]
     WrongType,
+    /// The spans to be counted are empty, or their base is below 0 or wasn't reached yet.
+    #[error("no such spans can be counted")]
+    Span,
     /// No stabilize was accepted since the observer was made.
     #[error("no stabilize was accepted since the observer was made")]
     NotStabilized,
@@ -81,6 +85,16 @@ pub(crate) fn add_fault(fault: AddFault) -> GraphFault
         AddFault::WrongType => GraphFault::WrongType,
         AddFault::Full => GraphFault::Full,
         AddFault::Memory => GraphFault::Memory,
+    }
+}
+
+/// Why a node isn't added that counts spans, of which there are none, or none yet: a count is an integer.
+pub(crate) fn untimed_fault(ty: Ty) -> GraphFault
+    ensures { result ≡ of_untimed ty }
+{
+    match ty {
+        Ty::Int => GraphFault::Span,
+        Ty::Bool | Ty::Text | Ty::Node(_) => GraphFault::WrongType,
     }
 }
 

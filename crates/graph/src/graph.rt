@@ -1,5 +1,5 @@
 //! Graphs.
-ghost use Rattle.std.specs.Prelude.{◌≡◌, [], None, Some, IfErr, IfSome, IfNone, OnOk, option_copied};
+ghost use Rattle.std.specs.Prelude.{◌≡◌, pos, [], None, Some, IfErr, IfSome, IfNone, OnOk, option_copied};
 ghost use Rattle.inc_value.specs.declared.node.NodeId.{NodeId};
 ghost use Rattle.node_arena.specs.Arena.{row_at, live, IsLive};
 ghost use Rattle.inc_value.specs.declared.node.Point.{Point};
@@ -100,6 +100,7 @@ impl<F: Functions> Graph<F> {
         ensures nodes { (n : NodeId) → row_at result.nodes n ≡ None }
         ensures live { live result.nodes ≡ 0 }
         ensures given { result.nodes.given ≡ 0 }
+        ensures time { result.nodes.time ≡ pos 0 }
         ensures cutoff { (n : NodeId) → cutoff_of result n ≡ Equal }
         ensures observers { result.observers ≡ [] }
         ensures rooted { result.rooted ≡ 0 }

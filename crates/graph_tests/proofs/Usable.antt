@@ -28,9 +28,9 @@ pub fit_after : (old new : Arena) (side kept : RightSide) → new ≡ old → ke
 fit_after old new side kept same is fit = subst (λ (a : Arena). AreFit a kept.ids) (sym same)
     (subst (λ (s : RightSide). AreFit old s.ids) (sym is) (are_fit old side.ids fit))
 
--- where none is listed
-pub none_fit : (a : Arena) (ids : List Listed) → ids ≡ [] → AreFit a ids
-none_fit a ids none = subst (λ (xs : List Listed). AreFit a xs) (sym none) (λ x among. absurd among)
+-- nothing is listed where none is
+pub none_among : (ids : List Listed) → ids ≡ [] → (x : Listed) → Among x ids → ⊥
+none_among ids none x among = absurd (subst (λ (xs : List Listed). Among x xs) none among)
 
 -- functions of the library are known, and make no right sides
 pub library_known : (sides : List Maker) (f : FnRef) → IsTrue (library.known f) → IsTrue (is_known library.known sides f)

@@ -31,6 +31,7 @@ pub(crate) fn code(fault: GraphFault) -> i64 {
         GraphFault::Unknown => -102,
         GraphFault::NotVar => -103,
         GraphFault::WrongType => -104,
+        GraphFault::Span => -116,
         GraphFault::NotStabilized => -105,
         GraphFault::TooMany => -106,
         GraphFault::Full => -107,

@@ -1,19 +1,21 @@
 //! Nodes that are made.
-ghost use Rattle.std.specs.Prelude.{◌≡◌, IfOk, IfErr, IsTrue};
+ghost use Rattle.std.specs.Prelude.{◌≡◌, ◌↔◌, IfOk, IfErr, IsTrue};
 ghost use Rattle.inc_value.specs.Value.{type_of};
+ghost use Rattle.inc_terms.specs.Clock.{IsTimed};
 ghost use Rattle.inc_terms.specs.Code.{def_of};
 ghost use Rattle.inc_terms.specs.Graph.{Const, Var, Map, Fold, If, Join};
 ghost use Rattle.graph.specs.Effects.{CallsKnown, RefusesList, AnswersAdd, AnswersListed};
 
 use super::Graph;
-use crate::fault::{GraphFault, add_fault};
+use crate::fault::{GraphFault, add_fault, untimed_fault};
 use inc_terms::{Def, Nodes};
 use inc_value::{FnRef, NodeId, Ty, Value};
-use node_arena::Functions;
+use node_arena::{Arena, Functions};
 use std::alloc::AllocError;
 
 impl<F: Functions> Graph<F> {
-    /// A node of the type that is so defined, whose function is known. The calls below are this one for each form.
+    /// A node of the type that is so defined, whose function is known. Spans are counted from the present time or an earlier
+    /// one, and none is empty. The calls below are this one for each form.
     pub fn add(&mut self, def: Def, ty: Ty) -> Result<NodeId, GraphFault>
         requires known { CallsKnown (F.known self.old.functions) (F.right self.old.functions) self.old.nodes (def_of def) }
         ensures { AnswersAdd self.old self.new (def_of def) ty result }
@@ -24,6 +26,10 @@ impl<F: Functions> Graph<F> {
                 drop(def);
                 return Err(fault);
             }
+        }
+        if !is_timed(self.parts.arena(), &def) {
+            drop(def);
+            return Err(untimed_fault(ty));
         }
         let added = self.parts.add(def, ty);
         match added {
@@ -100,5 +106,24 @@ impl<F: Functions> Graph<F> {
             Ok(list) => Ok(list),
             Err(AllocError) => Err(GraphFault::Memory),
         }
+    }
+}
+
+/// Whether the spans that a node counts, if it counts any, begin between 0 and the present time, and aren't empty.
+fn is_timed(arena: &Arena, def: &Def) -> bool
+    ensures { IsTrue result ↔ IsTimed arena.now.time (def_of def.now) }
+{
+    match def {
+        Def::Every { base, span } => 0 <= *base && *base <= arena.time() && 0 < *span,
+        Def::Const(_)
+        | Def::Var(_)
+        | Def::Map(_, _)
+        | Def::Fold(_, _, _)
+        | Def::If { .. }
+        | Def::Join(_)
+        | Def::Bind { .. }
+        | Def::At(_)
+        | Def::Steps(_, _)
+        | Def::Now => true,
     }
 }

@@ -1,7 +1,7 @@
 use Rattle.std.proofs.Common.{sym, ap, subst, ◌∙◌}
 use Rattle.std.specs.Prelude.{IsTrue}
 use Rattle.graph_tests.proofs.Keeping.{functions_after}
-use Rattle.graph_tests.proofs.Usable.{none_fit}
+use Rattle.graph_tests.proofs.Usable.{none_among}
 use Rattle.graph_tests.proofs.boxed.make_bound.Goals as goal
 
 pub bind-requires : goal.bind-requires
@@ -13,5 +13,5 @@ bind-requires g c =
     let same = fourth ∙ (third ∙ (second ∙ first)) in
     record {
       known = subst (λ s. IsTrue (g.F.Functions.known s c.args.table)) (sym same) c.requires.known;
-      fit = none_fit _ _ (ap (λ s. (g.F.Functions.right s c.args.table).ids) same ∙ c.requires.none_listed);
+      fit = λ x among. absurd (none_among _ (ap (λ s. (g.F.Functions.right s c.args.table).ids) same ∙ c.requires.none_listed) x among);
     }

@@ -1,16 +1,22 @@
-use Rattle.std.proofs.Common.{inl, Err, refl, sym, ap, subst, ◌∙◌}
+use Rattle.std.proofs.Common.{inl, false, Err, refl, sym, ap, subst, ◌∙◌}
+use Rattle.std.specs.Prelude.{IsTrue}
+use Rattle.inc_terms.specs.Clock.{IsTimed}
 use Rattle.inc_terms.specs.Code.{def_of}
 use Rattle.inc_terms.specs.Depend.{main, change}
 use Rattle.necessity.specs.Need.{Roots, root_times}
 use Rattle.inc_value.specs.declared.node.NodeId.{NodeId}
+use Rattle.node_arena.specs.Arena.{Arena}
 use Rattle.point_map.specs.Rows.{Rows, at}
 use Rattle.inc_terms.specs.Within.{Given}
 use Rattle.node_outcomes.specs.Row.{outcome_in}
-use Rattle.graph.proofs.Adding.{Passes, answers_as}
+use Rattle.graph.proofs.Adding.{Passes, answers_as, answers_untimed}
 use Rattle.graph.proofs.Seeing.{beside_as, built_still}
 use Rattle.graph.proofs.Sound.{AddAnswers, adds_of, sound_still, answer_ready, answer_given, answer_fit}
 use Rattle.graph.proofs.graph.Graph.add.Goals as goal
 use Rattle.graph.proofs.graph.Graph.add.Goals.{in-Ok-added, in-Err-added}
+
+no_truth : IsTrue false → ⊥
+no_truth e = cc
 
 pub invariant_of-self : goal.invariant_of-self
 invariant_of-self g c = (
@@ -36,6 +42,14 @@ invariant_of-self g c = (
       c.self.invariant.1.kept.work c.self.invariant.3),
 )
 
+pub returns-then-not-is_timed : goal.returns-then-not-is_timed
+returns-then-not-is_timed g c =
+    let untimed = λ (timed : IsTimed c.self.inside.parts.arena.time (def_of c.args.def)).
+    let e = c.if-not-is_timed.ensures.1 (subst (λ (a : Arena). IsTimed a.time (def_of c.args.def)) (sym c.arena.ensures) timed) in
+    no_truth e in
+    rw (← c.self.view_is, c.untimed_fault.ensures)
+    (answers_untimed _ (rw (← c.self.view_is) at c.in-Ok.ensures.unbroken) (def_of c.args.def) c.args.ty untimed)
+
 pub returns : goal.returns
 returns g c =
     let a = c.add-added.ensures in
@@ -50,6 +64,7 @@ returns g c =
     (λ n given. built_still c.self.inside.parts c.add-added.new.self n (a.adds.keeps n given) (ap outcome_in (a.adds.rows (change n) given))
     (ap (λ (m : Rows NodeId). at m (change n)) a.adds.right_sides))
     (λ n. inl (a.adds.cutoffs n)) in
-    rw (← c.self.view_is) (answers_as _ _ (def_of c.args.def) c.args.ty (rw (← c.self.view_is) at c.in-Ok.ensures.unbroken)
+    let timed = subst (λ (a : Arena). IsTimed a.time (def_of c.args.def)) c.arena.ensures (c.if-not-is_timed.ensures.0 refl) in
+    rw (← c.self.view_is) (answers_as _ _ (def_of c.args.def) c.args.ty (rw (← c.self.view_is) at c.in-Ok.ensures.unbroken) timed
     c.add-added.result c.match-added.result passes beside
     (adds_of _ _ (def_of c.args.def) c.args.ty c.add-added.result _ refl refl refl answers a.adds.row beside) a.adds.err a.unknown a.wrong_type a.full)

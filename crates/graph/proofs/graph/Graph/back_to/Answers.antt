@@ -44,4 +44,5 @@ returns-clause-taken g c =
       older = b.older;
       dropped = b.dropped;
       given = b.given;
+      time = b.time;
     })
