@@ -345,7 +345,7 @@ module _ (named : List ℕ → Option FnRef) (value : FnRef → List GraphValue 
   pub represented : Represents F then new
   represented = record {
     room = ap (λ (n : ℕ). k.room + n) (become.places_then F before s N built_at_end built (there_in made) (s.accepted + 1)) ∙ c.held.room;
-    clock = c.held.clock;
+    clock = c.stays.clock ∙ c.held.clock;
     one_node_each = c.held.one_node_each ∙ sym (become.length_then F before s N built_at_end built (there_in made) (s.accepted + 1));
     declares = λ n. declares_then n (body_at s n) refl;
     targets = targets_then;

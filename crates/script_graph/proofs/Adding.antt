@@ -27,8 +27,9 @@ module _ {F : Type 0} (s t : GraphView F) (known : FnRef → Bool) (right : FnRe
   memory_alone r e is (inl (cause, same)) a = absurd (not_broken cause ((a.broken cause).0 (is ∙ ap (λ (x : GraphFault). Err x) same)))
   memory_alone r e is (inr (inl same)) a = absurd ((a.unknown.0 (is ∙ ap (λ (x : GraphFault). Err x) same)).1 welcome.named)
   memory_alone r e is (inr (inr (inl same))) a = absurd ((a.wrong_type.0 (is ∙ ap (λ (x : GraphFault). Err x) same)).1.1 welcome.makes)
-  memory_alone r e is (inr (inr (inr (inl same)))) a = absurd (not_full (a.full.0 (is ∙ ap (λ (x : GraphFault). Err x) same)).1.2)
-  memory_alone r e is (inr (inr (inr (inr same)))) a = same
+  memory_alone r e is (inr (inr (inr (inl same)))) a = absurd ((a.span.0 (is ∙ ap (λ (x : GraphFault). Err x) same)).1.2 welcome.timed)
+  memory_alone r e is (inr (inr (inr (inr (inl same))))) a = absurd (not_full (a.full.0 (is ∙ ap (λ (x : GraphFault). Err x) same)).1.3)
+  memory_alone r e is (inr (inr (inr (inr (inr same))))) a = same
 
   -- only memory may be wanting
   pub only_memory : (r : Result NodeId GraphFault) → AnswersAdd s t d ty r → IfErr r (λ e. e ≡ fault.Memory)

@@ -1,5 +1,5 @@
 -- What is kept before the first line.
-use Rattle.std.proofs.Common.{◌≡◌, ℕ, List, [], length, Option, None, Some, refl, ap, sym, ◌∙◌, arith}
+use Rattle.std.proofs.Common.{◌≡◌, ℕ, pos, List, [], length, Option, None, Some, refl, ap, sym, ◌∙◌, arith}
 use Rattle.std.proofs.lemmas.Option.{none-some}
 use Rattle.graph.specs.Standing.{GraphView, IsUnbroken, cutoff_of, graph}
 use Rattle.inc_value.specs.declared.function.FnRef.{FnRef}
@@ -46,14 +46,14 @@ module _ (g : GraphView (Unit {0})) (nodes : (n : NodeId) → row_at g.nodes n �
     unbroken = λ e. unbroken;
   }
 
-  module _ (named : List ℕ → Option FnRef) (value : FnRef → List GraphValue → GraphValue) where
+  module _ (named : List ℕ → Option FnRef) (value : FnRef → List GraphValue → GraphValue) (time : g.nodes.time ≡ pos 0) where
     abbrev F : Meanings
     F = meanings_of named value
 
     first_represents : Represents F start (first_kept g)
     first_represents = record {
       room = refl;
-      clock = refl;
+      clock = time;
       one_node_each = refl;
       declares = λ n. (nodes _, refl);
       targets = λ n e is. absurd (cc);
@@ -75,7 +75,7 @@ module _ (g : GraphView (Unit {0})) (nodes : (n : NodeId) → row_at g.nodes n �
 
     first_fits : Fits (beside F start (first_kept g))
     first_fits = record {
-      clock = refl;
+      clock = time;
       functions = functions_fit named value [];
       declared = first_represents.declares;
       resolved = λ n t kept is. absurd (cc);

@@ -404,7 +404,7 @@ module _ (F : Meanings) (k : Kept) (g : GraphView (Unit {0})) (bodies : List Bod
     pub declared_represents : Represents F s' new
     declared_represents = record {
       room = let places = sum_by_push (λ (e : Entry). places_of_body e.body) s.entries (entry s name ty body) in omega (arith, room_is, held.room, places);
-      clock = held.clock;
+      clock = more.time ∙ held.clock;
       one_node_each =
           let size = length-append k.nodes (root ∷ []) in
           let states = length-append s.entries (entry s name ty body ∷ []) in

@@ -96,6 +96,7 @@ module _ {F : Type 0} where
       no_more_cutoffs = λ n equal. equal;
     };
     given = omega arith;
+    time = refl;
     rows = λ n h. refl;
     outside = λ n r is. inl is;
   }
@@ -105,6 +106,7 @@ module _ {F : Type 0} where
     beside = beside_on (Given a.nodes.given) (Given b.nodes.given) (without_functions a) (without_functions b) (without_functions c)
         (λ n low. omega (arith, low, g.given)) g.beside h.beside;
     given = omega (arith, g.given, h.given);
+    time = h.time ∙ g.time;
     rows = λ n low. h.rows n (omega (arith, low, g.given)) ∙ g.rows n low;
     outside = λ n r is. elim (h.outside n r is) [ inl was ↦ g.outside n r was | inr out ↦ inr out ];
   }
@@ -113,6 +115,7 @@ module _ {F : Type 0} where
   adds_extends a b id r h out = record {
     beside = beside_without (Given a.nodes.given) a b h.beside;
     given = omega (arith, h.given);
+    time = h.changes.time;
     rows = λ n low. h.changes.others n (λ same. let gen = ap (λ (m : NodeId). m.gen_) same in omega (arith, low, gen, h.fresh));
     outside = λ n q is. elim (node_or_other n id) [
       | inl same ↦
@@ -126,6 +129,7 @@ module _ {F : Type 0} where
   keeps_extends a b h = record {
     beside = beside_without (Given a.nodes.given) a b h.beside;
     given = let same = ap (λ (a : Arena). a.given) h.nodes in omega (arith, same);
+    time = ap (λ (a : Arena). a.time) h.nodes;
     rows = λ n low. ap (λ (a : Arena). row_at a n) h.nodes;
     outside = λ n r is. inl (sym (ap (λ (a : Arena). row_at a n) h.nodes) ∙ is);
   }
@@ -136,6 +140,7 @@ module _ {F : Type 0} where
     beside = beside_on (Given a.nodes.given) (λ n. n.gen_ < count) (without_functions a) (without_functions b) (without_functions c)
         (λ n low. omega (arith, low, later)) g.beside (beside_without (λ n. n.gen_ < count) b c h.beside);
     given = omega (arith, g.given, h.given);
+    time = h.time ∙ g.time;
     rows = λ n low. h.older n (omega (arith, low, later)) ∙ g.rows n low;
     outside = λ n r is. elim (below_or n.gen_ count) [
       | inl low ↦ g.outside n r (sym (h.older n low) ∙ is)
@@ -151,6 +156,7 @@ module _ {F : Type 0} where
   extends_without a b h = record {
     beside = h.beside;
     given = h.given;
+    time = h.time;
     rows = h.rows;
     outside = h.outside;
   }
@@ -168,7 +174,7 @@ module _ {F : Type 0} where
 pub rest_extends : {F : Type 0} (a b : GraphView F) → without_functions b ≡ without_functions a → Extends a b
 rest_extends a b same =
     let e = subst (λ (s : GraphView (Unit {0})). Extends (without_functions a) s) (sym same) (extends_itself (without_functions a)) in
-    record { beside = e.beside; given = e.given; rows = e.rows; outside = e.outside }
+    record { beside = e.beside; given = e.given; time = e.time; rows = e.rows; outside = e.outside }
 
 same_unit : (x y : Unit {0}) → x ≡ y
 same_unit x y = refl
@@ -394,7 +400,7 @@ module _ (F : Meanings) (k : Kept) (g : GraphView (Unit {0})) (bodies : List Bod
     represents_on : Represents F m.present new
     represents_on = record {
       room = held.room;
-      clock = held.clock;
+      clock = more.time ∙ held.clock;
       one_node_each = held.one_node_each;
       declares = λ n. declares_each n (body_at m.present n) refl;
       targets = held.targets;

@@ -190,17 +190,20 @@ module _ {F : Type 0} (H : Functions) (first now : GraphView F) (makes : List Pl
         let still = refers_still first now h.extends v fits in record {
           named = refers_given now.nodes v still;
           makes = record { type = refl; reference = refers_fits now.nodes v still };
+          timed = tt;
           calls = tt;
         }
     open_welcome (Var v) fits early =
         let still = refers_still first now h.extends v fits in record {
           named = refers_given now.nodes v still;
           makes = record { type = refl; reference = refers_fits now.nodes v still };
+          timed = tt;
           calls = tt;
         }
     open_welcome (Map f parts) fits early = record {
       named = (tt, parts_given parts f.sig.takes fits.2 early);
       makes = record { kind = fits.1; children = parts_fit parts f.sig.takes fits.2 early; gives = refl };
+      timed = tt;
       calls = more_known f fits.0 fits.1;
     }
     open_welcome (Fold f v parts) fits early = record {
@@ -212,16 +215,17 @@ module _ {F : Type 0} (H : Functions) (first now : GraphView F) (makes : List Pl
         gives = refl;
         initial = record { type = fits.initial; reference = reference_fits now.nodes v fits.base };
       };
+      timed = tt;
       calls = more_known f fits.is_known fits.kind;
     }
     open_welcome (If ty test left other) fits early =
         let t = part_fits test types.Bool fits.0 early.0 in
         let a = part_fits left ty fits.1 early.1 in
         let b = part_fits other ty fits.2 early.2 in
-        record { named = (t.0, a.0, b.0); makes = (t.1, a.1, b.1); calls = tt }
+        record { named = (t.0, a.0, b.0); makes = (t.1, a.1, b.1); timed = tt; calls = tt }
     open_welcome (Join ty child) fits early =
         let c = part_fits child (types.Node fits.0) fits.1 early in
-        record { named = c.0; makes = (fits.0, ap base_of (sym fits.2) ∙ base_back fits.0, c.1); calls = tt }
+        record { named = c.0; makes = (fits.0, ap base_of (sym fits.2) ∙ base_back fits.0, c.1); timed = tt; calls = tt }
     open_welcome (Bind ty left body) (u, left_fits, (o, at, sig)) early =
         let l = part_fits left u left_fits early.0 in
         let low = front_is makes (length made) body (planned.Body early.1.0) early.1.1 in
@@ -234,6 +238,7 @@ module _ {F : Type 0} (H : Functions) (first now : GraphView F) (makes : List Pl
             takes = subst (λ (s : Signature). BindTakes now.nodes (node_of made left) [] s.takes) (sym is_sig) (l.1, tt);
             gives = ap (λ (s : Signature). s.gives) is_sig;
           };
+          timed = tt;
           calls = (
             served.known_each body o at low.0,
             subst (AreFit now.nodes) (sym (served.ids body o at low.0))

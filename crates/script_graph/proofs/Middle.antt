@@ -232,7 +232,7 @@ module _ (named : List ℕ → Option FnRef) (value : FnRef → List GraphValue 
 
   pub fits_then : Fits y
   fits_then = record {
-    clock = c.held.clock;
+    clock = c.stays.clock ∙ c.held.clock;
     functions = fits_before.functions;
     declared = λ n. declares_then n (body_at s n) refl (c.held.declares n);
     resolved = fits_before.resolved;

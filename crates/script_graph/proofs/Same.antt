@@ -51,7 +51,7 @@ module _ (F : Meanings) (s : State) (observers : List Observer) (accepted : ℕ)
   pub represents_so : Represents F then new
   represents_so = record {
     room = ap (λ (n : ℕ). n + places_of s) room ∙ held.room;
-    clock = held.clock;
+    clock = ap (λ (a : Arena). a.time) arena ∙ held.clock;
     one_node_each = ap length nodes ∙ held.one_node_each;
     declares = λ n. declares_each n (body_at s n) refl;
     targets = held.targets;

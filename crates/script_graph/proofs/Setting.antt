@@ -333,7 +333,7 @@ module _ (named : List ℕ → Option FnRef) (value : FnRef → List GraphValue 
       set_represents : AreNames k.names s → Represents F s' new
       set_represents names = record {
         room = let places = with_amounts places_of_body (λ body. Variable v) s.entries target e there (sym (ap places_of_body variable)) in omega (arith, held.room, places);
-        clock = held.clock;
+        clock = sets.set.changes.time ∙ held.clock;
         one_node_each = held.one_node_each ∙ sym (with_length (λ body. Variable v) s.entries target);
         declares = λ n. declares_each n (body_at s' n) refl;
         targets = targets_each;

@@ -12,6 +12,7 @@ use Rattle.inc_value.specs.declared.ty.Ty.{Ty}
 use Rattle.inc_value.specs.declared.ty.Ty.TheVariants as types
 use Rattle.inc_value.specs.declared.value.Value.{Value}
 use Rattle.inc_value.specs.declared.value.Value.TheVariants as value
+use Rattle.inc_terms.specs.Clock.{IsTimed}
 use Rattle.inc_terms.specs.Graph.{Row, Def}
 use Rattle.inc_terms.specs.Term.{Functions}
 use Rattle.inc_terms.specs.Within.{Given}
@@ -107,10 +108,12 @@ PlannedFits known a makes i (planned.Body o) = BodyFits known a (take i makes) o
 abbrev pub AllPlannedFit : (FnRef → Bool) → Arena → List Planned → Type 0
 AllPlannedFit known a makes = (i : ℕ) (x : Planned) → slice_get makes i ≡ Some x → PlannedFits known a makes i x
 
--- a definition that a graph takes with the type: it names given nodes, makes the type, and its function is known, and lists nodes that fit
+-- a definition that a graph takes with the type: it names given nodes, makes the type, counts spans that there are, and its function is known, and lists
+-- nodes that fit
 pub record IsWelcome (known : FnRef → Bool) (right : FnRef → RightSide) (a : Arena) (d : Def) (ty : Ty) : Type 0 where
   pub named : NamesGiven a.given d
   pub makes : Makes a d ty
+  pub timed : IsTimed a.time d
   pub calls : CallsKnown known right a d
 
 -- what is to be made is such a definition, or a body that can be kept beside the functions
@@ -124,10 +127,12 @@ module _ {F : Type 0} where
   IsNodeAdded old new d ty (was.Node n) = Adds old new n (top d ty)
   IsNodeAdded old new d ty (was.Fn f) = ⊥
 
-  -- nodes were added, and functions maybe: what was given before is as it was, and each node that is live was so before, or stands outside all scopes
+  -- nodes were added, and functions maybe, while the time stood: what was given before is as it was, and each node that is live was so before, or stands
+  -- outside all scopes
   pub record Extends (old new : GraphView F) : Type 0 where
     pub beside : KeepsBesideGiven (without_functions old) (without_functions new)
     pub given : old.nodes.given ≤ new.nodes.given
+    pub time : new.nodes.time ≡ old.nodes.time
     pub rows : (n : NodeId) → Given old.nodes.given n → row_at new.nodes n ≡ row_at old.nodes n
     pub outside : (n : NodeId) (r : Row) → row_at new.nodes n ≡ Some r → (row_at old.nodes n ≡ Some r) ⊎ (r.scope ≡ None)
 
