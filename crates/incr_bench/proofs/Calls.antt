@@ -4,8 +4,7 @@ use Rattle.inc_value.specs.Choice.{Among, Every}
 use Rattle.inc_value.specs.declared.function.FnRef.{FnRef}
 use Rattle.node_arena.specs.Building.{Use}
 use Rattle.node_arena.specs.Listing.{Listed}
-use Rattle.node_arena.specs.RightSide.{RightSide, AreFit, AreUsable}
-use Rattle.node_arena.specs.Arena.{Arena}
+use Rattle.node_arena.specs.RightSide.{RightSide, AreUsable}
 use Rattle.script_functions.specs.Bodies.{Body, side_of}
 use Rattle.script_functions.specs.Lines.{line_uses, uses_of}
 use Rattle.script_functions.specs.declared.line.TypedLine.{TypedLine}
@@ -22,10 +21,6 @@ of_lines : (P : Use → Type 0) (xs : List TypedLine) → Every (λ (x : TypedLi
     → (u : Use) → Among u (uses_of xs) → P u
 of_lines P [] every u among = absurd among
 of_lines P (x ∷ xs) every u among = either P (line_uses x.line) (uses_of xs) u every.0 (of_lines P xs every.1 u) among
-
--- where none is listed, each fits
-pub none_fit : (a : Arena) (ids : List Listed) → ids ≡ [] → AreFit a ids
-none_fit a ids none = subst (λ (xs : List Listed). AreFit a xs) (sym none) (λ x among. absurd among)
 
 -- right sides can be kept whose lines can call what they call
 pub are_usable : (known : FnRef → Bool) (right : FnRef → RightSide) (b : Body)
