@@ -1,6 +1,6 @@
 //! Nodes that a builder adds to the scope of a bind, as a table with what each answers.
 
-use inc_terms::{Def, Nodes};
+use inc_terms::{Def, Nodes, Step};
 use inc_value::{Base, FnId, FnKind, FnRef, NodeId, Sig, Ty, Value};
 use node_arena::{AddFault, Arena, Builder};
 use std::alloc::Global;
@@ -20,6 +20,13 @@ enum Asked {
     Join(usize),
     /// A bind of a left and a captured integer.
     Bind(usize, usize),
+    /// Whether a time has come.
+    At(i64),
+    /// An integer, and from 5 seconds on another.
+    Steps(i64, i64),
+    /// An integer, and from 5 seconds on a truth value.
+    MixedSteps(i64, bool),
+    Now,
 }
 
 /// One node of each form, and then nodes that are refused.
@@ -32,20 +39,25 @@ const ROWS: &[(Asked, Option<AddFault>)] = &[
     (Asked::If(1, 3, 4), None),
     (Asked::Join(2), None),
     (Asked::Bind(5, 6), None),
-    (Asked::Reference(8), Some(AddFault::Unknown)),
+    (Asked::At(5_000_000_000), None),
+    (Asked::Steps(1, 2), None),
+    (Asked::Now, None),
+    (Asked::Reference(11), Some(AddFault::Unknown)),
     (Asked::Reference(1), Some(AddFault::WrongType)),
-    (Asked::Neg(8), Some(AddFault::Unknown)),
+    (Asked::Neg(11), Some(AddFault::Unknown)),
     (Asked::Neg(1), Some(AddFault::WrongType)),
     (Asked::Sum(0, 1), Some(AddFault::WrongType)),
     (Asked::If(0, 3, 4), Some(AddFault::WrongType)),
     (Asked::Join(0), Some(AddFault::WrongType)),
     (Asked::Bind(1, 0), Some(AddFault::WrongType)),
     (Asked::Bind(0, 1), Some(AddFault::WrongType)),
-    (Asked::Bind(1, 8), Some(AddFault::Unknown)),
+    (Asked::Bind(1, 11), Some(AddFault::Unknown)),
+    (Asked::If(10, 3, 4), Some(AddFault::WrongType)),
+    (Asked::MixedSteps(1, true), Some(AddFault::WrongType)),
 ];
 
 /// How many of them are made.
-const MADE: u32 = 8;
+const MADE: u32 = 11;
 
 /// A function of one integer.
 fn neg() -> FnRef {
@@ -78,7 +90,12 @@ fn at(made: &[NodeId], place: usize) -> NodeId {
 }
 
 /// Asks for a node.
-fn ask(builder: &mut Builder, made: &[NodeId], asked: Asked) -> Result<NodeId, AddFault> {
+fn ask(
+    alloc: Global,
+    builder: &mut Builder,
+    made: &[NodeId],
+    asked: Asked,
+) -> Result<NodeId, AddFault> {
     match asked {
         Asked::Int(number) => builder.constant(Value::Int(number)),
         Asked::Bool(truth) => builder.constant(Value::Bool(truth)),
@@ -98,13 +115,39 @@ fn ask(builder: &mut Builder, made: &[NodeId], asked: Asked) -> Result<NodeId, A
         Asked::Bind(left, captured) => {
             builder.bind(at(made, left), of_two(FnKind::Rhs), &[at(made, captured)])
         }
+        Asked::At(time) => builder.at(time),
+        Asked::Steps(first, second) => {
+            two_steps(alloc, builder, Value::Int(first), Value::Int(second))
+        }
+        Asked::MixedSteps(first, second) => {
+            two_steps(alloc, builder, Value::Int(first), Value::Bool(second))
+        }
+        Asked::Now => builder.now(),
+    }
+}
+
+/// Asks for a node that shows a value, and from 5 seconds on another.
+fn two_steps(
+    alloc: Global,
+    builder: &mut Builder,
+    first: Value,
+    second: Value,
+) -> Result<NodeId, AddFault> {
+    let mut steps = Vec::new(alloc);
+    let step = Step {
+        time: 5_000_000_000,
+        value: second,
+    };
+    match steps.push(step) {
+        Ok(()) => builder.steps(first, steps),
+        Err(_) => Err(AddFault::Memory),
     }
 }
 
 /// Whether all rows are answered as they say.
-fn answers(builder: &mut Builder, made: &mut Vec<NodeId>) -> bool {
+fn answers(alloc: Global, builder: &mut Builder, made: &mut Vec<NodeId>) -> bool {
     for (asked, wanted) in ROWS {
-        match (ask(builder, made, *asked), *wanted) {
+        match (ask(alloc, builder, made, *asked), *wanted) {
             (Ok(id), None) => {
                 if made.push(id).is_err() {
                     return false;
@@ -147,7 +190,7 @@ fn builds_well(alloc: Global) -> bool {
     }
     let mut made = Vec::new(alloc);
     let mut builder = Builder::new(alloc, arena, bind);
-    let answered = answers(&mut builder, &mut made);
+    let answered = answers(alloc, &mut builder, &mut made);
     let arena = builder.finish();
     answered
         && made.iter().all(|id| scope_of(&arena, *id) == Some(bind))
