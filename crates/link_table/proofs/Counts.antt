@@ -76,7 +76,7 @@ times_of_ends kids once p q = row_times kids.rows.places once p q
 -- and as the ends of their kid
 pub times_of_readers : (kids readers : EndLists) → IsLinked kids readers → (p q : Point)
     → times (record { all = links_of kids }) p q ≡ ends_with (ends_at readers q) p
-times_of_readers kids readers l p q = times_of_ends kids l.once p q ∙ sym (l.two_way.counted p q)
+times_of_readers kids readers l p q = times_of_ends kids l.once p q ∙ sym (l.sound.two_way.counted p q)
 
 module _ (fewer more : EndLists) (once : StandsOnce fewer.rows.places) (once_more : StandsOnce more.rows.places) where
   pub link_more : (p q : Point) → OneEndMoreWith fewer more p q → OneLinkMore (record { all = links_of fewer }) (record { all = links_of more }) p q
@@ -129,7 +129,7 @@ row_is_read kids readers l q = by_row (at readers.rows q) refl
     )
     by_row (Some row) there = (
       λ t.
-          let reader = leads_somewhere (ends_at readers q) (λ none. absurd (let absent = l.tight_readers q none in cc)) in
+          let reader = leads_somewhere (ends_at readers q) (λ none. absurd (let absent = l.sound.tight_readers q none in cc)) in
           (reader.0, let t = times_of_readers kids readers l reader.0 q in omega (arith, t, reader.1)),
       λ read. refl,
     )

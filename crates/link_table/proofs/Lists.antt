@@ -30,7 +30,7 @@ zero_when n b e t = grind (arith, nat_tests)
 some_when : (n : ℕ) (b : Bool) → b ≡ (n == 0) → IsFalse b → 0 < n
 some_when n b e f = grind (arith, nat_tests)
 
-nothing : {T : Type 0} (xs : List T) → length xs ≡ 0 → xs ≡ []
+pub nothing : {T : Type 0} (xs : List T) → length xs ≡ 0 → xs ≡ []
 nothing [] h = refl
 nothing (x ∷ xs) h = absurd (omega (arith, h))
 

@@ -1,7 +1,7 @@
 -- A link taken off both sides, its end at the one and then its end at the other.
 use Rattle.std.proofs.Common.{◌≡◌, ◌∙◌, inl, inr, ℕ, ◌-◌, ◌<◌, List, length, refl, ap, sym, arith}
-use Rattle.std.specs.Prelude.{Option, Some, None, slice_get, option_map}
-use Rattle.std.proofs.lemmas.Option.{slice_get_within, slice_get_past, same_Some}
+use Rattle.std.specs.Prelude.{Option, Some, slice_get, option_map}
+use Rattle.std.proofs.lemmas.Option.{slice_get_within, same_Some}
 use Rattle.inc_value.specs.declared.node.Point.{Point}
 use Rattle.link_table.specs.declared.ends.End.{End}
 use Rattle.link_table.specs.declared.ends.EndLists.{EndLists}
@@ -79,14 +79,3 @@ module _ (k0 r0 k1 r1 : EndLists) (p q : Point) (i : ℕ) (e : End) (o : Option 
       back = λ x y k d was. (whole.paired.there y x d k (λ no. no) was).0;
       counted = counted;
     }
-
--- the last end of a point popped
-pub popped_half : (k0 k1 r : EndLists) (p : Point) (e : End) → IsTwoWay k0 r → EndIsTaken k0 k1 p (length (ends_at k1 p)) e
-    → IsHalf k0 r k1 r p e.point (length (ends_at k1 p)) e None
-popped_half k0 k1 r p e two_way taken = record {
-  two_way = two_way;
-  leads = ap (λ (o : Option End). option_map (λ (x : End). x.point) o) taken.was;
-  taken = taken;
-  now = slice_get_past (ends_at k1 p) (length (ends_at k1 p)) (omega arith);
-  told = λ x. refl;
-}

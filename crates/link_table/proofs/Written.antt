@@ -10,7 +10,6 @@ use Rattle.point_map.specs.Rows.{Rows, at, Changes, Holds}
 use Rattle.point_map.proofs.Places.{point_cases}
 use Rattle.link_table.specs.declared.ends.End.{End}
 use Rattle.link_table.specs.declared.ends.EndLists.{EndLists}
-use Rattle.link_table.proofs.Lists.{get_append_last, swap_last}
 use Rattle.link_table.specs.Ends.{row_ends, ends_at, HasNoEmptyRow, KeepsEnds, OneEndMore, EndIsSet, EndIsTaken}
 
 module _ {X : Type 0} where
@@ -55,15 +54,6 @@ end_is_taken old new p i e was row there c read items within = record {
   was = let inside = rw (ends_of_row old p was there) at within in
       rw (ends_of_row old p was there) (slice_get-get_or was.items i e inside ∙ ap (λ d. Some d) (sym read));
   changed = rw (ends_written old new p row c, ends_of_row old p was there) items;
-  others = ends_kept old new p (Some row) c;
-}
-
--- the last end taken off
-pub last_is_taken : (old new : EndLists) (p : Point) (e : End) (was row : SmallVec End) → Some was ≡ at old.rows p
-    → Changes old.rows new.rows p (Some row) → was.items ≡ row.items ++ e ∷ [] → EndIsTaken old new p (length (ends_at new p)) e
-last_is_taken old new p e was row there c items = record {
-  was = rw (ends_of_row old p was there, ends_written old new p row c, items) (get_append_last row.items e);
-  changed = rw (ends_of_row old p was there, ends_written old new p row c, items) (sym (swap_last row.items e e));
   others = ends_kept old new p (Some row) c;
 }
 

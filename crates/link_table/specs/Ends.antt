@@ -87,12 +87,16 @@ pub record IsTwoWay (kids readers : EndLists) : Type 0 where
   pub back : (p q : Point) (i b : ℕ) → end_at readers q b ≡ Some (end p i) → end_at kids p i ≡ Some (end q b)
   pub counted : (p q : Point) → ends_with (ends_at readers q) p ≡ ends_with (ends_at kids p) q
 
--- no point has its kids in two rows, the two sides know each other, and no row is empty
-pub record IsLinked (kids readers : EndLists) : Type 0 where
-  pub once : StandsOnce kids.rows.places
+-- the two sides know each other, and no row is empty
+pub record AreSound (kids readers : EndLists) : Type 0 where
   pub two_way : IsTwoWay kids readers
   pub tight : HasNoEmptyRow kids
   pub tight_readers : HasNoEmptyRow readers
+
+-- no point has its kids in two rows, and the two sides are sound
+pub record IsLinked (kids readers : EndLists) : Type 0 where
+  pub once : StandsOnce kids.rows.places
+  pub sound : AreSound kids readers
 
 -- the links from the point of a row to its kids
 abbrev pub links_from : Place (SmallVec End) → List Link

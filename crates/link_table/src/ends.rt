@@ -1,5 +1,5 @@
 //! The ends of links at each point.
-ghost use Rattle.std.specs.Prelude.{[], ◌≡◌, ◌≢◌, ◌<◌, length, None, Some, IsTrue, IsFalse, IfSome, IfNone, OnSome, OnOk, OnErr};
+ghost use Rattle.std.specs.Prelude.{[], ◌≡◌, ◌≢◌, ◌<◌, ◌==◌, length, None, OnOk, OnErr};
 ghost use Rattle.point_map.specs.Rows.{at, Holds};
 ghost use Rattle.inc_value.specs.declared.node.Point.{Point};
 ghost use Rattle.link_table.specs.Ends.{ends_at, end_at, HasNoEmptyRow, KeepsEnds, OneEndMore, EndIsSet, EndIsTaken};
@@ -97,23 +97,11 @@ impl EndLists {
         ensures tight { HasNoEmptyRow self.old → HasNoEmptyRow self.new }
     {
         let taken = self.take_at(p, i);
-        self.close(p, taken.was_only);
+        let was_only = taken.was_only;
+        if was_only {
+            self.rows.remove(p);
+        }
         taken
-    }
-
-    /// Takes the last end of a point off, if there is one.
-    pub fn pop(&mut self, p: Point) -> Option<End>
-        requires tight { HasNoEmptyRow self.old }
-        ensures taken { IfSome result (λ e. EndIsTaken self.old self.new p (length (ends_at self.new p)) e) }
-        ensures none { IfNone result (ends_at self.old p ≡ []) }
-        ensures unchanged { IfNone result (self.new ≡ self.old) }
-        ensures tight { HasNoEmptyRow self.new }
-    {
-        let Some(taken) = self.pop_last(p) else {
-            return None;
-        };
-        self.close(p, taken.was_only);
-        Some(taken.end)
     }
 
     /// Puts another end in place of one.
@@ -144,8 +132,7 @@ impl EndLists {
         requires there { i < length (ends_at self.old p) }
         ensures taken { EndIsTaken self.old self.new p i result.end }
         ensures moved { result.moved ≡ end_at self.new p i }
-        ensures only { IsTrue result.was_only → ends_at self.new p ≡ [] }
-        ensures more { IsFalse result.was_only → ends_at self.new p ≢ [] }
+        ensures only { result.was_only ≡ (length (ends_at self.new p) == 0) }
         ensures there { Holds self.new.rows p }
         ensures others { (x : Point) → x ≢ p → at self.new.rows x ≡ at self.old.rows x }
     {
@@ -155,39 +142,6 @@ impl EndLists {
             end,
             moved: row.as_slice().get(i).copied(),
             was_only: row.is_empty(),
-        }
-    }
-
-    // Takes the last end of a point off, if there is one, and leaves the point its row.
-    fn pop_last(&mut self, p: Point) -> Option<Taken>
-        requires tight { HasNoEmptyRow self.old }
-        ensures taken { IfSome result (λ t. EndIsTaken self.old self.new p (length (ends_at self.new p)) t.end) }
-        ensures only { IfSome result (λ t. IsTrue t.was_only → ends_at self.new p ≡ []) }
-        ensures more { IfSome result (λ t. IsFalse t.was_only → ends_at self.new p ≢ []) }
-        ensures there { OnSome result (Holds self.new.rows p) }
-        ensures others { (x : Point) → x ≢ p → at self.new.rows x ≡ at self.old.rows x }
-        ensures none { IfNone result (ends_at self.old p ≡ []) }
-        ensures unchanged { IfNone result (self.new ≡ self.old) }
-    {
-        let row = self.rows.get_mut(p)?;
-        let end = row.pop().unwrap();
-        Some(Taken {
-            end,
-            moved: None,
-            was_only: row.is_empty(),
-        })
-    }
-
-    // Takes the row of a point off if it is empty. Every point keeps its ends.
-    fn close(&mut self, p: Point, is_empty: bool)
-        requires there { Holds self.old.rows p }
-        requires empty { IsTrue is_empty → ends_at self.old p ≡ [] }
-        requires filled { IsFalse is_empty → ends_at self.old p ≢ [] }
-        ensures kept { KeepsEnds self.old self.new }
-        ensures tight { ((x : Point) → x ≢ p → ends_at self.old x ≡ [] → at self.old.rows x ≡ None) → HasNoEmptyRow self.new }
-    {
-        if is_empty {
-            self.rows.remove(p);
         }
     }
 }

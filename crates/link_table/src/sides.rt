@@ -1,7 +1,7 @@
 //! The two sides of a table of links: the ends at each reader, and the ends at each kid.
-ghost use Rattle.std.specs.Prelude.{[], ◌≡◌, ◌≢◌, ◌<◌, length, IfSome, IfNone, OnOk, OnErr};
+ghost use Rattle.std.specs.Prelude.{◌≡◌, ◌≢◌, ◌<◌, length, IfSome, IfNone, OnOk, OnErr};
 ghost use Rattle.inc_value.specs.declared.node.Point.{Point as APoint};
-ghost use Rattle.link_table.specs.Ends.{ends_at, end_at, ends_with, LeadsTo, HasNoEmptyRow, KeepsEnds, OneEndMoreWith, EndIsTaken, LastIsKnown, IsTold, IsTwoWay};
+ghost use Rattle.link_table.specs.Ends.{ends_at, end_at, ends_with, LeadsTo, HasNoEmptyRow, KeepsEnds, OneEndMoreWith, EndIsTaken, LastIsKnown, IsTold, IsTwoWay, AreSound};
 
 use crate::ends::{End, EndLists};
 use inc_value::Point;
@@ -14,12 +14,10 @@ pub(crate) fn add_ends(
     p: Point,
     q: Point,
 ) -> Result<(), AllocError>
-    requires two_way { IsTwoWay kids.old readers.old }
-    ensures two_way { IsTwoWay kids.new readers.new }
+    requires sound { AreSound kids.old readers.old }
+    ensures sound { AreSound kids.new readers.new }
     ensures added { OnOk result (OneEndMoreWith kids.old kids.new p q) }
     ensures err { OnErr result (KeepsEnds kids.old kids.new) }
-    ensures tight { HasNoEmptyRow kids.old → HasNoEmptyRow kids.new }
-    ensures tight_readers { HasNoEmptyRow readers.old → HasNoEmptyRow readers.new }
 {
     let i = kids.of(p).len();
     let back = readers.of(q).len();
@@ -33,31 +31,13 @@ pub(crate) fn add_ends(
 
 /// Takes the link off whose end is the i-th of p's kids, which is q.
 pub(crate) fn remove_ends(kids: &mut EndLists, readers: &mut EndLists, p: Point, q: Point, i: usize)
-    requires two_way { IsTwoWay kids.old readers.old }
+    requires sound { AreSound kids.old readers.old }
     requires there { LeadsTo (ends_at kids.old p) q i }
-    ensures two_way { IsTwoWay kids.new readers.new }
+    ensures sound { AreSound kids.new readers.new }
     ensures removed { OneEndMoreWith kids.new kids.old p q }
-    ensures tight { HasNoEmptyRow kids.old → HasNoEmptyRow kids.new }
-    ensures tight_readers { HasNoEmptyRow readers.old → HasNoEmptyRow readers.new }
 {
     let taken = take_end(kids, readers, p, i);
     take_end(readers, kids, q, taken.back);
-}
-
-/// Takes the last link of p off, and gives its kid, if there is one. No list is searched.
-pub(crate) fn pop_ends(kids: &mut EndLists, readers: &mut EndLists, p: Point) -> Option<Point>
-    requires two_way { IsTwoWay kids.old readers.old }
-    requires tight { HasNoEmptyRow kids.old }
-    ensures two_way { IsTwoWay kids.new readers.new }
-    ensures removed { IfSome result (λ q. OneEndMoreWith kids.new kids.old p q) }
-    ensures none { IfNone result (ends_at kids.old p ≡ []) }
-    ensures unchanged { IfNone result ((kids.new ≡ kids.old) × (readers.new ≡ readers.old)) }
-    ensures tight { HasNoEmptyRow kids.new }
-    ensures tight_readers { HasNoEmptyRow readers.old → HasNoEmptyRow readers.new }
-{
-    let end = kids.pop(p)?;
-    take_end(readers, kids, end.point, end.back);
-    Some(end.point)
 }
 
 /// The place of q among the kids of p, if it is one. The shorter of the two lists is searched.
@@ -71,7 +51,9 @@ pub(crate) fn kid_place(kids: &EndLists, readers: &EndLists, p: Point, q: Point)
     if kids.len() <= readers.len() {
         place_of(kids, q)
     } else {
-        let back = place_of(readers, p)?;
+        let Some(back) = place_of(readers, p) else {
+            return None;
+        };
         Some(readers[back].back)
     }
 }
@@ -105,6 +87,19 @@ fn place_of(ends: &[End], q: Point) -> Option<usize>
         }
     }
     None
+}
+
+/// The place of the last end, with the point that it leads to.
+pub(crate) fn last_end(ends: &[End]) -> Option<(usize, Point)>
+    ensures there { IfSome result (λ r. LeadsTo ends.now r.1 r.0) }
+    ensures none { IfNone result (length ends.now ≡ 0) }
+{
+    let n = ends.len();
+    if n == 0 {
+        None
+    } else {
+        Some((n - 1, ends[n - 1].point))
+    }
 }
 
 /// The place of the last end that leads to another point than this one, with the point that it leads to.

@@ -5,7 +5,7 @@ ghost use Rattle.link_table.specs.Links.{times, Reads, IsRead, KeepsLinks, OneLi
 ghost use Rattle.link_table.specs.Walks.{kids_left, readers_left};
 
 use crate::ends::EndLists;
-use crate::sides::{add_ends, kid_place, last_beside, pop_ends, remove_ends};
+use crate::sides::{add_ends, kid_place, last_beside, last_end, remove_ends};
 use crate::walks::{Kids, Readers};
 use inc_value::Point;
 use std::alloc::{AllocError, Global};
@@ -83,7 +83,10 @@ impl LinkTable {
         ensures none { IfNone result ((q : Point) → times self.old p q ≡ 0) }
         ensures unchanged { IfNone result (self.new ≡ self.old) }
     {
-        let kid = pop_ends(&mut self.kids, &mut self.readers, p)?;
+        let Some((i, kid)) = last_end(self.kids.of(p)) else {
+            return None;
+        };
+        remove_ends(&mut self.kids, &mut self.readers, p, kid, i);
         // The walk over its places is what says that each point has one row.
         let _places = self.kids.rows.places();
         Some(kid)
@@ -97,7 +100,9 @@ impl LinkTable {
         ensures none { IfNone result ((q : Point) → Reads self.old p q → q ≡ kept) }
         ensures unchanged { IfNone result (self.new ≡ self.old) }
     {
-        let (i, kid) = last_beside(self.kids.of(p), kept)?;
+        let Some((i, kid)) = last_beside(self.kids.of(p), kept) else {
+            return None;
+        };
         remove_ends(&mut self.kids, &mut self.readers, p, kid, i);
         // The walk over its places is what says that each point has one row.
         let _places = self.kids.rows.places();

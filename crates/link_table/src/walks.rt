@@ -26,7 +26,9 @@ impl<'a> Iterator for Kids<'a> {
     ghost remaining = { item_count kids_left };
 
     fn next(&mut self) -> Option<Point> {
-        let (kid, rest) = self.ends.split_first()?;
+        let Some((kid, rest)) = self.ends.split_first() else {
+            return None;
+        };
         self.ends = rest;
         Some(kid.point)
     }
@@ -43,7 +45,9 @@ impl<'a> Iterator for Readers<'a> {
     ghost remaining = { item_count readers_left };
 
     fn next(&mut self) -> Option<Point> {
-        let (reader, rest) = self.ends.split_first()?;
+        let Some((reader, rest)) = self.ends.split_first() else {
+            return None;
+        };
         self.ends = rest;
         Some(reader.point)
     }

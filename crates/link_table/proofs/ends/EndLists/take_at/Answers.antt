@@ -1,7 +1,7 @@
-use Rattle.std.proofs.Common.{◌∙◌, ap, sym}
-use Rattle.std.specs.Prelude.{slice_get}
+use Rattle.std.proofs.Common.{◌∙◌, length, ap, sym}
+use Rattle.std.specs.Prelude.{slice_get, ◌==◌}
 use Rattle.link_table.specs.Ends.{row_ends}
-use Rattle.link_table.proofs.Lists.{copied_at, empty_when, filled_when}
+use Rattle.link_table.proofs.Lists.{copied_at}
 use Rattle.link_table.proofs.Written.{end_is_taken, is_held}
 use Rattle.link_table.proofs.ends.EndLists.take_at.Goals as goal
 
@@ -29,11 +29,6 @@ returns-clause-others c =
     written.changes.others
 
 pub returns-clause-only : goal.returns-clause-only
-returns-clause-only c t =
+returns-clause-only c =
     let written = rw c.unwrap-row.ensures at (c.get_mut.follows.holds c.swap_remove-end.new.self) in
-    ap row_ends written.changes.changed ∙ empty_when c.swap_remove-end.new.self.items c.is_empty.result c.is_empty.ensures t
-
-pub returns-clause-more : goal.returns-clause-more
-returns-clause-more c f none =
-    let written = rw c.unwrap-row.ensures at (c.get_mut.follows.holds c.swap_remove-end.new.self) in
-    filled_when c.swap_remove-end.new.self.items c.is_empty.result c.is_empty.ensures f (sym (ap row_ends written.changes.changed) ∙ none)
+    c.is_empty.ensures ∙ sym (ap (λ o. length (row_ends o) == 0) written.changes.changed)

@@ -2,6 +2,9 @@ use Rattle.std.proofs.Common.{ap}
 use Rattle.link_table.proofs.Counts.{place_there, link_more}
 use Rattle.link_table.proofs.table.LinkTable.remove.Goals as goal
 
+pub kid_place-requires : goal.kid_place-requires
+kid_place-requires c = record { two_way = c.self.invariant.sound.two_way }
+
 pub unwrap-i-requires : goal.unwrap-i-requires
 unwrap-i-requires c =
     let there = rw (← ap (λ w. w.all) c.self.view_is) at c.requires.there in
