@@ -53,10 +53,6 @@ module _ (heights levels : Rows ℕ) where
   pub levelled_some : (p : Point) (n : ℕ) → at levels p ≡ Some n → levelled heights levels p ≡ n
   levelled_some p n e = ap (level_or (level heights p)) e
 
-  -- the point's level isn't its height
-  abbrev pub IsOff : Point → Type 0
-  IsOff p = levelled heights levels p ≢ level heights p
-
   -- a point that has a level gets it
   pub levelled_there : (p : Point) → Holds levels p → levelled heights levels p ≡ level levels p
   levelled_there p there = let r = row_there levels p there in levelled_some p r.0 r.1 ∙ sym (level_at levels p r.0 r.1)

@@ -8,11 +8,11 @@ use Rattle.link_table.specs.Links.{Links, times, link, Reads, KeepsLinks, OneLin
 use Rattle.height_order.specs.declared.lifts.Lift.{Lift}
 use Rattle.height_order.specs.Answers.{IsNear}
 use Rattle.height_order.specs.Chains.{ReadsWith, Leads, HasChain}
-use Rattle.height_order.specs.Levels.{level, or_zero, Rises, AllLow, Ends, AreSoundHeights, KeepsPoints, IsMoved, Tells}
-use Rattle.height_order.specs.Climbs.{lifted, IsAsked, AllAsked, IsClimbed, AreAll}
-use Rattle.height_order.proofs.Points.{level_there, level_other, level_kept, still_there, row_there, there_cases, some_there}
+use Rattle.height_order.specs.Levels.{level, or_zero, Rises, AllLow, Ends, AreSoundHeights, KeepsPoints, Tells}
+use Rattle.height_order.specs.Climbs.{lifted, IsAsked, AllAsked, IsClimbed}
+use Rattle.height_order.proofs.Points.{level_other, level_kept, still_there, row_there, there_cases}
 use Rattle.height_order.proofs.Chaining.{path_falls, no_long_chain, leads_more, leads_self, leads_before}
-use Rattle.height_order.proofs.Lifting.{lifted_some, lifted_none}
+use Rattle.height_order.proofs.Lifting.{lifted_none}
 
 sound_kept : (old new : Rows ℕ) (links : Links) → ((p : Point) → level new p ≡ level old p) → ((p : Point) → Holds old p → Holds new p)
     → AreSoundHeights old links → AreSoundHeights new links
@@ -21,23 +21,6 @@ sound_kept old new links same there s = record {
   rises = λ p q r. let h = s.rises p q r in let a = same p in let b = same q in omega (arith, h, a, b);
   low = λ p. let h = s.low p in let a = same p in omega (arith, h, a);
 }
-
-added_level : (old new : Rows ℕ) (p q : Point) → Changes old new p (Some 0) → at old p ≡ None → (q ≡ p) ⊎ (q ≢ p) → level new q ≡ level old q
-added_level old new p q c none (inl e) =
-    let t = level_there old new p 0 c in let z = ap or_zero none in let a = ap (level new) e in let b = ap (level old) e in omega (arith, t, z, a, b)
-added_level old new p q c none (inr differs) = level_other old new p q (Some 0) c differs
-
-added_there : (old new : Rows ℕ) (p q : Point) → Changes old new p (Some 0) → (q ≡ p) ⊎ (q ≢ p) → Holds old q → Holds new q
-added_there old new p q c (inl e) there = some_there (at new q) 0 (ap (at new) e ∙ c.changed)
-added_there old new p q c (inr differs) there = subst IsSome (sym (c.others q differs)) there
-
--- an add keeps it
-pub sound_added : {A E : Type 0} → (r : Result A E) (old new : Rows ℕ) (p : Point) (links : Links) → OnOk r (Changes old new p (Some 0)) → OnErr r (KeepsRows old new)
-    → at old p ≡ None → AreSoundHeights old links → AreSoundHeights new links
-sound_added (Ok x) old new p links ok err none s =
-    sound_kept old new links (λ q. added_level old new p q ok none (point_cases q p)) (λ q. added_there old new p q ok (point_cases q p)) s
-sound_added (Err x) old new p links ok err none s =
-    sound_kept old new links (λ q. level_kept old new q err) (λ q there. subst IsSome (sym (err q)) there) s
 
 -- an end of a link is there, so it isn't the point that is added
 end_differs : (old : Rows ℕ) (p a : Point) → at old p ≡ None → Holds old a → a ≢ p
@@ -224,27 +207,12 @@ module _ (old new : Rows ℕ) (links : Links) (p q : Point) (lifts : Rows Lift) 
   differs_by x (inl none) differs = absurd (differs (written x ∙ lifted_none old lifts x none))
   differs_by x (inr there) differs = there
 
-  lifted_differs : (x : Point) → Holds lifts x → level new x ≢ level old x
-  lifted_differs x there same =
-      let r = row_there lifts x there in
-      let e = lifted_some old lifts x r.0 r.1 in
-      let m = (climbed.raised x r.0 r.1).more in
-      let w = written x in omega (arith, same, e, m, w)
-
   -- they lead to the new link's reader
   pub lifted_near : (x : Point) → level new x ≢ level old x → IsNear links p q x
   lifted_near x differs = record {
     top = x;
     above = inr (leads_reader old links p q lifts sound climbed.asked x (differs_by x (there_cases lifts x) differs));
     leads = leads_self (Reads links) x;
-  }
-
-  -- the lifted points are those whose height changed
-  pub lifted_moved : (list : List Point) → AreAll lifts list → IsMoved (level old) (level new) list
-  lifted_moved list all = record {
-    once = all.once;
-    changed = λ x has. lifted_differs x ((all.exact x).0 has);
-    every = λ x differs. (all.exact x).1 (differs_by x (there_cases lifts x) differs);
   }
 
 append_none : (list : List Point) → list ≡ list ++ []

@@ -1,7 +1,7 @@
 -- Walks over the places of a map.
 use Rattle.std.proofs.Common.{◌≡◌, ◌≢◌, ℕ, suc, ◌+◌, ◌<◌, ◌≤◌, List, [], ◌∷◌, ◌++◌, ap, sym, subst, inl, inr, arith, option_map}
 use Rattle.std.specs.Prelude.{◌⊎◌, Option, Some, None, Contains}
-use Rattle.std.proofs.lemmas.List.Elements.{Contains-push, Contains-push_cases, Contains-append_left}
+use Rattle.std.proofs.lemmas.List.Elements.{Contains-push_cases}
 use Rattle.inc_value.specs.declared.node.Point.{Point}
 use Rattle.point_map.specs.Rows.{Rows, at, Holds, IsWalk, standing}
 use Rattle.height_order.specs.Chains.{NoRepeats}
@@ -43,13 +43,6 @@ module _ {R : Type 0} (m : Rows R) where
   pub stands_below : (n : ℕ) (p : Point) → IsWalk m n → Holds m p → (k : ℕ) × (k < n) × PointAt k p
   stands_below n p walk there = let s = walk.every p there in (s.place, s.below, ap (option_map (λ e. e.0)) s.there)
 
-  -- no point stands twice
-  pub stands_once : (n i j : ℕ) (p : Point) → IsWalk m n → PointAt i p → PointAt j p → i ≡ j
-  stands_once n i j p walk a b =
-      let r = row_in_pair (standing m i) p a in
-      let s = row_in_pair (standing m j) p b in
-      walk.once i j p r.0 s.0 r.1 s.1
-
   -- one point stands at a place
   pub same_place : (i : ℕ) (p q : Point) → PointAt i p → PointAt i q → p ≡ q
   same_place i p q a b = let f : ◌≡◌ {A = Option Point} (Some p) (Some q) = cc in let e : p ≡ q = cc in e
@@ -74,61 +67,3 @@ module _ {R : Type 0} (m : Rows R) where
 
   pub each_vacant : (P : Point → Type 0) (i : ℕ) → EachBelow P i → option_map (λ e. e.0) (standing m i) ≡ None → EachBelow P (i + 1)
   each_vacant P i each vacant = each_more P i each (λ q at_q. absurd (cc))
-
-  -- the list has those of the points at the places below i that are chosen, once
-  pub record Gathers (D : Point → Type 0) (list : List Point) (i : ℕ) : Type 0 where
-    pub once : NoRepeats list
-    pub from : (p : Point) → Contains list p → (k : ℕ) × (k < i) × PointAt k p
-    pub chosen : (p : Point) → Contains list p → D p
-    pub every : EachBelow (λ p. D p → Contains list p) i
-
-  pub gathers_none : (D : Point → Type 0) → Gathers D [] 0
-  gathers_none D = record {
-    once = tt;
-    from = λ p has. absurd (let lt = has.1 in omega (arith, lt));
-    chosen = λ p has. absurd (let lt = has.1 in omega (arith, lt));
-    every = λ k p less. absurd (omega (arith, less));
-  }
-
-  pushed_from : (i : ℕ) (p q : Point) {A : Type 0} → (A → (k : ℕ) × (k < i) × PointAt k q) → PointAt i p → A ⊎ (p ≡ q)
-      → (k : ℕ) × (k < i + 1) × PointAt k q
-  pushed_from i p q from here (inl a) = let s = from a in let lt = s.1 in (s.0, omega (arith, lt), s.2)
-  pushed_from i p q from here (inr e) = (i, omega arith, subst (λ x. PointAt i x) e here)
-
-  pushed_chosen : (D : Point → Type 0) (p q : Point) {A : Type 0} → (A → D q) → D p → A ⊎ (p ≡ q) → D q
-  pushed_chosen D p q chosen d (inl a) = chosen a
-  pushed_chosen D p q chosen d (inr e) = subst D e d
-
-  -- the point at the next place is chosen
-  pub gathers_more : (D : Point → Type 0) (list : List Point) (n i : ℕ) (p : Point) → IsWalk m n → Gathers D list i → PointAt i p → D p
-      → Gathers D (list ++ p ∷ []) (i + 1)
-  gathers_more D list n i p walk so here d = record {
-    once = once_push list p so.once
-        (λ has. let s = so.from p has in let e = stands_once n s.0 i p walk s.2 here in let lt = s.1 in omega (arith, e, lt));
-    from = λ q has. pushed_from i p q (so.from q) here (Contains-push_cases list p q has);
-    chosen = λ q has. pushed_chosen D p q (so.chosen q) d (Contains-push_cases list p q has);
-    every = each_point (λ q. D q → Contains (list ++ p ∷ []) q) i p
-        (λ k q less at_k e. Contains-append_left list (p ∷ []) q (so.every k q less at_k e)) here (λ e. Contains-push list p);
-  }
-
-  gathers_over : (D : Point → Type 0) (list : List Point) (i : ℕ) → Gathers D list i → EachBelow (λ p. D p → Contains list p) (i + 1)
-      → Gathers D list (i + 1)
-  gathers_over D list i so every = record {
-    once = so.once;
-    from = λ q has. let s = so.from q has in let lt = s.1 in (s.0, omega (arith, lt), s.2);
-    chosen = so.chosen;
-    every = every;
-  }
-
-  -- the point at the next place isn't chosen
-  pub gathers_skip : (D : Point → Type 0) (list : List Point) (i : ℕ) (p : Point) → Gathers D list i → PointAt i p → (D p → ⊥) → Gathers D list (i + 1)
-  gathers_skip D list i p so here other =
-      gathers_over D list i so (each_point (λ q. D q → Contains list q) i p so.every here (λ d. absurd (other d)))
-
-  -- nothing stands at the next place
-  pub gathers_vacant : (D : Point → Type 0) (list : List Point) (i : ℕ) → Gathers D list i → option_map (λ e. e.0) (standing m i) ≡ None
-      → Gathers D list (i + 1)
-  gathers_vacant D list i so vacant = gathers_over D list i so (each_vacant (λ q. D q → Contains list q) i so.every vacant)
-
-  pub gathers_whole : (D : Point → Type 0) (list : List Point) (n i : ℕ) → IsWalk m n → n ≤ i → Gathers D list i → (p : Point) → Holds m p → D p → Contains list p
-  gathers_whole D list n i walk end so = each_whole (λ p. D p → Contains list p) n i walk end so.every

@@ -1,10 +1,10 @@
 -- Heights that climb where one link more asks for it.
-use Rattle.std.specs.Prelude.{◌≡◌, ◌⊎◌, ℕ, ◌+◌, ◌<◌, ◌≤◌, List, Option, None, Some, Contains, ◌↔◌, min}
+use Rattle.std.specs.Prelude.{◌≡◌, ◌⊎◌, ℕ, ◌+◌, ◌<◌, ◌≤◌, List, Option, None, Some, min}
 use Rattle.inc_value.specs.declared.node.Point.{Point}
 use Rattle.point_map.specs.Rows.{Rows, at, Holds, Changes, KeepsRows}
 use Rattle.link_table.specs.Links.{Links, Reads, occurrences}
 use Rattle.height_order.specs.declared.lifts.Lift.{Lift}
-use Rattle.height_order.specs.Chains.{Reading, ReadsWith, NoRepeats, Leads}
+use Rattle.height_order.specs.Chains.{Reading, ReadsWith, Leads}
 use Rattle.height_order.specs.Levels.{level, Rises}
 
 -- the height that a lift gives, or this one where there is none
@@ -102,8 +102,3 @@ ComesAbove heights old new queue_old queue_new reader kid =
 -- what was done is done
 abbrev pub KeepsDone : Rows Lift → Rows Lift → Rows ℕ → Rows ℕ → Type 0
 KeepsDone lifts_old lifts_new queue_old queue_new = (y : Point) → IsDone lifts_old queue_old y → IsDone lifts_new queue_new y
-
--- the list has each point of the map, once
-pub record AreAll (lifts : Rows Lift) (list : List Point) : Type 0 where
-  pub once : NoRepeats list
-  pub exact : (p : Point) → Contains list p ↔ Holds lifts p

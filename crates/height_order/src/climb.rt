@@ -67,25 +67,29 @@ pub fn climb(
     ensures climbed { IfOk result (λ o. IfNone o (IsClimbed heights.now links.now new.reader new.kid lifts.new)) }
 {
     let mut path = Vec::new(alloc);
-    match find_path(links, heights, new, lifts, queue, &mut path) {
+    let found = find_path(links, heights, new, lifts, &mut queue.points, &mut path);
+    clear(&mut queue.points);
+    match found {
         Ok(true) => Ok(Some(path)),
         Ok(false) => Ok(None),
         Err(e) => Err(e),
     }
 }
 
-/// Does so, and appends the path to an empty list. Whether there is one.
+/// Does so over a queue, in which points are left where there is a path or no memory, and appends the path to an
+/// empty list. Whether there is one.
 fn find_path(
     links: &LinkTable,
     heights: &PointMap<u32>,
     new: Link,
     lifts: &mut PointMap<Lift>,
-    queue: &mut ClimbQueue,
+    queue: &mut RecomputeHeap,
     path: &mut Vec<Point>,
 ) -> Result<bool, AllocError>
     requires sound { AreSoundHeights heights.now links.now }
     requires reader { Holds heights.now new.reader }
     requires none { lifts.old.places ≡ [] }
+    requires idle { IsEmpty queue.old }
     requires empty { path.old.items ≡ [] }
     ensures path { IfOk result (λ found. IsTrue found → IsPath (Reads links.now) path.new.items new.kid new.reader) }
     ensures climbed { IfOk result (λ found. IsFalse found → IsClimbed heights.now links.now new.reader new.kid lifts.new) }
@@ -94,7 +98,7 @@ fn find_path(
     if new.reader == new.kid {
         return Ok(true);
     }
-    let Some(met) = lift_all(links, heights, new, lifts, queue)? else {
+    let Some(met) = lift_queued(links, heights, new, lifts, queue)? else {
         return Ok(false);
     };
     let mut last = met;
@@ -108,27 +112,7 @@ fn find_path(
 
 /// Lifts the new link's reader above its kid, and then readers above what they read, until heights rise or a
 /// point is met that the kid reads. Only readers of lifted points are looked at, each point's once.
-fn lift_all(
-    links: &LinkTable,
-    heights: &PointMap<u32>,
-    new: Link,
-    lifts: &mut PointMap<Lift>,
-    queue: &mut ClimbQueue,
-) -> Result<Option<Point>, AllocError>
-    requires sound { AreSoundHeights heights.now links.now }
-    requires reader { Holds heights.now new.reader }
-    requires other { new.reader ≢ new.kid }
-    requires none { lifts.old.places ≡ [] }
-    ensures met { IfOk result (λ o. IfSome o (λ x. Reads links.now new.kid x × Holds lifts.new x)) }
-    ensures asked { IfOk result (λ _. AllAsked links.now new.reader new.kid lifts.new) }
-    ensures climbed { IfOk result (λ o. IfNone o (IsClimbed heights.now links.now new.reader new.kid lifts.new)) }
-{
-    let met = lift_queued(links, heights, new, lifts, &mut queue.points);
-    clear(&mut queue.points);
-    met
-}
-
-/// Does so over a queue, in which points are left where one is met that the kid reads or there is no memory.
+/// Points are left in the queue where such a point is met or there is no memory.
 fn lift_queued(
     links: &LinkTable,
     heights: &PointMap<u32>,

@@ -91,7 +91,7 @@ impl Heights {
         ensures links { self.new.links ≡ self.old.links }
         ensures err { OnErr result (KeepsRows self.old.heights self.new.heights) }
     {
-        add_at(&mut self.heights, p, 0)
+        self.add_at(p, 0)
     }
 
     /// Adds a point that isn't there, at a height of at most 128 and without links. Heights needn't be
@@ -178,13 +178,7 @@ impl Heights {
         ensures err { OnErr result (self.new ≡ self.old) }
     {
         let mut levels = PointMap::new(self.alloc);
-        let levelled = adopt_all(
-            self.alloc,
-            &mut self.heights,
-            &self.links,
-            &mut levels,
-            moved,
-        );
+        let levelled = adopt_all(&mut self.heights, &self.links, &mut levels, moved);
         drop(levels);
         levelled
     }

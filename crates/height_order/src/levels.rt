@@ -4,7 +4,7 @@ ghost use Rattle.inc_value.specs.declared.node.Point.{Point};
 ghost use Rattle.point_map.specs.Rows.{at, Holds, Changes, KeepsRows};
 ghost use Rattle.link_table.specs.Links.{Reads};
 ghost use Rattle.height_order.specs.Chains.{IsChain, Leads, NoneLonger};
-ghost use Rattle.height_order.specs.Levels.{level, levelled, KeepsPoints, IsMoved, bound, AreBounds, HaveNext, AreLevels, AddsBelow};
+ghost use Rattle.height_order.specs.Levels.{level, bound, AreBounds, HaveNext, AreLevels, AddsBelow};
 
 use inc_value::Point;
 use link_table::LinkTable;
@@ -127,42 +127,6 @@ pub fn level_each<R>(
         level_below(links, heights, points, levels, p, most)?;
     }
     Ok(())
-}
-
-/// The points whose level isn't their height, each once.
-pub fn changed(
-    alloc: Global,
-    heights: &PointMap<u32>,
-    levels: &PointMap<u32>,
-) -> Result<Vec<Point>, AllocError>
-    ensures { IfOk result (λ list. IsMoved (level heights.now) (levelled heights.now levels.now) list.items) }
-{
-    let mut list = Vec::new(alloc);
-    for i in 0..levels.places() {
-        let Some(p) = levels.point_at(i) else {
-            continue;
-        };
-        if level_of(heights, p) == level_of(levels, p) {
-            continue;
-        }
-        list.push(p)?;
-    }
-    Ok(list)
-}
-
-/// Gives each point that has a level this height.
-pub fn write_levels(heights: &mut PointMap<u32>, levels: &PointMap<u32>)
-    requires there { (p : Point) → Holds levels.now p → Holds heights.old p }
-    ensures points { KeepsPoints heights.old heights.new }
-    ensures written { (p : Point) → level heights.new p ≡ levelled heights.old levels.now p }
-{
-    for i in 0..levels.places() {
-        let Some(p) = levels.point_at(i) else {
-            continue;
-        };
-        let height = level_of(levels, p);
-        heights.replace(p, height);
-    }
 }
 
 /// A point whose level is above the greatest height, if there is one.

@@ -1,14 +1,13 @@
 //! New heights of some points, over the old heights of all.
-ghost use Rattle.std.specs.Prelude.{◌≡◌, ◌<◌, ◌≤◌, IfOk, IfSome, IfNone};
+ghost use Rattle.std.specs.Prelude.{◌≡◌, ◌+◌, ◌<◌, ◌≤◌, IsTrue, IsFalse, vec_len, vec_capacity};
 ghost use Rattle.inc_value.specs.declared.node.Point.{Point};
-ghost use Rattle.point_map.specs.Rows.{Holds};
-ghost use Rattle.height_order.specs.Levels.{level, KeepsPoints};
-ghost use Rattle.height_order.specs.Climbs.{lifted, AreAll};
+ghost use Rattle.point_map.specs.Rows.{Holds, IsWalk};
+ghost use Rattle.height_order.specs.Levels.{level, KeepsPoints, Tells};
+ghost use Rattle.height_order.specs.Climbs.{lifted};
 
 use crate::levels::level_of;
 use inc_value::Point;
 use point_map::PointMap;
-use std::alloc::{AllocError, Global};
 
 /// A point's new height, and the point that it reads and that asks for this.
 #[derive(Clone, Copy)]
@@ -27,46 +26,45 @@ pub fn lifted_level(heights: &PointMap<u32>, lifts: &PointMap<Lift>, p: Point) -
     }
 }
 
-/// The lifted points, each once.
-pub fn lifted_points(alloc: Global, lifts: &PointMap<Lift>) -> Result<Vec<Point>, AllocError>
-    ensures { IfOk result (λ list. AreAll lifts.now list.items) }
-{
-    let mut list = Vec::new(alloc);
-    for i in 0..lifts.places() {
-        let Some(p) = lifts.point_at(i) else {
-            continue;
-        };
-        list.push(p)?;
-    }
-    Ok(list)
-}
-
-/// Gives each lifted point its new height.
-pub fn write_lifts(heights: &mut PointMap<u32>, lifts: &PointMap<Lift>)
+/// Gives each lifted point its new height, and appends those whose height changes to `moved`, each once.
+/// There are so many places, and `moved` has room for as many points.
+pub fn write_lifts(
+    heights: &mut PointMap<u32>,
+    lifts: &PointMap<Lift>,
+    places: usize,
+    moved: &mut Vec<Point>,
+)
+    requires walk { IsWalk lifts.now places }
     requires there { (p : Point) → Holds lifts.now p → Holds heights.old p }
+    requires room { vec_len moved.old + places ≤ vec_capacity moved.old }
     ensures points { KeepsPoints heights.old heights.new }
     ensures written { (p : Point) → level heights.new p ≡ lifted heights.old lifts.now p }
+    ensures moved { Tells (level heights.old) (level heights.new) moved.old.items moved.new.items }
 {
-    for i in 0..lifts.places() {
+    for i in 0..places {
         let Some(p) = lifts.point_at(i) else {
             continue;
         };
         let height = lifted_level(heights, lifts, p);
+        if level_of(heights, p) == height {
+            continue;
+        }
         heights.replace(p, height);
+        moved.push_reserved(p);
     }
 }
 
-/// A point that is lifted above the greatest height, if there is one.
-pub fn too_high(heights: &PointMap<u32>, lifts: &PointMap<Lift>) -> Option<Point>
-    ensures some { IfSome result (λ p. 128 < lifted heights.now lifts.now p) }
-    ensures none { IfNone result ((p : Point) → Holds lifts.now p → lifted heights.now lifts.now p ≤ 128) }
+/// Whether a point is lifted above the greatest height.
+pub fn any_too_high(heights: &PointMap<u32>, lifts: &PointMap<Lift>) -> bool
+    ensures high { IsTrue result → (p : Point) × (128 < lifted heights.now lifts.now p) }
+    ensures low { IsFalse result → (p : Point) → Holds lifts.now p → lifted heights.now lifts.now p ≤ 128 }
 {
     for i in 0..lifts.places() {
         if let Some(p) = lifts.point_at(i) {
             if lifted_level(heights, lifts, p) > 128 {
-                return Some(p);
+                return true;
             }
         }
     }
-    None
+    false
 }

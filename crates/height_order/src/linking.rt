@@ -1,18 +1,16 @@
 //! A link more, over heights that are lifted or levelled for it.
-ghost use Rattle.std.specs.Prelude.{[], ◌≡◌, ◌<◌, ◌≤◌, ◌++◌, OnOk, OnErr};
+ghost use Rattle.std.specs.Prelude.{[], ◌≡◌, ◌≤◌, OnOk, OnErr};
 ghost use Rattle.inc_value.specs.declared.node.Point.{Point};
 ghost use Rattle.point_map.specs.Rows.{Holds};
-ghost use Rattle.link_table.specs.Links.{Reads, KeepsLinks, OneLinkMore};
+ghost use Rattle.link_table.specs.Links.{Reads};
 ghost use Rattle.height_order.specs.Levels.{level, levelled, AllLow, Ends, AreSoundHeights, KeepsPoints, IsExact, Tells};
-ghost use Rattle.height_order.specs.Climbs.{lifted, IsClimbed, IsRanked};
+ghost use Rattle.height_order.specs.Climbs.{IsClimbed, IsRanked};
 ghost use Rattle.height_order.specs.Answers.{IsLinkAnswer, IsFitted, AreEndsLevelled};
 
 use crate::climb::{ClimbQueue, climb};
 use crate::heights::LinkFault;
-use crate::levels::{
-    changed, level_below, level_each, level_of, long_chain, too_long, write_levels,
-};
-use crate::lifts::{Lift, lifted_points, too_high, write_lifts};
+use crate::levels::{level_below, level_each, level_of, long_chain, too_long};
+use crate::lifts::{Lift, any_too_high, write_lifts};
 use inc_value::Point;
 use link_table::{Link, LinkTable};
 use point_map::PointMap;
@@ -93,39 +91,17 @@ fn link_climbed(
         (record { heights = heights.new; links = links.new })
         new.reader new.kid moved.old.items moved.new.items result }
 {
-    match too_high(heights, lifts) {
-        Some(_) => link_levelled(alloc, heights, links, new, lifts, moved),
-        None => link_lifted(alloc, heights, links, new, lifts, moved),
+    if any_too_high(heights, lifts) {
+        return link_levelled(alloc, heights, links, new, lifts, moved);
     }
-}
-
-/// Makes the link where lifted heights fit.
-fn link_lifted(
-    alloc: Global,
-    heights: &mut PointMap<u32>,
-    links: &mut LinkTable,
-    new: Link,
-    lifts: &PointMap<Lift>,
-    moved: &mut Vec<Point>,
-) -> Result<(), LinkFault>
-    requires sound { AreSoundHeights heights.old links.old }
-    requires reader { Holds heights.old new.reader }
-    requires kid { Holds heights.old new.kid }
-    requires not_higher { level heights.old new.reader ≤ level heights.old new.kid }
-    requires climbed { IsClimbed heights.old links.old new.reader new.kid lifts.now }
-    requires low { (x : Point) → Holds lifts.now x → lifted heights.old lifts.now x ≤ 128 }
-    ensures sound { AreSoundHeights heights.new links.new }
-    ensures answer { IsLinkAnswer (record { heights = heights.old; links = links.old })
-        (record { heights = heights.new; links = links.new })
-        new.reader new.kid moved.old.items moved.new.items result }
-{
-    let list = match lifted_points(alloc, lifts) {
-        Ok(list) => list,
+    let places = lifts.places();
+    match moved.reserve(places) {
+        Ok(()) => {}
         Err(AllocError) => return Err(LinkFault::Memory),
-    };
-    match add_told(links, new, &list, moved) {
+    }
+    match links.add(new.reader, new.kid) {
         Ok(()) => {
-            write_lifts(heights, lifts);
+            write_lifts(heights, lifts, places, moved);
             Ok(())
         }
         Err(AllocError) => Err(LinkFault::Memory),
@@ -217,7 +193,7 @@ fn fit_levels(
             Err(e) => Err(e),
         };
     }
-    match adopt(alloc, heights, levels, moved) {
+    match adopt(heights, levels, moved) {
         Ok(()) => Ok(None),
         Err(e) => Err(e),
     }
@@ -239,14 +215,13 @@ fn level_ends(
         moved.old.items moved.new.items result }
 {
     let mut levels = PointMap::new(alloc);
-    let levelled = adopt_ends(alloc, heights, links, new, &mut levels, moved);
+    let levelled = adopt_ends(heights, links, new, &mut levels, moved);
     drop(levels);
     levelled
 }
 
 /// Does so over a map for the levels.
 fn adopt_ends(
-    alloc: Global,
     heights: &mut PointMap<u32>,
     links: &LinkTable,
     new: Link,
@@ -263,12 +238,11 @@ fn adopt_ends(
     // (all points are free, so each that is led to gets its level)
     level_below(links, heights, heights, levels, new.reader, 128)?;
     level_below(links, heights, heights, levels, new.kid, 128)?;
-    adopt(alloc, heights, levels, moved)
+    adopt(heights, levels, moved)
 }
 
 /// Levels all points, and tells which heights changed. Without memory nothing changes.
 pub fn adopt_all(
-    alloc: Global,
     heights: &mut PointMap<u32>,
     links: &LinkTable,
     levels: &mut PointMap<u32>,
@@ -283,12 +257,11 @@ pub fn adopt_all(
     ensures err { OnErr result (heights.new ≡ heights.old) }
 {
     level_each(links, heights, heights, levels, 128)?;
-    adopt(alloc, heights, levels, moved)
+    adopt(heights, levels, moved)
 }
 
 /// Takes levels for the heights of their points, and tells which changed. Without memory nothing changes.
 fn adopt(
-    alloc: Global,
     heights: &mut PointMap<u32>,
     levels: &PointMap<u32>,
     moved: &mut Vec<Point>,
@@ -300,26 +273,18 @@ fn adopt(
     ensures points { KeepsPoints heights.old heights.new }
     ensures moved { Tells (level heights.old) (level heights.new) moved.old.items moved.new.items }
 {
-    let list = changed(alloc, heights, levels)?;
-    moved.extend_from_slice(&list)?;
-    write_levels(heights, levels);
-    Ok(())
-}
-
-/// Adds a link and appends points to `moved`: both, or neither where memory is lacking.
-fn add_told(
-    links: &mut LinkTable,
-    new: Link,
-    list: &[Point],
-    moved: &mut Vec<Point>,
-) -> Result<(), AllocError>
-    ensures linked { OnOk result (OneLinkMore links.old links.new new.reader new.kid) }
-    ensures told { OnOk result (moved.new.items ≡ moved.old.items ++ list.now) }
-    ensures err { OnErr result (KeepsLinks links.old links.new) }
-    ensures untold { OnErr result (moved.new.items ≡ moved.old.items) }
-{
-    moved.reserve(list.len())?;
-    links.add(new.reader, new.kid)?;
-    moved.extend_from_slice(list).unwrap();
+    let places = levels.places();
+    moved.reserve(places)?;
+    for i in 0..places {
+        let Some(p) = levels.point_at(i) else {
+            continue;
+        };
+        let height = level_of(levels, p);
+        if level_of(heights, p) == height {
+            continue;
+        }
+        heights.replace(p, height);
+        moved.push_reserved(p);
+    }
     Ok(())
 }

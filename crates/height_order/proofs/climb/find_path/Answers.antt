@@ -10,7 +10,7 @@ pub loop-new-smaller : goal.loop-new-smaller
 loop-new-smaller c =
     let e = sym c.get.ensures ∙ ap option_copied c.unwrap.ensures in
     let other : c.loop-new.last ≢ c.args.new.reader = search rules in
-    let step = asked_step c.args.links.now c.args.new.reader c.args.new.kid c.lift_all.new.lifts c.loop-new.last c.unwrap.result.now c.in_ok-met.ensures.asked e other in
+    let step = asked_step c.args.links.now c.args.new.reader c.args.new.kid c.lift_queued.new.lifts c.loop-new.last c.unwrap.result.now c.in_ok-met.ensures.asked e other in
     let r = c.requires.sound.rises c.loop-new.last c.unwrap.result.now.kid step.0 in
     r
 
@@ -20,7 +20,7 @@ loop-new-preserved c =
     let other : c.loop-new.last ≢ c.args.new.reader = search rules in
     let next = c.unwrap.result.now.kid in
     let so = c.loop-new.invariant in
-    let step = asked_step c.args.links.now c.args.new.reader c.args.new.kid c.lift_all.new.lifts c.loop-new.last c.unwrap.result.now c.in_ok-met.ensures.asked e other in
+    let step = asked_step c.args.links.now c.args.new.reader c.args.new.kid c.lift_queued.new.lifts c.loop-new.last c.unwrap.result.now c.in_ok-met.ensures.asked e other in
     record {
       path = subst (λ xs. IsPath (Reads c.args.links.now) xs c.args.new.kid next) (sym c.in_ok-push-3.ensures.items)
           (path_push (Reads c.args.links.now) c.loop-new.path.items c.args.new.kid c.loop-new.last next so.path step.0);

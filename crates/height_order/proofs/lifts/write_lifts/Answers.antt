@@ -1,34 +1,76 @@
-use Rattle.std.proofs.Common.{◌≡◌, ◌∙◌, sym}
-use Rattle.height_order.specs.Levels.{level}
+use Rattle.std.proofs.Common.{◌∙◌, ◌+◌, refl, sym, subst, arith}
 use Rattle.height_order.specs.Climbs.{lifted}
 use Rattle.height_order.proofs.Points.{still_there}
-use Rattle.height_order.proofs.Walking.{each_point, each_whole, stands_there}
-use Rattle.height_order.proofs.Lifting.{written_more, written_still, written_here, written_whole, lifted_none, lifted_alike}
+use Rattle.height_order.proofs.Walking.{stands_there}
+use Rattle.height_order.proofs.Lifting.{lifted_none, lifted_alike}
+use Rattle.height_order.proofs.Moving.{Writes, writes_none, writes_vacant, writes_same, writes_more, writes_whole}
 use Rattle.height_order.proofs.lifts.write_lifts.Goals as goal
+
+pub loop-i-init : goal.loop-i-init
+loop-i-init c = record {
+  writes = writes_none c.args.lifts.now (lifted c.args.heights.now c.args.lifts.now) c.args.heights.now c.args.moved.now.items c.args.moved.now.items refl;
+  room = (let r = c.requires.room in omega (arith, r));
+}
+
+pub loop-i-preserved-in_default : goal.loop-i-preserved-in_default
+loop-i-preserved-in_default c =
+    let so = c.loop-i.invariant in
+    record {
+      writes = writes_vacant c.args.lifts.now (lifted c.args.heights.now c.args.lifts.now) c.args.heights.now c.args.moved.now.items
+          c.loop-i.heights c.loop-i.moved.items c.loop-i.i so.writes (sym c.point_at.ensures ∙ c.in_default.is);
+      room = (let r = so.room in omega (arith, r));
+    }
+
+pub loop-i-preserved-then-level_of-height : goal.loop-i-preserved-then-level_of-height
+loop-i-preserved-then-level_of-height c =
+    let heights = c.args.heights.now in
+    let lifts = c.args.lifts.now in
+    let p = c.in-Some.p in
+    let so = c.loop-i.invariant in
+    let stands = stands_there lifts c.args.places c.loop-i.i p c.requires.walk (sym c.in-Some.ensures) in
+    let is = c.lifted_level-height.ensures ∙ lifted_alike heights c.loop-i.heights lifts p stands in
+    record {
+      writes = writes_same lifts (lifted heights lifts) heights c.args.moved.now.items c.loop-i.heights c.loop-i.moved.items c.loop-i.i so.writes p
+          (sym c.in-Some.ensures) (let a = c.level_of.ensures in let t = c.if-level_of-height.true in omega (arith, a, t, is));
+      room = (let r = so.room in omega (arith, r));
+    }
+
+pub replace-requires : goal.replace-requires
+replace-requires c =
+    let p = c.in-Some.p in
+    record {
+      there = still_there c.args.heights.now c.loop-i.heights p c.loop-i.invariant.writes.written.points
+          (c.requires.there p (stands_there c.args.lifts.now c.args.places c.loop-i.i p c.requires.walk (sym c.in-Some.ensures)));
+    }
+
+pub push_reserved-requires : goal.push_reserved-requires
+push_reserved-requires c = let t = c.loop-i-test.true in let r = c.loop-i.invariant.room in omega (arith, t, r)
 
 pub loop-i-preserved : goal.loop-i-preserved
 loop-i-preserved c =
     let heights = c.args.heights.now in
     let lifts = c.args.lifts.now in
-    let given = lifted heights lifts in
     let p = c.in-Some.p in
     let so = c.loop-i.invariant in
-    let stands = stands_there lifts c.places-i-end.result c.loop-i.i p c.places-i-end.ensures (sym c.in-Some.ensures) in
     let now = c.loop-i.heights in
-    let new = c.replace.new.self in
-    let h = c.lifted_level-height.result in
+    let stands = stands_there lifts c.args.places c.loop-i.i p c.requires.walk (sym c.in-Some.ensures) in
     let is = c.lifted_level-height.ensures ∙ lifted_alike heights now lifts p stands in
-    let changes = c.replace.ensures.changes in
-    let there = still_there heights now p so.written.points (c.requires.there p stands) in
     record {
-      written = written_more heights now given so.written new p h is there changes;
-      each = each_point lifts (λ q. level new q ≡ given q) c.loop-i.i p
-          (λ k q less at_k. written_still heights now given so.written new p h is changes q (so.each k q less at_k))
-          (sym c.in-Some.ensures) (written_here heights now given so.written new p h is there changes);
+      writes = subst (λ xs. Writes lifts (lifted heights lifts) heights c.args.moved.now.items c.replace.new.self xs (c.loop-i.i + 1)) (sym c.push_reserved.ensures.items)
+          (writes_more lifts (lifted heights lifts) heights c.args.moved.now.items now c.loop-i.moved.items c.loop-i.i so.writes c.replace.new.self p
+          c.lifted_level-height.result (sym c.in-Some.ensures)
+          (λ e. let a = c.level_of.ensures in let f = c.if-level_of-height.false in omega (arith, a, f, is, e)) is
+          (still_there heights now p so.writes.written.points (c.requires.there p stands)) c.replace.ensures.changes);
+      room = (let n = c.push_reserved.ensures.len in let k = c.push_reserved.ensures.capacity in let r = so.room in omega (arith, n, k, r));
     }
+
+pub returns-clause-points : goal.returns-clause-points
+returns-clause-points c = c.loop-i.invariant.writes.written.points
 
 pub returns-clause-written : goal.returns-clause-written
 returns-clause-written c =
-    written_whole c.args.heights.now c.loop-i.heights (lifted c.args.heights.now c.args.lifts.now) c.loop-i.invariant.written c.args.lifts.now
-    (each_whole c.args.lifts.now (λ p. level c.loop-i.heights p ≡ lifted c.args.heights.now c.args.lifts.now p) c.places-i-end.result c.loop-i.i
-    c.places-i-end.ensures c.loop-i-test.false c.loop-i.invariant.each) (lifted_none c.args.heights.now c.args.lifts.now)
+    writes_whole c.args.lifts.now (lifted c.args.heights.now c.args.lifts.now) c.args.heights.now c.args.moved.now.items c.loop-i.heights c.loop-i.moved.items
+    c.loop-i.i c.loop-i.invariant.writes c.args.places c.requires.walk c.loop-i-test.false (lifted_none c.args.heights.now c.args.lifts.now)
+
+pub returns-clause-moved : goal.returns-clause-moved
+returns-clause-moved c = c.loop-i.invariant.writes.told
