@@ -10,11 +10,11 @@ use Rattle.inc_value.specs.declared.ty.Ty.TheVariants as ty
 use Rattle.inc_value.specs.declared.ty.Ty.{Ty}
 use Rattle.inc_value.specs.Choice.{and_then}
 use Rattle.script_model.specs.Grammar as grammar
-use Rattle.script_model.specs.Grammar.{Tree, TimedLiteral, Line, IsName, base_word, WritesTime, WritesType, WritesLiteral, WritesSteps, WritesAnySteps, Writes, WritesEach, WritesAny, WritesLine, count_of, time_of, unit_scale}
+use Rattle.script_model.specs.Grammar.{Tree, TimedLiteral, Line, IsName, base_word, WritesSpan, WritesTime, WritesType, WritesLiteral, WritesSteps, WritesAnySteps, Writes, WritesEach, WritesAny, WritesLine, count_of, time_of, unit_scale}
 use Rattle.script_model.specs.Literals as literals
 use Rattle.script_model.specs.Literals.{Literal, Integer, Referred}
 use Rattle.script_model.specs.Language.{is_name, integer_of, number_from}
-use Rattle.script_model.specs.Parsing.{Read, then_read, read, expect, is_word, is_sign, name_front, time_front, base_named, base_front, type_front, literal_front, behind_element, list_front, tally, or_read, any_front, step_front, trees_of, named_front, written_front, word_front, formula_front, formula_read, if_front, bind_front, join_front, fold_head, fold_front, steps_front, when_front, freeze_front, whole, one_name, two_names, var_read, expert_read, command_with, command_read}
+use Rattle.script_model.specs.Parsing.{Read, then_read, read, expect, is_word, is_sign, name_front, span_front, time_front, base_named, base_front, type_front, literal_front, behind_element, list_front, tally, or_read, any_front, step_front, trees_of, named_front, written_front, word_front, formula_front, formula_read, if_front, bind_front, join_front, fold_head, fold_front, steps_front, when_front, freeze_front, whole, one_name, two_names, var_read, expert_read, command_with, command_read}
 use Rattle.script_model.specs.Reading.{sign_of}
 use Rattle.script_model.specs.Tokens as token
 use Rattle.script_model.specs.Tokens.{Token, Sign, Word, Number, Text, Punctuation, Open, Close, OpenBracket, CloseBracket, Comma, Colon, Equals, Ampersand, sign_byte}
@@ -115,16 +115,19 @@ name_found (Word w ∷ rest) y e =
     by_some (λ (z : List ℕ × List Token). ((Word w ∷ rest) ≡ Word z.0 ∷ z.1) × IsName z.0) (w, rest) y tested.1 (refl, tested.0)
 name_found tokens y e = absurd (cc)
 
-time_found : (tokens : List Token) (y : grammar.Time × List Token) → time_front tokens ≡ Some y → (t : Token) × (tokens ≡ t ∷ y.1) × WritesTime y.0 t
-time_found (token.Time digits unit ∷ rest) y e =
-    by_some (λ (z : grammar.Time × List Token). (t : Token) × ((token.Time digits unit ∷ rest) ≡ t ∷ z.1) × WritesTime z.0 t)
+span_found : (tokens : List Token) (y : grammar.Time × List Token) → span_front tokens ≡ Some y → (t : Token) × (tokens ≡ t ∷ y.1) × WritesSpan y.0 t
+span_found (token.Time digits unit ∷ rest) y e =
+    by_some (λ (z : grammar.Time × List Token). (t : Token) × ((token.Time digits unit ∷ rest) ≡ t ∷ z.1) × WritesSpan z.0 t)
     (time_of (number_from 0 digits * unit_scale unit), rest) y e
     (token.Time digits unit, refl, inl (digits, unit, refl, refl))
-time_found (Number false digits ∷ rest) y e =
-    by_some (λ (z : grammar.Time × List Token). (t : Token) × ((Number false digits ∷ rest) ≡ t ∷ z.1) × WritesTime z.0 t)
+span_found (Number false digits ∷ rest) y e =
+    by_some (λ (z : grammar.Time × List Token). (t : Token) × ((Number false digits ∷ rest) ≡ t ∷ z.1) × WritesSpan z.0 t)
     (time_of (number_from 0 digits), rest) y e
     (Number false digits, refl, inr (digits, refl, refl))
-time_found tokens y e = absurd (cc)
+span_found tokens y e = absurd (cc)
+
+time_found : (tokens : List Token) (y : grammar.Time × List Token) → time_front tokens ≡ Some y → (t : Token) × (tokens ≡ t ∷ y.1) × WritesTime y.0 t
+time_found tokens y e = span_found tokens y e
 
 base_named-found : (w : List ℕ) (b : Base) → base_named w ≡ Some b → w ≡ base_word b
 base_named-found w b e =

@@ -6,11 +6,11 @@ use Rattle.inc_value.specs.declared.ty.Base.TheVariants as base
 use Rattle.inc_value.specs.declared.ty.Ty.TheVariants as ty
 use Rattle.inc_value.specs.declared.ty.Ty.{Ty}
 use Rattle.script_model.specs.Grammar as grammar
-use Rattle.script_model.specs.Grammar.{Tree, Trees, TimedLiteral, Line, Call, If, Bind, Join, Fold, At, Now, Steps, Freeze, After, Every, End, More, WritesTime, WritesType, WritesLiteral, WritesSteps, WritesAnySteps, Writes, WritesEach, WritesAny, WritesLine, count_of}
+use Rattle.script_model.specs.Grammar.{Tree, Trees, TimedLiteral, Line, Call, If, Bind, Join, Fold, At, Now, Steps, Freeze, After, Every, End, More, WritesSpan, WritesTime, WritesType, WritesLiteral, WritesSteps, WritesAnySteps, Writes, WritesEach, WritesAny, WritesLine, count_of}
 use Rattle.script_model.specs.Literals as literals
 use Rattle.script_model.specs.Literals.{Literal, Integer, Referred}
 use Rattle.script_model.specs.GrammarLaws.{OneWriting, OneLine, LinesAreShallow, LinesAreWellFormed, OneCommand, CommandsAreShallow, CommandsAreWellFormed, DeepLinesAreWellFormed}
-use Rattle.script_model.specs.Parsing.{Read, trees_of, tally, time_front, type_front, literal_front, step_front, list_front, any_front, named_front, formula_front, formula_read, command_read}
+use Rattle.script_model.specs.Parsing.{Read, trees_of, tally, span_front, time_front, type_front, literal_front, step_front, list_front, any_front, named_front, formula_front, formula_read, command_read}
 use Rattle.script_model.specs.Tokens.{Token, Word, Punctuation, Open, Close, OpenBracket, CloseBracket, Comma, Colon}
 use Rattle.script_model.proofs.TokenLaws.{one_spelling}
 
@@ -36,9 +36,12 @@ tally-length : (ts : List Token) → tally ts ≡ length ts
 tally-length [] = refl
 tally-length (t ∷ ts) = let e = tally-length ts in omega (arith, e)
 
+span_written : (s : grammar.Time) (tok : Token) (rest : List Token) → WritesSpan s tok → span_front (tok ∷ rest) ≡ Some (s, rest)
+span_written s tok rest (inl w) = rw (w.2, w.3) refl
+span_written s tok rest (inr w) = rw (w.1, w.2) refl
+
 time_written : (t : grammar.Time) (tok : Token) (rest : List Token) → WritesTime t tok → time_front (tok ∷ rest) ≡ Some (t, rest)
-time_written t tok rest (inl w) = rw (w.2, w.3) refl
-time_written t tok rest (inr w) = rw (w.1, w.2) refl
+time_written t tok rest w = span_written t tok rest w
 
 type_written : (t : Ty) (front rest : List Token) → WritesType t front → type_front (front ++ rest) ≡ Some (t, rest)
 type_written ty.Int front rest w = rw w refl
@@ -189,8 +192,8 @@ mutual
       let few' = rw w.1 at few in
       let l = length-append w.0 (word (codes "when") ∷ word predicate ∷ []) in
       rw (w.1, append_assoc w.0 (word (codes "when") ∷ word predicate ∷ []) rest, formula_written child n w.0 (word (codes "when") ∷ word predicate ∷ rest) w.3 tt (omega (arith, few', l)), w.2) refl
-  formula_written (After span) (suc n) front rest w stop few = rw (w.1, time_written span w.0 rest w.2) refl
-  formula_written (Every span) (suc n) front rest w stop few = rw (w.1, time_written span w.0 rest w.2) refl
+  formula_written (After span) (suc n) front rest w stop few = rw (w.1, span_written span w.0 rest w.2) refl
+  formula_written (Every span) (suc n) front rest w stop few = rw (w.1, span_written span w.0 rest w.2) refl
 
   -- arguments up to a `)`
   each_written : (ts : Trees) (n k : ℕ) (found : List Tree) (inner rest : List Token) → WritesEach ts inner → count_of ts ≤ k → length inner < n
@@ -236,7 +239,7 @@ command_written (grammar.Observe observer name) tokens w = rw (w.0, w.1, w.2) re
 command_written (grammar.Unobserve observer) tokens w = rw (w.0, w.1) refl
 command_written (grammar.Watch observer) tokens w = rw (w.0, w.1) refl
 command_written (grammar.Show observer) tokens w = rw (w.0, w.1) refl
-command_written (grammar.Advance span) tokens w = rw (w.1, time_written span w.0 [] w.2) refl
+command_written (grammar.Advance span) tokens w = rw (w.1, span_written span w.0 [] w.2) refl
 command_written (grammar.AdvanceTo time) tokens w = rw (w.1, time_written time w.0 [] w.2) refl
 command_written grammar.Stabilize tokens w = rw w refl
 

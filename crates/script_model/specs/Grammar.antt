@@ -12,7 +12,7 @@ use Rattle.script_model.specs.Tokens.{Token, TimeUnit, Nanoseconds, Microseconds
 
 -- ---- trees
 
--- a time in nanoseconds; none beyond 9,223,372,036,854,775,807
+-- a time or a span in nanoseconds; none beyond 9,223,372,036,854,775,807
 abbrev pub Time : Type 0
 Time = Option ℕ
 
@@ -86,7 +86,7 @@ word w = Word w
 abbrev pub sign : token.Sign → Token
 sign s = Punctuation s
 
--- ---- times
+-- ---- times and spans
 
 -- how many nanoseconds a unit is
 abbrev pub unit_scale : TimeUnit → ℕ
@@ -95,15 +95,19 @@ unit_scale Microseconds = 1000
 unit_scale Milliseconds = 1000000
 unit_scale Seconds = 1000000000
 
--- a time of 63 bits; none beyond it
+-- a time or a span of 63 bits; none beyond it
 abbrev pub time_of : ℕ → Time
 time_of n = if nat_lt n (2 ^ 63) then Some n else None
 
--- the token writes the time: without a unit it counts nanoseconds
+-- the token writes the span: without a unit it counts nanoseconds
+abbrev pub WritesSpan : Time → Token → Type 0
+WritesSpan span t =
+    ((digits : List ℕ) × (unit : TimeUnit) × (t ≡ token.Time digits unit) × (span ≡ time_of (number_from 0 digits * unit_scale unit)))
+    ⊎ ((digits : List ℕ) × (t ≡ Number false digits) × (span ≡ time_of (number_from 0 digits)))
+
+-- the token writes the time, as the span since time 0. Other ways to write a time, which aren't spans, join here
 abbrev pub WritesTime : Time → Token → Type 0
-WritesTime time t =
-    ((digits : List ℕ) × (unit : TimeUnit) × (t ≡ token.Time digits unit) × (time ≡ time_of (number_from 0 digits * unit_scale unit)))
-    ⊎ ((digits : List ℕ) × (t ≡ Number false digits) × (time ≡ time_of (number_from 0 digits)))
+WritesTime time t = WritesSpan time t
 
 -- ---- types and literals
 
@@ -168,8 +172,8 @@ abbrev mutual
       × WritesLiteral first front × WritesAnySteps steps inner
   Writes (Freeze child predicate) tokens =
       (front : List Token) × (tokens ≡ word (codes "freeze") ∷ (front ++ word (codes "when") ∷ word predicate ∷ [])) × IsName predicate × Writes child front
-  Writes (After span) tokens = (t : Token) × (tokens ≡ word (codes "after") ∷ t ∷ []) × WritesTime span t
-  Writes (Every span) tokens = (t : Token) × (tokens ≡ word (codes "every") ∷ t ∷ []) × WritesTime span t
+  Writes (After span) tokens = (t : Token) × (tokens ≡ word (codes "after") ∷ t ∷ []) × WritesSpan span t
+  Writes (Every span) tokens = (t : Token) × (tokens ≡ word (codes "every") ∷ t ∷ []) × WritesSpan span t
 
   -- one or more formulas, with commas between them
   pub WritesEach : Trees → List Token → Type 0
@@ -204,7 +208,7 @@ WritesLine (Observe observer name) tokens = (tokens ≡ word (codes "observe") �
 WritesLine (Unobserve observer) tokens = (tokens ≡ word (codes "unobserve") ∷ word observer ∷ []) × IsName observer
 WritesLine (Watch observer) tokens = (tokens ≡ word (codes "watch") ∷ word observer ∷ []) × IsName observer
 WritesLine (Show observer) tokens = (tokens ≡ word (codes "show") ∷ word observer ∷ []) × IsName observer
-WritesLine (Advance span) tokens = (t : Token) × (tokens ≡ word (codes "advance") ∷ t ∷ []) × WritesTime span t
+WritesLine (Advance span) tokens = (t : Token) × (tokens ≡ word (codes "advance") ∷ t ∷ []) × WritesSpan span t
 WritesLine (AdvanceTo time) tokens = (t : Token) × (tokens ≡ token.AdvanceTo ∷ t ∷ []) × WritesTime time t
 WritesLine Stabilize tokens = tokens ≡ word (codes "stabilize") ∷ []
 

@@ -4,7 +4,7 @@ use Rattle.std.specs.Prelude.{true, false, ◌&&◌}
 use Rattle.script_model.specs.Grammar.{Tree, Trees, Line, Literal, Name, Call, If, Bind, Join, Fold, At, Now, Steps, Freeze, After, Every, End, More, Var, Set, Let, Expert, Link, Unlink, Stale, Grab, Observe, Unobserve, Watch, Show, Advance, AdvanceTo, Stabilize}
 
 abbrev mutual
-  -- a formula of forms that are here: no clock, no freezes yet
+  -- a formula of forms that are here: no freezes yet
   pub is_plain : Tree → std.Bool
   is_plain (Literal literal) = true
   is_plain (Name name) = true
@@ -13,18 +13,18 @@ abbrev mutual
   is_plain (Bind variable left body) = is_plain left && is_plain body
   is_plain (Join child) = is_plain child
   is_plain (Fold function first elements) = are_plain elements
-  is_plain (At time) = false
-  is_plain Now = false
-  is_plain (Steps first steps) = false
+  is_plain (At time) = true
+  is_plain Now = true
+  is_plain (Steps first steps) = true
   is_plain (Freeze child predicate) = false
-  is_plain (After span) = false
-  is_plain (Every span) = false
+  is_plain (After span) = true
+  is_plain (Every span) = true
 
   pub are_plain : Trees → std.Bool
   are_plain End = true
   are_plain (More first rest) = is_plain first && are_plain rest
 
--- a line of forms that are here: no experts, watches and no clock yet
+-- a line of forms that are here: no experts and no watches yet
 abbrev pub is_here : Line → std.Bool
 is_here (Var name t first) = true
 is_here (Set name value) = true
@@ -38,6 +38,6 @@ is_here (Observe observer name) = true
 is_here (Unobserve observer) = true
 is_here (Watch observer) = false
 is_here (Show observer) = true
-is_here (Advance span) = false
-is_here (AdvanceTo time) = false
+is_here (Advance span) = true
+is_here (AdvanceTo time) = true
 is_here Stabilize = true

@@ -42,16 +42,19 @@ abbrev pub is_sign : ℕ → Token → Bool
 is_sign b (Punctuation s) = nat_eq b (token.sign_byte s)
 is_sign b t = false
 
--- ---- names, times, types and literals
+-- ---- names, times and spans, types and literals
 
 abbrev pub name_front : List Token → Read (List ℕ)
 name_front (Word w ∷ rest) = if is_name w then read w rest else None
 name_front tokens = None
 
+abbrev pub span_front : List Token → Read grammar.Time
+span_front (token.Time digits unit ∷ rest) = read (time_of (number_from 0 digits * unit_scale unit)) rest
+span_front (Number false digits ∷ rest) = read (time_of (number_from 0 digits)) rest
+span_front tokens = None
+
 abbrev pub time_front : List Token → Read grammar.Time
-time_front (token.Time digits unit ∷ rest) = read (time_of (number_from 0 digits * unit_scale unit)) rest
-time_front (Number false digits ∷ rest) = read (time_of (number_from 0 digits)) rest
-time_front tokens = None
+time_front tokens = span_front tokens
 
 abbrev pub base_named : List ℕ → Option Base
 base_named w =
@@ -125,8 +128,8 @@ clock_front w rest =
     if bytes_eq w (codes "at") then then_read (time_front rest) (λ time left. read (grammar.At time) left)
     else (if bytes_eq w (codes "now") then read grammar.Now rest
     else (if bytes_eq w (codes "steps") then steps_front rest
-    else (if bytes_eq w (codes "after") then then_read (time_front rest) (λ time left. read (grammar.After time) left)
-    else (if bytes_eq w (codes "every") then then_read (time_front rest) (λ time left. read (grammar.Every time) left)
+    else (if bytes_eq w (codes "after") then then_read (span_front rest) (λ span left. read (grammar.After span) left)
+    else (if bytes_eq w (codes "every") then then_read (span_front rest) (λ span left. read (grammar.Every span) left)
     else written_front (Word w ∷ rest)))))
 
 -- `NAME from LITERAL`: what a fold begins with
@@ -221,7 +224,7 @@ let_read tokens = and_then (name_front tokens) (λ n. whole (formula_read (suc (
 -- by the word that a command begins with: the clock and the stabilize
 abbrev pub turn_with : List ℕ → List Token → Option Line
 turn_with w tokens =
-    if bytes_eq w (codes "advance") then whole (time_front tokens) grammar.Advance
+    if bytes_eq w (codes "advance") then whole (span_front tokens) grammar.Advance
     else (if bytes_eq w (codes "stabilize") then whole (read (codes "") tokens) (λ w. grammar.Stabilize) else None)
 
 -- so, or observers
