@@ -7,7 +7,7 @@ use Rattle.script_model.specs.Grammar.{Line, Stabilize, Time, Tree, time_of, uni
 use Rattle.script_model.specs.Language.{is_name, integer_of, number_from}
 use Rattle.script_model.specs.Literals as literals
 use Rattle.script_model.specs.Literals.{Literal}
-use Rattle.script_model.specs.Parsing.{Read, read, then_read, is_sign, is_word, base_named, name_front, named_front, reserved_front, time_front, when_front, whole, written_front}
+use Rattle.script_model.specs.Parsing.{Read, read, then_read, is_sign, is_word, base_named, name_front, named_front, reserved_front, span_front, time_front, when_front, whole, written_front}
 use Rattle.script_model.specs.Tokens as tokens
 use Rattle.line_parser.specs.TreeView.{frozen}
 
@@ -48,11 +48,11 @@ abbrev pub base_in : tokens.Token → Option Base
 base_in (tokens.Word w) = base_named w
 base_in t = None
 
--- the time that a token is
-abbrev pub time_in : tokens.Token → Option Time
-time_in (tokens.Time digits unit) = Some (time_of (number_from 0 digits * unit_scale unit))
-time_in (tokens.Number false digits) = Some (time_of (number_from 0 digits))
-time_in t = None
+-- the span that a token is
+abbrev pub span_in : tokens.Token → Option Time
+span_in (tokens.Time digits unit) = Some (time_of (number_from 0 digits * unit_scale unit))
+span_in (tokens.Number false digits) = Some (time_of (number_from 0 digits))
+span_in t = None
 
 -- the literal that a word is
 abbrev pub truth_in : List ℕ → Option Literal
@@ -83,12 +83,15 @@ unfrozen_front part rest = written_front rest
 
 -- ---- what stands alone
 
--- a name, two names or a time behind which nothing is left
+-- a name, two names, a span or a time behind which nothing is left
 abbrev pub name_alone : List tokens.Token → Option (List ℕ)
 name_alone rest = whole (name_front rest) (λ name. name)
 
 abbrev pub names_alone : List tokens.Token → Option (List ℕ × List ℕ)
 names_alone rest = and_then (name_front rest) (λ first. whole (name_front first.1) (λ second. (first.0, second)))
+
+abbrev pub span_alone : List tokens.Token → Option Time
+span_alone rest = whole (span_front rest) (λ span. span)
 
 abbrev pub time_alone : List tokens.Token → Option Time
 time_alone rest = whole (time_front rest) (λ time. time)

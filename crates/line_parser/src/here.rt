@@ -17,15 +17,15 @@ pub fn is_here(line: &Line) -> bool
         | Line::Observe { .. }
         | Line::Unobserve { .. }
         | Line::Show { .. }
+        | Line::Advance { .. }
+        | Line::AdvanceTo { .. }
         | Line::Stabilize => true,
         Line::Let { formula, .. } => is_plain(formula),
         Line::Expert { .. }
         | Line::Link { .. }
         | Line::Unlink { .. }
         | Line::Stale { .. }
-        | Line::Watch { .. }
-        | Line::Advance { .. }
-        | Line::AdvanceTo { .. } => false,
+        | Line::Watch { .. } => false,
     }
 }
 
@@ -35,7 +35,13 @@ fn is_plain(tree: &Tree) -> bool
     ensures { result ≡ is_plain (tree_view tree.now) }
 {
     match tree {
-        Tree::Literal(_) | Tree::Name(_) => true,
+        Tree::Literal(_)
+        | Tree::Name(_)
+        | Tree::At(_)
+        | Tree::Now
+        | Tree::Steps { .. }
+        | Tree::After(_)
+        | Tree::Every(_) => true,
         Tree::Call { arguments, .. } => are_plain(arguments),
         Tree::If {
             test,
@@ -45,7 +51,6 @@ fn is_plain(tree: &Tree) -> bool
         Tree::Join { child } => is_plain(child),
         Tree::Fold { elements, .. } => are_plain(elements),
         Tree::Bind { left, body, .. } => is_plain(left) && is_plain(body),
-        Tree::At(_) | Tree::Now | Tree::Steps { .. } | Tree::After(_) | Tree::Every(_) => false,
         Tree::Freeze { .. } => false,
     }
 }

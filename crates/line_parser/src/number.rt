@@ -1,4 +1,4 @@
-//! Integers and times as scripts write them.
+//! Integers, times and spans as scripts write them.
 ghost use Rattle.std.specs.Prelude.{◌≡◌, ◌*◌, ◌<◌, ◌≤◌, ◌^◌, SomeIff};
 ghost use Rattle.line_parser.specs.View.{time_view};
 ghost use Rattle.line_tokens.specs.View.{unit_view};
@@ -48,7 +48,7 @@ fn scale(unit: TimeUnit) -> u64
     }
 }
 
-/// The time of so many nanoseconds.
+/// The time or span of so many nanoseconds.
 fn nanoseconds(count: u64) -> Time
     ensures { time_view result ≡ time_of count }
 {
@@ -59,7 +59,7 @@ fn nanoseconds(count: u64) -> Time
     }
 }
 
-/// The time that digits write, in nanoseconds.
+/// The time or span that digits write, in nanoseconds.
 pub(crate) fn time_without_unit(digits: &[u8]) -> Time
     ensures { time_view result ≡ time_of (number_from 0 digits.now) }
 {
@@ -69,7 +69,7 @@ pub(crate) fn time_without_unit(digits: &[u8]) -> Time
     }
 }
 
-/// The time that digits write, in a unit.
+/// The time or span that digits write, in a unit.
 pub(crate) fn time(digits: &[u8], unit: TimeUnit) -> Time
     ensures { time_view result ≡ time_of (number_from 0 digits.now * unit_scale (unit_view unit)) }
 {

@@ -99,9 +99,9 @@ pub enum Tree {
         predicate: Name,
         around: Vec<Name>,
     },
-    /// `after TIME`.
+    /// `after SPAN`.
     After(Time),
-    /// `every TIME`.
+    /// `every SPAN`.
     Every(Time),
 }
 
@@ -165,7 +165,7 @@ pub enum Line {
     Show {
         observer: Name,
     },
-    /// `advance TIME`.
+    /// `advance SPAN`.
     Advance {
         span: Time,
     },

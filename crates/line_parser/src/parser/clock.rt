@@ -4,11 +4,11 @@ ghost use Rattle.line_parser.specs.Reading.{truth_in};
 ghost use Rattle.line_parser.specs.TreeView.{tree_view};
 ghost use Rattle.line_parser.specs.View.{literal_view, timed_view};
 ghost use Rattle.script_model.specs.Grammar as grammar;
-ghost use Rattle.script_model.specs.Parsing.{any_front, clock_front, list_front, read, step_front, steps_front, then_read, time_front};
+ghost use Rattle.script_model.specs.Parsing.{any_front, clock_front, list_front, read, span_front, step_front, steps_front, then_read, time_front};
 
 use super::cursor::Cursor;
 use super::literal::{literal_of, step_of, truth_of};
-use super::word::{equals, time_of};
+use super::word::{equals, span_of, time_of};
 use crate::tree::{Literal, TimedLiteral, Tree};
 use line_tokens::Sign;
 use std::alloc::{AllocError, Global};
@@ -29,16 +29,16 @@ fn at_of(tokens: &mut Cursor<'_, '_>) -> Option<Tree>
 
 /// Reads what stands behind the word `after`.
 fn after_of(tokens: &mut Cursor<'_, '_>) -> Option<Tree>
-    ensures { option_map (λ tree. (tree_view tree, tokens.new)) result ≡ then_read (time_front tokens.old) (λ time left. read (grammar.After time) left) }
+    ensures { option_map (λ tree. (tree_view tree, tokens.new)) result ≡ then_read (span_front tokens.old) (λ span left. read (grammar.After span) left) }
 {
-    Some(Tree::After(time_of(tokens)?))
+    Some(Tree::After(span_of(tokens)?))
 }
 
 /// Reads what stands behind the word `every`.
 fn every_of(tokens: &mut Cursor<'_, '_>) -> Option<Tree>
-    ensures { option_map (λ tree. (tree_view tree, tokens.new)) result ≡ then_read (time_front tokens.old) (λ time left. read (grammar.Every time) left) }
+    ensures { option_map (λ tree. (tree_view tree, tokens.new)) result ≡ then_read (span_front tokens.old) (λ span left. read (grammar.Every span) left) }
 {
-    Some(Tree::Every(time_of(tokens)?))
+    Some(Tree::Every(span_of(tokens)?))
 }
 
 /// Reads one or more steps, at most `limit`, with commas between them, and the `]` that ends them.

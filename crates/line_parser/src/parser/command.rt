@@ -1,21 +1,29 @@
 //! Commands, read from tokens.
 ghost use Rattle.std.specs.Prelude.{◌≡◌, IfOk, map, option_map};
-ghost use Rattle.line_parser.specs.Reading.{stabilize_alone, time_alone};
+ghost use Rattle.line_parser.specs.Reading.{span_alone, stabilize_alone, time_alone};
 ghost use Rattle.line_parser.specs.TreeView.{line_view};
 ghost use Rattle.line_parser.specs.View.{time_view};
 ghost use Rattle.line_tokens.specs.View.{token_view};
 ghost use Rattle.script_model.specs.Grammar.{Advance, AdvanceTo};
-ghost use Rattle.script_model.specs.Parsing.{command_read, command_with, expert_read, expert_with, let_read, observer_with, set_read, time_front, turn_with, var_read, whole};
+ghost use Rattle.script_model.specs.Parsing.{command_read, command_with, expert_read, expert_with, let_read, observer_with, set_read, span_front, time_front, turn_with, var_read, whole};
 
 use super::cursor::Cursor;
 use super::formula::formula_of;
 use super::literal::{fold_head, literal_of};
 use super::names::{OneName, TwoNames, one_name_of, two_names_of};
-use super::word::{equals, name_of, time_of, type_of};
+use super::word::{equals, name_of, span_of, time_of, type_of};
 use crate::name::Name;
 use crate::tree::{Line, Time};
 use line_tokens::Token;
 use std::alloc::{AllocError, Global};
+
+/// Reads a span, behind which nothing is left.
+fn span_alone(tokens: &mut Cursor<'_, '_>) -> Option<Time>
+    ensures { option_map time_view result ≡ span_alone tokens.old }
+{
+    let span = span_of(tokens)?;
+    if tokens.is_empty() { Some(span) } else { None }
+}
 
 /// Reads a time, behind which nothing is left.
 fn time_alone(tokens: &mut Cursor<'_, '_>) -> Option<Time>
@@ -113,12 +121,12 @@ fn expert_of(alloc: Global, tokens: &mut Cursor<'_, '_>) -> Result<Option<Line>,
     }))
 }
 
-/// `advance TIME`, behind its first word.
+/// `advance SPAN`, behind its first word.
 fn advance_of(tokens: &mut Cursor<'_, '_>) -> Option<Line>
-    ensures { option_map line_view result ≡ whole (time_front tokens.old) Advance }
+    ensures { option_map line_view result ≡ whole (span_front tokens.old) Advance }
 {
     Some(Line::Advance {
-        span: time_alone(tokens)?,
+        span: span_alone(tokens)?,
     })
 }
 

@@ -1,10 +1,10 @@
-//! Words, types and times, read from tokens.
+//! Words, types, times and spans, read from tokens.
 ghost use Rattle.std.specs.Prelude.{◌≡◌, map, option_map};
 ghost use Rattle.std.specs.Str.{bytes_eq};
-ghost use Rattle.line_parser.specs.Reading.{base_in, name_in, time_in, word_in};
+ghost use Rattle.line_parser.specs.Reading.{base_in, name_in, span_in, word_in};
 ghost use Rattle.line_parser.specs.View.{time_view};
 ghost use Rattle.line_tokens.specs.View.{token_view};
-ghost use Rattle.script_model.specs.Parsing.{base_front, base_named, name_front, time_front, type_front};
+ghost use Rattle.script_model.specs.Parsing.{base_front, base_named, name_front, span_front, time_front, type_front};
 
 use super::cursor::Cursor;
 use crate::number::{time, time_without_unit};
@@ -99,9 +99,9 @@ pub(super) fn type_of(tokens: &mut Cursor<'_, '_>) -> Option<Ty>
     }
 }
 
-/// The time that a token is.
-fn time_in<'a>(token: &Token<'a>) -> Option<Time>
-    ensures { option_map time_view result ≡ time_in (token_view token.now) }
+/// The span that a token is.
+fn span_in<'a>(token: &Token<'a>) -> Option<Time>
+    ensures { option_map time_view result ≡ span_in (token_view token.now) }
 {
     match token {
         Token::Time { digits, unit } => Some(time(digits, *unit)),
@@ -113,9 +113,16 @@ fn time_in<'a>(token: &Token<'a>) -> Option<Time>
     }
 }
 
-/// Reads a time.
+/// Reads a span.
+pub(super) fn span_of(tokens: &mut Cursor<'_, '_>) -> Option<Time>
+    ensures { option_map (λ span. (time_view span, tokens.new)) result ≡ span_front tokens.old }
+{
+    span_in(tokens.next()?)
+}
+
+/// Reads a time, which is written as the span since time 0.
 pub(super) fn time_of(tokens: &mut Cursor<'_, '_>) -> Option<Time>
     ensures { option_map (λ time. (time_view time, tokens.new)) result ≡ time_front tokens.old }
 {
-    time_in(tokens.next()?)
+    span_of(tokens)
 }

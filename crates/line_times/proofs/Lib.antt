@@ -1,0 +1,3 @@
+pub mod Freezes
+pub mod Mentions
+mod Sought
