@@ -1,5 +1,6 @@
 -- What is allowed fits together.
-use Rattle.std.proofs.Common.{◌≡◌, ℕ, zero, suc, ◌+◌, ◌≤◌, Bool, true, false, not, ◌||◌, cond, List, [], ◌∷◌, length, map, Option, None, Some, is_some, inl, inr, refl, sym, subst, arith, add-zero}
+use Rattle.std.proofs.Common.{◌≡◌, ℕ, zero, suc, ◌+◌, ◌^◌, ◌<◌, ◌≤◌, Bool, true, false, not, ◌||◌, nat_lt, cond, if◌then◌else◌, List, [], ◌∷◌, length, map, Option, None, Some, is_none, is_some, unwrap_or, inl, inr, refl, sym, subst, arith, add-zero}
+use Rattle.std.proofs.lemmas.Bool.{ltb-true, ltb-false}
 use Rattle.std.proofs.lemmas.Option.{slice_get_within}
 use Rattle.std.specs.List.{list_any, slice_get}
 use Rattle.std.specs.Str.{bytes_eq}
@@ -10,19 +11,23 @@ use Rattle.inc_value.specs.declared.ty.Base.TheVariants as bases
 use Rattle.inc_value.specs.declared.ty.Base.{Base}
 use Rattle.inc_value.specs.declared.ty.Ty.TheVariants as types
 use Rattle.inc_value.specs.declared.ty.Ty.{Ty}
-use Rattle.script_model.specs.Check.{Bound, Command, Declare, Assign, Take, Observe, Unobserve, Stabilize, Show, Declared, Names, Reason, NameTaken, ObserverTaken, NotVariable, NotBind, ObserverUnknown, TypedFormula, TypedFormulas, TypedValue, first_named, find_declared, is_among, is_bind, is_variable, kind_of, typed, typed_each, typed_name, typed_as, typed_literal, literal_of_type, where_same, applied, are_all, before, branched, element_of, folded, join_of, command_of, body_as, target_of_body, first_that, is_against, line_order}
+use Rattle.script_model.specs.Check.{Bound, Command, Declare, Assign, Take, Observe, Unobserve, Advance, Stabilize, Show, Declared, Names, Reason, NameTaken, ObserverTaken, NotVariable, NotBind, ObserverUnknown, TimeTooLarge, SpanIsZero, BackInTime, TypedFormula, TypedFormulas, TypedValue, first_named, find_declared, is_among, is_bind, is_variable, kind_of, typed, typed_each, typed_name, typed_as, typed_literal, literal_of_type, where_same, applied, are_all, before, branched, element_of, folded, join_of, steps_of_type, command_of, body_as, target_of_body, times_of, spans_of, is_top_form, is_empty_interval, is_past, first_that, is_against, line_order}
 use Rattle.inc_value.specs.Choice.{and_then}
 use Rattle.script_model.specs.Formula as model
-use Rattle.script_model.specs.Formula.{Formula, Meanings, nothing_kept}
+use Rattle.script_model.specs.Formula.{Formula, TimedValue, Body, Meanings, nothing_kept}
 use Rattle.script_model.specs.Grammar as grammar
-use Rattle.script_model.specs.Grammar.{Line, Tree, Trees, Call, If, Bind, Join, Fold, End, More}
+use Rattle.script_model.specs.Grammar.{Line, Time, TimedLiteral, Tree, Trees, time_of, Call, If, Bind, Join, Fold, End, More}
 use Rattle.script_model.specs.Here.{is_here, is_plain, are_plain}
 use Rattle.script_model.specs.Literals as literals
 use Rattle.script_model.specs.Literals.{Literal, Integer, Referred}
 use Rattle.script_model.specs.Values.{Value, Reference, type_of}
-use Rattle.formula_lang.specs.Fits.{NameFits, ValueFits, FunctionFits, FormulaFits, ArgumentsFit, ElementsFit, FitsNames}
+use Rattle.formula_lang.specs.Fits.{NameFits, ValueFits, FunctionFits, FormulaFits, ArgumentsFit, ElementsFit, StepsFit, BodyFits, TimeFits, FitsNames}
 use Rattle.formula_lang.specs.NamesView.{AreEarlier}
-use Rattle.formula_lang.proofs.Plainness.{both_true, three_true, plain_top}
+use Rattle.line_parser.specs.TreeView.{line_view}
+use Rattle.line_parser.specs.declared.tree.Line as code
+use Rattle.line_parser.specs.declared.tree.Line.TheVariants as variant
+use Rattle.line_parser.specs.declared.tree.Time.TheVariants as code_time
+use Rattle.formula_lang.proofs.Plainness.{both_true, three_true, computed_top}
 use Rattle.formula_lang.proofs.Table.{none_holds}
 
 -- ---- what tests say
@@ -30,6 +35,10 @@ use Rattle.formula_lang.proofs.Table.{none_holds}
 or_false : (b : Bool) → (b || false) ≡ false → b ≡ false
 or_false true e = absurd (cc)
 or_false false e = refl
+
+both_false : (a b : Bool) → (a || b) ≡ false → (a ≡ false) × (b ≡ false)
+both_false true b e = absurd (cc)
+both_false false b e = (refl, e)
 
 not_false : (b : Bool) → not b ≡ false → b ≡ true
 not_false true e = refl
@@ -41,6 +50,41 @@ none_found (Some x) e = absurd (cc)
 
 some_is : {A : Type 0} (x y : A) → Some x ≡ Some y → x ≡ y
 some_is x y e = cc
+
+-- ---- times
+
+-- a span from now on that doesn't end beyond the greatest time
+not_past : (now : ℕ) (span : Time) → is_past now span ≡ false → now + unwrap_or span 0 < 2 ^ 63
+not_past now None e = absurd (cc)
+not_past now (Some span) e = ltb-true (now + span) (2 ^ 63) (not_false _ e)
+
+-- a span that isn't too large and isn't empty
+not_empty : (span : Time) → is_none span ≡ false → is_empty_interval (grammar.Every span) ≡ false → 0 < unwrap_or span 0
+not_empty None large e = absurd (cc)
+not_empty (Some zero) large e = absurd (cc)
+not_empty (Some (suc n)) large e = omega arith
+
+-- a time that isn't past
+not_back : (now time : ℕ) → nat_lt time now ≡ false → now ≤ time
+not_back now time e = ltb-false time now e
+
+-- a time that the clock may come to, where a line moves it to one
+abbrev pub HasTime : Line → Type 0
+HasTime (grammar.AdvanceTo (Some time)) = time < 2 ^ 63
+HasTime l = Unit {0}
+
+time_is : (n : ℕ) → HasTime (grammar.AdvanceTo (time_of n))
+time_is n = go (nat_lt n (2 ^ 63)) refl
+  where
+    go : (b : Bool) → nat_lt n (2 ^ 63) ≡ b → HasTime (grammar.AdvanceTo (if b then Some n else None))
+    go true small = ltb-true n (2 ^ 63) small
+    go false large = tt
+
+-- no line has another
+pub line_has_time : (l : code.Line) → HasTime (line_view l)
+line_has_time (variant.AdvanceTo (code_time.Nanoseconds n)) = time_is n
+line_has_time (variant.AdvanceTo code_time.TooLarge) = tt
+line_has_time _ = tt
 
 -- ---- folds
 
@@ -119,6 +163,23 @@ module _ (names : Names) (earlier : AreEarlier names.declared) where
           → and_then o (λ x. where_same x.ty t (Some x.value)) ≡ Some v → ValueFits names v t
       go None fits e = absurd (cc)
       go (Some x) fits e = same x (same_ty x.ty t) refl (fits x refl) e
+
+  steps_fit : (t : Ty) (steps : List TimedLiteral) (found : List TimedValue) → steps_of_type names t steps ≡ Some found → StepsFit names found t
+  steps_fit t [] found e = subst (λ ss. StepsFit names ss t) (some_is [] found e) tt
+  steps_fit t (step ∷ steps) found e =
+      go (literal_of_type names t step.literal) (λ v is. literal_fits t step.literal v is) (λ ss is. steps_fit t steps ss is) e
+    where
+      more : (v : Value) (rest : Option (List TimedValue)) → ValueFits names v t → ((ss : List TimedValue) → rest ≡ Some ss → StepsFit names ss t)
+          → and_then rest (λ ss. Some (record { time = unwrap_or step.time 0; value = v } ∷ ss)) ≡ Some found → StepsFit names found t
+      more v None fits all e = absurd (cc)
+      more v (Some ss) fits all e = subst (λ xs. StepsFit names xs t) (some_is _ found e) (fits, all ss refl)
+
+      go : (o : Option Value) → ((v : Value) → o ≡ Some v → ValueFits names v t)
+          → ((ss : List TimedValue) → steps_of_type names t steps ≡ Some ss → StepsFit names ss t)
+          → and_then o (λ v. and_then (steps_of_type names t steps) (λ ss. Some (record { time = unwrap_or step.time 0; value = v } ∷ ss))) ≡ Some found
+          → StepsFit names found t
+      go None fits all e = absurd (cc)
+      go (Some v) fits all e = more v (steps_of_type names t steps) (fits v refl) all e
 
 -- ---- formulas
 
@@ -243,6 +304,19 @@ module _ (F : Meanings) (known : FnRef → Bool) (names : Names) (earlier : AreE
         go None within e = absurd (cc)
         go (Some b) within e = subst Fits (some_is _ t e) (l.ty, first l refl, within b refl)
 
+    -- steps, where their values fit for whatever type the first has
+    stepped_fits : (first : Option TypedValue) (rest : Ty → Option (List TimedValue)) (t : TypedFormula)
+        → ((x : TypedValue) → first ≡ Some x → ValueFits names x.value x.ty)
+        → ((u : Ty) (ss : List TimedValue) → rest u ≡ Some ss → StepsFit names ss u)
+        → and_then first (λ v. and_then (rest v.ty) (λ ss. typed_as (model.Steps v.value ss) v.ty)) ≡ Some t → Fits t
+    stepped_fits None rest t one others e = absurd (cc)
+    stepped_fits (Some x) rest t one others e = go (rest x.ty) (λ ss is. others x.ty ss is) e
+      where
+        go : (o : Option (List TimedValue)) → ((ss : List TimedValue) → o ≡ Some ss → StepsFit names ss x.ty)
+            → and_then o (λ ss. typed_as (model.Steps x.value ss) x.ty) ≡ Some t → Fits t
+        go None all e = absurd (cc)
+        go (Some ss) all e = subst Fits (some_is _ t e) (one x refl, all ss refl)
+
     more_fit : (first : Option TypedFormula) (rest : Option TypedFormulas) (ts : TypedFormulas) → ((t : TypedFormula) → first ≡ Some t → Fits t)
         → ((us : TypedFormulas) → rest ≡ Some us → AllFit us) → and_then first (λ t. and_then rest (λ us. Some (before t us))) ≡ Some ts → AllFit ts
     more_fit None rest ts one others e = absurd (cc)
@@ -294,6 +368,11 @@ module _ (F : Meanings) (known : FnRef → Bool) (names : Names) (earlier : AreE
     typed_fits bounds (Fold function first elements) plain t e =
         fold_fits (tys_of bounds) function first (F.named function) (typed_each F names bounds elements) t refl
         (typed_each_fit bounds elements plain) e
+    typed_fits bounds (grammar.At time) plain t e = subst (Fits (tys_of bounds)) (some_is _ t e) refl
+    typed_fits bounds grammar.Now plain t e = subst (Fits (tys_of bounds)) (some_is _ t e) refl
+    typed_fits bounds (grammar.Steps first steps) plain t e =
+        stepped_fits (tys_of bounds) (typed_literal names first) (λ u. steps_of_type names u steps) t
+        (λ x is. typed_value_fits names earlier first x is) (λ u ss is. steps_fit names earlier u steps ss is) e
     typed_fits bounds _ plain t e = absurd (cc)
 
     typed_each_fit : (bounds : List Bound) (trees : Trees) → are_plain trees ≡ true → (ts : TypedFormulas)
@@ -319,7 +398,9 @@ module _ (F : Meanings) (known : FnRef → Bool) (names : Names) (earlier : AreE
   target_fits (model.Join child) t h = omega arith
   target_fits (model.Bound k) t h = omega arith
   target_fits (model.Bind left body) t h = omega arith
-  target_fits _ t h = absurd h
+  target_fits (model.At time) t h = omega arith
+  target_fits (model.Steps first steps) t h = omega arith
+  target_fits model.Now t h = omega arith
 
   fresh : (name : List ℕ) → (is_some (find_declared names name) || false) ≡ false → first_named name names.declared ≡ None
   fresh name e = none_found (first_named name names.declared) (or_false (is_some (find_declared names name)) e)
@@ -350,6 +431,12 @@ module _ (F : Meanings) (known : FnRef → Bool) (names : Names) (earlier : AreE
             variable = variable;
           })
 
+  -- what reads the clock
+  timed_fits : (name : List ℕ) (t : Ty) (body : Body) (c : Command) → first_named name names.declared ≡ None → BodyFits known names body t
+      → target_of_body (length names.declared) body ≤ length names.declared → Some (Declare name t body) ≡ Some c → FitsNames known names c
+  timed_fits name t body c none fits within e =
+      subst (FitsNames known names) (some_is (Declare name t body) c e) (record { fresh = none; body_fits = fits; earlier = within })
+
   let_fits : (name : List ℕ) (tree : Tree) (result : Option TypedFormula) (c : Command) → first_named name names.declared ≡ None
       → ((t : TypedFormula) → result ≡ Some t → Fits [] t)
       → and_then (and_then result (λ t. body_as (model.Computed t.formula nothing_kept) t.ty)) (λ t. Some (Declare name t.ty t.body)) ≡ Some c
@@ -376,39 +463,93 @@ module _ (F : Meanings) (known : FnRef → Bool) (names : Names) (earlier : AreE
       subst (FitsNames known names) (some_is (Observe observer d.target) c e)
       (record { fresh = unused; earlier = (name_fits names earlier name d is).earlier })
 
-  pub check_fits : (l : Line) (c : Command) → is_here l ≡ true → first_that (Stands l) line_order ≡ None → command_of F names l ≡ Some c
+  -- where a line isn't refused for its times
+  times_fit : (l : Line) → first_that (Stands l) line_order ≡ None → (list_any is_none (times_of l) ≡ false) × (list_any (is_past names.now) (spans_of l) ≡ false)
+  times_fit l none =
+      both_false (list_any is_none (times_of l)) (list_any (is_past names.now) (spans_of l))
+      (none_holds (Stands l) line_order TimeTooLarge none (inr (inr (inr (inr (inr (inr (inr (inr (inr (inr (inl refl))))))))))))
+
+  -- a formula that may stand within others
+  computed_fits : (name : List ℕ) (tree : Tree) (c : Command) → is_plain tree ≡ true → is_top_form tree ≡ false → first_named name names.declared ≡ None
+      → command_of F names (grammar.Let name tree) ≡ Some c → FitsNames known names c
+  computed_fits name tree c plain inner free e =
+      let top = computed_top F names tree inner in
+      let allowed : and_then (and_then (typed F names [] tree) (λ t. body_as (model.Computed t.formula nothing_kept) t.ty))
+      (λ t. Some (Declare name t.ty t.body)) ≡ Some c = rw (← top) e in
+      let_fits name tree (typed F names [] tree) c free (typed_fits [] tree plain) allowed
+
+  formula_fits : (name : List ℕ) (tree : Tree) (c : Command) → is_plain tree ≡ true → first_named name names.declared ≡ None
+      → first_that (Stands (grammar.Let name tree)) line_order ≡ None → command_of F names (grammar.Let name tree) ≡ Some c → FitsNames known names c
+  formula_fits name (grammar.After span) c plain free none e =
+      let fit = times_fit (grammar.Let name (grammar.After span)) none in
+      timed_fits name types.Bool (model.After (names.now + unwrap_or span 0)) c free
+      (refl, not_past names.now span (or_false (is_past names.now span) fit.1)) (omega arith) e
+  formula_fits name (grammar.Every span) c plain free none e =
+      let fit = times_fit (grammar.Let name (grammar.Every span)) none in
+      let some = none_holds (Stands (grammar.Let name (grammar.Every span))) line_order SpanIsZero none
+      (inr (inr (inr (inr (inr (inr (inr (inr (inr (inr (inr (inr (inl refl))))))))))))) in
+      timed_fits name types.Int (model.Every names.now (unwrap_or span 0)) c free
+      (refl, refl, not_empty span (or_false (is_none span) fit.0) (or_false (is_empty_interval (grammar.Every span)) some)) (omega arith) e
+  formula_fits name (grammar.Freeze child predicate) c plain free none e = absurd (cc)
+  formula_fits name (grammar.Literal l) c plain free none e = computed_fits name (grammar.Literal l) c plain refl free e
+  formula_fits name (grammar.Name n) c plain free none e = computed_fits name (grammar.Name n) c plain refl free e
+  formula_fits name (Call f arguments) c plain free none e = computed_fits name (Call f arguments) c plain refl free e
+  formula_fits name (If test a b) c plain free none e = computed_fits name (If test a b) c plain refl free e
+  formula_fits name (Bind v left body) c plain free none e = computed_fits name (Bind v left body) c plain refl free e
+  formula_fits name (Join child) c plain free none e = computed_fits name (Join child) c plain refl free e
+  formula_fits name (Fold f first elements) c plain free none e = computed_fits name (Fold f first elements) c plain refl free e
+  formula_fits name (grammar.At time) c plain free none e = computed_fits name (grammar.At time) c plain refl free e
+  formula_fits name grammar.Now c plain free none e = computed_fits name grammar.Now c plain refl free e
+  formula_fits name (grammar.Steps first steps) c plain free none e = computed_fits name (grammar.Steps first steps) c plain refl free e
+
+  -- the clock is moved on to a time that it may come to
+  advance_fits : (time : ℕ) (c : Command) → TimeFits names time → Some (Advance time) ≡ Some c → FitsNames known names c
+  advance_fits time c fits e = subst (FitsNames known names) (some_is (Advance time) c e) fits
+
+  advance_to_fits : (time : Time) (c : Command) → HasTime (grammar.AdvanceTo time) → is_none time ≡ false
+      → nat_lt (unwrap_or time 0) names.now ≡ false → Some (Advance (unwrap_or time 0)) ≡ Some c → FitsNames known names c
+  advance_to_fits None c has large back e = absurd (cc)
+  advance_to_fits (Some time) c has large back e = advance_fits time c (not_back names.now time back, has) e
+
+  pub check_fits : (l : Line) (c : Command) → is_here l ≡ true → HasTime l → first_that (Stands l) line_order ≡ None → command_of F names l ≡ Some c
       → FitsNames known names c
-  check_fits (grammar.Var name t first) c plain none e =
+  check_fits (grammar.Var name t first) c plain has none e =
       let taken = none_holds (Stands (grammar.Var name t first)) line_order NameTaken none (inl refl) in
       var_fits name t first (literal_of_type names t first) c (fresh name taken)
       (λ v at. literal_fits names earlier t first v at) e
-  check_fits (grammar.Set name literal) c plain none e =
+  check_fits (grammar.Set name literal) c plain has none e =
       let other = none_holds (Stands (grammar.Set name literal)) line_order NotVariable none (inr (inr (inr (inr (inr (inr (inl refl))))))) in
       let variable : is_variable (kind_of names name) ≡ true =
       not_false (is_variable (kind_of names name)) (or_false (not (is_variable (kind_of names name))) other) in
       set_fits name literal (find_declared names name) c refl variable e
-  check_fits (grammar.Let name tree) c plain none e =
+  check_fits (grammar.Let name tree) c plain has none e =
       let taken = none_holds (Stands (grammar.Let name tree)) line_order NameTaken none (inl refl) in
-      let top = plain_top F names tree plain in
-      let allowed : and_then (and_then (typed F names [] tree) (λ t. body_as (model.Computed t.formula nothing_kept) t.ty))
-      (λ t. Some (Declare name t.ty t.body)) ≡ Some c = rw (← top) e in
-      let_fits name tree (typed F names [] tree) c (fresh name taken) (typed_fits [] tree plain) allowed
-  check_fits (grammar.Grab name bind) c plain none e =
+      formula_fits name tree c plain (fresh name taken) none e
+  check_fits (grammar.Grab name bind) c plain has none e =
       let taken = none_holds (Stands (grammar.Grab name bind)) line_order NameTaken none (inl refl) in
       let other = none_holds (Stands (grammar.Grab name bind)) line_order NotBind none (inr (inr (inr (inr (inr (inr (inr (inl refl)))))))) in
       let kind : is_bind (kind_of names bind) ≡ true =
       not_false (is_bind (kind_of names bind)) (or_false (not (is_bind (kind_of names bind))) other) in
       grab_fits name bind (find_declared names bind) c (fresh name taken) refl kind e
-  check_fits (grammar.Observe observer name) c plain none e =
+  check_fits (grammar.Observe observer name) c plain has none e =
       let taken = none_holds (Stands (grammar.Observe observer name)) line_order ObserverTaken none (inr (inl refl)) in
       observe_fits observer name (find_declared names name) c refl (or_false (is_among names.observers observer) taken) e
-  check_fits (grammar.Unobserve observer) c plain none e =
+  check_fits (grammar.Unobserve observer) c plain has none e =
       let unknown = none_holds (Stands (grammar.Unobserve observer)) line_order ObserverUnknown none (inr (inr (inr (inl refl)))) in
       subst (FitsNames known names) (some_is (Unobserve observer) c e)
       (not_false (is_among names.observers observer) (or_false (not (is_among names.observers observer)) unknown))
-  check_fits grammar.Stabilize c plain none e = subst (FitsNames known names) (some_is Stabilize c e) tt
-  check_fits (grammar.Show observer) c plain none e =
+  check_fits (grammar.Advance span) c plain has none e =
+      let fit = times_fit (grammar.Advance span) none in
+      advance_fits (names.now + unwrap_or span 0) c
+      (omega arith, not_past names.now span (or_false (is_past names.now span) fit.1)) e
+  check_fits (grammar.AdvanceTo time) c plain has none e =
+      let fit = times_fit (grammar.AdvanceTo time) none in
+      let back = none_holds (Stands (grammar.AdvanceTo time)) line_order BackInTime none
+      (inr (inr (inr (inr (inr (inr (inr (inr (inr (inr (inr (inr (inr (inl refl)))))))))))))) in
+      advance_to_fits time c has (or_false (is_none time) fit.0) back e
+  check_fits grammar.Stabilize c plain has none e = subst (FitsNames known names) (some_is Stabilize c e) tt
+  check_fits (grammar.Show observer) c plain has none e =
       let unknown = none_holds (Stands (grammar.Show observer)) line_order ObserverUnknown none (inr (inr (inr (inl refl)))) in
       subst (FitsNames known names) (some_is (Show observer) c e)
       (not_false (is_among names.observers observer) (or_false (not (is_among names.observers observer)) unknown))
-  check_fits _ c plain none e = absurd (cc)
+  check_fits _ c plain has none e = absurd (cc)

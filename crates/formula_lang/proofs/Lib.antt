@@ -1,7 +1,7 @@
 mod Fitting
 mod Listing
-mod Mentions
 mod Plainness
 mod Table
 mod TypedArguments
+mod TypedSteps
 mod Variables

@@ -9,29 +9,27 @@ use Rattle.script_model.specs.Here.{is_here}
 use Rattle.formula_lang.specs.Verdict.{reason_view}
 use Rattle.formula_lang.specs.declared.refusal.Reason as code
 use Rattle.formula_lang.specs.declared.refusal.Reason.TheVariants as reason
-use Rattle.formula_lang.proofs.Plainness.{not_whole, not_expert, no_large_time, times_rise, no_empty_interval, not_back}
+use Rattle.formula_lang.proofs.Plainness.{not_expert}
 
 -- the rows that can hold for a line of forms that are here, in order
 abbrev pub rows_here : List Reason
-rows_here = NameTaken ∷ ObserverTaken ∷ NameUnknown ∷ ObserverUnknown ∷ FunctionUnknown ∷ NotVariable ∷ NotBind ∷ IllTyped ∷ []
+rows_here =
+    NameTaken ∷ ObserverTaken ∷ NameUnknown ∷ ObserverUnknown ∷ FunctionUnknown ∷ NotWhole ∷ NotVariable ∷ NotBind ∷ IllTyped ∷ TimeTooLarge
+    ∷ TimesNotRising ∷ SpanIsZero ∷ BackInTime ∷ []
 
 -- the same as the code has them
 abbrev pub code_order : List code.Reason
 code_order =
-    reason.NameTaken ∷ reason.ObserverTaken ∷ reason.NameUnknown ∷ reason.ObserverUnknown ∷ reason.FunctionUnknown ∷ reason.NotVariable ∷
-    reason.NotBind ∷ reason.IllTyped ∷ []
+    reason.NameTaken ∷ reason.ObserverTaken ∷ reason.NameUnknown ∷ reason.ObserverUnknown ∷ reason.FunctionUnknown ∷ reason.NotWhole
+    ∷ reason.NotVariable ∷ reason.NotBind ∷ reason.IllTyped ∷ reason.TimeTooLarge ∷ reason.TimesNotRising ∷ reason.SpanIsZero
+    ∷ reason.BackInTime ∷ []
 
-skips : (h : Reason → Bool) → h NotWhole ≡ false → h NotExpert ≡ false → h TimeTooLarge ≡ false → h TimesNotRising ≡ false
-    → h SpanIsZero ≡ false → h BackInTime ≡ false
-    → first_that h rows_here ≡ first_that h line_order
-skips h a b c d e f = rw (a, b, c, d, e, f) refl
+skips : (h : Reason → Bool) → h NotExpert ≡ false → first_that h rows_here ≡ first_that h line_order
+skips h a = rw a refl
 
 pub table_same : (F : Meanings) (names : Names) (l : Line) → is_here l ≡ true
     → first_that (is_against F names l) rows_here ≡ first_that (is_against F names l) line_order
-table_same F names l plain =
-    skips (is_against F names l) (not_whole F names l plain) (not_expert F names l plain)
-    (no_large_time F names l plain) (times_rise F names l plain)
-    (no_empty_interval F names l plain) (not_back F names l plain)
+table_same F names l plain = skips (is_against F names l) (not_expert F names l plain)
 
 -- where none holds, each one doesn't
 pub none_holds : (h : Reason → Bool) (rs : List Reason) (r : Reason) → first_that h rs ≡ None → Among r rs → h r ≡ false

@@ -1,5 +1,5 @@
 -- What is true of every command that is allowed: its names, functions and types fit together.
-use Rattle.std.specs.Prelude.{◌≡◌, ◌<◌, ◌≤◌, ℕ, Bool, List, [], ◌∷◌, length, None, Some, slice_get, IsTrue, IsFalse}
+use Rattle.std.specs.Prelude.{◌≡◌, ◌<◌, ◌≤◌, ◌^◌, ℕ, Bool, List, [], ◌∷◌, length, None, Some, slice_get, IsTrue, IsFalse}
 use Rattle.formula_lang.specs.Here.{OtherFits}
 use Rattle.inc_value.specs.Sig.{IsMapSig}
 use Rattle.inc_value.specs.Ty.{IsBase, type_of_base}
@@ -8,9 +8,9 @@ use Rattle.inc_value.specs.declared.function.FnRef.{FnRef}
 use Rattle.inc_value.specs.declared.ty.Base.{Base}
 use Rattle.inc_value.specs.declared.ty.Ty.{Ty}
 use Rattle.inc_value.specs.declared.ty.Ty.TheVariants as types
-use Rattle.script_model.specs.Check.{Command, Declare, Assign, Take, Observe, Unobserve, Stabilize, Show, Declared, Names, first_named, is_among, is_bind, is_variable, target_of_body}
-use Rattle.inc_value.specs.Choice.{and_then}
-use Rattle.script_model.specs.Formula.{Formula, Formulas, Body, Literal, Name, Bound, Apply, Fold, If, Join, Bind, End, More, Variable, Computed, nothing_kept}
+use Rattle.script_model.specs.Check.{Command, Declare, Assign, Take, Observe, Unobserve, Advance, Stabilize, Show, Declared, Names, first_named, is_among, is_bind, is_variable, target_of_body}
+use Rattle.inc_value.specs.Choice.{Every as Each, and_then}
+use Rattle.script_model.specs.Formula.{Formula, Formulas, TimedValue, Body, Literal, Name, Bound, Apply, Fold, If, Join, Bind, At, Steps, Now, End, More, Variable, Computed, After, Every, nothing_kept}
 use Rattle.script_model.specs.Valid.{FoldsOver}
 use Rattle.script_model.specs.Values.{Value, Reference, type_of}
 
@@ -38,6 +38,10 @@ ReferenceFits names v = Unit {0}
 abbrev pub ValueFits : Names → Value → Ty → Type 0
 ValueFits names v ty = (type_of v ≡ ty) × ReferenceFits names v
 
+-- the values of all steps are of the type, and refer to what fits
+abbrev pub StepsFit : Names → List TimedValue → Ty → Type 0
+StepsFit names steps ty = Each (λ (s : TimedValue). ValueFits names s.value ty) steps
+
 abbrev mutual
   -- within binds whose variables have these types, the innermost first, the formula is of forms that are here and has the
   -- type, and each of its functions, names and references fits
@@ -56,7 +60,9 @@ abbrev mutual
       (base : Base) × FormulaFits known names bounds child (types.Node base) × (type_of_base base ≡ ty)
   FormulaFits known names bounds (Bind left body) ty =
       (u : Ty) × FormulaFits known names bounds left u × FormulaFits known names (u ∷ bounds) body ty
-  FormulaFits known names bounds f ty = OtherFits
+  FormulaFits known names bounds (At time) ty = types.Bool ≡ ty
+  FormulaFits known names bounds (Steps first steps) ty = ValueFits names first ty × StepsFit names steps ty
+  FormulaFits known names bounds Now ty = types.Int ≡ ty
 
   -- each argument has the type that is listed for it, and there are as many
   pub ArgumentsFit : (FnRef → Bool) → Names → List Ty → Formulas → List Ty → Type 0
@@ -76,6 +82,8 @@ abbrev mutual
 abbrev pub BodyFits : (FnRef → Bool) → Names → Body → Ty → Type 0
 BodyFits known names (Variable v) ty = ValueFits names v ty
 BodyFits known names (Computed f kept) ty = FormulaFits known names [] f ty × (kept ≡ nothing_kept)
+BodyFits known names (After time) ty = (types.Bool ≡ ty) × (time < 2 ^ 63)
+BodyFits known names (Every base span) ty = (types.Int ≡ ty) × (base ≡ names.now) × (0 < span)
 BodyFits known names body ty = OtherFits
 
 -- a new name that may be declared; the name that it stands for comes no later
@@ -96,6 +104,10 @@ pub record AssignmentFits (names : Names) (target : ℕ) (value : Value) : Type 
   pub refers : ReferenceFits names value
   pub variable : IsTrue (is_variable (and_then (slice_get names.declared target) (λ d. Some d.kind)))
 
+-- a time that the clock may come to, and that isn't past
+abbrev pub TimeFits : Names → ℕ → Type 0
+TimeFits names time = (names.now ≤ time) × (time < 2 ^ 63)
+
 -- a new observer of a declaration
 pub record ObserverFits (names : Names) (observer : List ℕ) (target : ℕ) : Type 0 where
   pub fresh : IsFalse (is_among names.observers observer)
@@ -108,6 +120,7 @@ FitsNames known names (Take name ty bind) = GrabFits names name ty bind
 FitsNames known names (Assign target value) = AssignmentFits names target value
 FitsNames known names (Observe observer target) = ObserverFits names observer target
 FitsNames known names (Unobserve observer) = IsTrue (is_among names.observers observer)
+FitsNames known names (Advance time) = TimeFits names time
 FitsNames known names Stabilize = Unit {0}
 FitsNames known names (Show observer) = IsTrue (is_among names.observers observer)
 FitsNames known names command = OtherFits

@@ -1,15 +1,15 @@
 //! What commands come to by their names, functions and types.
-ghost use Rattle.std.specs.Prelude.{◌≡◌, ℕ, true, IfOk, IsErrOf, None, Some, option_map};
-ghost use Rattle.script_model.specs.Check.{Names as AllNames, Reason as AReason, command_of, first_that, is_against, line_order, reason_number};
+ghost use Rattle.std.specs.Prelude.{◌≡◌, ◌+◌, ℕ, false, true, IfOk, IsErrOf, None, Some, option_map, unwrap_or};
+ghost use Rattle.script_model.specs.Check.{Declare, Names as AllNames, Reason as AReason, command_of, first_that, is_against, is_top_form, line_order, reason_number};
 ghost use Rattle.script_model.specs.Formula.{Meanings, meanings_of};
 ghost use Rattle.script_model.specs.Grammar.{Var, Set, Let, Grab, Observe, Show, Unobserve};
 ghost use Rattle.script_model.specs.Here.{is_here, is_plain};
-ghost use Rattle.formula_lang.specs.CommandView.{command_view};
+ghost use Rattle.formula_lang.specs.CommandView.{body_view, command_view};
 ghost use Rattle.formula_lang.specs.Fits.{FitsNames};
 ghost use Rattle.formula_lang.specs.Verdict.{reason_view};
 ghost use Rattle.formula_lang.specs.declared.refusal.Reason.{Reason};
 ghost use Rattle.line_parser.specs.TreeView.{line_view, tree_view};
-ghost use Rattle.line_parser.specs.View.{literal_view};
+ghost use Rattle.line_parser.specs.View.{literal_view, time_view};
 
 use crate::command::{Command, Declaration};
 use crate::mentioning::mentions_unknown;
@@ -17,7 +17,8 @@ use crate::names::Names;
 use crate::refusal::{Reason, first_reason};
 use crate::typing::{declared_as, literal_of_type, typed};
 use inc_value::Ty;
-use line_parser::{Line, Literal, Name, Tree};
+use line_parser::{Line, Literal, Name, Time, Tree};
+use line_times::nanoseconds_of;
 use node_arena::Library;
 use std::alloc::{AllocError, Global};
 use thiserror::Error;
@@ -27,8 +28,9 @@ use thiserror::Error;
 pub enum CheckFault {
     /// It is refused, with the number that is printed: 3 for a name that is taken, 4 for one that
     /// is unknown, 5 for an unknown function, 6 for types that don't fit, 7 for a `set` of what is
-    /// no variable, 8 for a `grab` of what is no bind, 11 for an unknown observer, and 12 for one
-    /// that is in use.
+    /// no variable, 8 for a `grab` of what is no bind, 11 for an unknown observer, 12 for one
+    /// that is in use, 14 for an `after` or an `every` within a formula, 15 for a time that is past,
+    /// 16 for one beyond the greatest, 17 for steps whose times don't rise, and 18 for an empty span.
     #[error("refused {0}")]
     Refusal(u8),
     /// There is no memory for the checked command.
@@ -111,6 +113,12 @@ fn command_of<L: Library>(
         Line::Grab { name, bind } => grab(alloc, names, name, bind),
         Line::Observe { observer, name } => observation(alloc, names, observer, name),
         Line::Unobserve { observer } => ending(alloc, observer),
+        Line::Advance { span } => Ok(Some(Command::Advance {
+            time: after(names, *span),
+        })),
+        Line::AdvanceTo { time } => Ok(Some(Command::Advance {
+            time: nanoseconds_of(*time).count(),
+        })),
         Line::Stabilize => Ok(Some(Command::Stabilize)),
         Line::Show { observer } => showing(alloc, observer),
         _ => unreachable!(),
@@ -168,6 +176,67 @@ fn definition<L: Library>(
     formula: &Tree,
 ) -> Result<Option<Command>, AllocError>
     requires { is_plain (tree_view formula.now) ≡ true }
+    ensures { IfOk result (λ c. option_map command_view c
+        ≡ command_of (meanings_of (L.named library.now) (L.value library.now)) names.entry.now (Let name.now (tree_view formula.now))) }
+{
+    match formula {
+        Tree::After(span) => {
+            let body = Declaration::After(after(names, *span));
+            timed(alloc, name, Ty::Bool, body)
+        }
+        Tree::Every(span) => {
+            let base = names.clock();
+            let span = nanoseconds_of(*span);
+            timed(alloc, name, Ty::Int, Declaration::Every { base, span })
+        }
+        Tree::Literal(_)
+        | Tree::Name(_)
+        | Tree::Now
+        | Tree::Call { .. }
+        | Tree::Fold { .. }
+        | Tree::If { .. }
+        | Tree::Bind { .. }
+        | Tree::Join { .. }
+        | Tree::At(_)
+        | Tree::Steps { .. } => computed(alloc, names, library, name, formula),
+        Tree::Freeze { .. } => unreachable!(),
+    }
+}
+
+/// The declaration of a name for what reads the clock.
+fn timed(
+    alloc: Global,
+    name: &Name,
+    ty: Ty,
+    body: Declaration,
+) -> Result<Option<Command>, AllocError>
+    ensures { IfOk result (λ c. option_map command_view c ≡ Some (Declare name.now ty (body_view body))) }
+{
+    match Name::new(alloc, name.bytes()) {
+        Ok(name) => Ok(Some(Command::Declare { name, ty, body })),
+        Err(fault) => {
+            drop(body);
+            Err(fault)
+        }
+    }
+}
+
+/// The time at which a span ends that begins now, in nanoseconds. It is refused where it is beyond the greatest.
+fn after(names: &Names, span: Time) -> u64
+    ensures { result ≡ names.entry.now.now + unwrap_or (time_view span) 0 }
+{
+    names.clock().count() + nanoseconds_of(span).count()
+}
+
+/// The declaration of a name for a formula that may stand within others.
+fn computed<L: Library>(
+    alloc: Global,
+    names: &Names,
+    library: &L,
+    name: &Name,
+    formula: &Tree,
+) -> Result<Option<Command>, AllocError>
+    requires { is_top_form (tree_view formula.now) ≡ false }
     ensures { IfOk result (λ c. option_map command_view c
         ≡ command_of (meanings_of (L.named library.now) (L.value library.now)) names.entry.now (Let name.now (tree_view formula.now))) }
 {

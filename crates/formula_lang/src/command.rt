@@ -5,6 +5,7 @@ ghost use Rattle.formula_lang.specs.CommandView.{body_view};
 
 use inc_value::{Base, FnRef, Text, Ty};
 use line_parser::Name;
+use line_times::Nanoseconds;
 
 /// A value as a command holds it.
 pub enum Constant {
@@ -22,6 +23,20 @@ impl Drop for Constant {
             Constant::Int(_) | Constant::Bool(_) | Constant::Reference { target: _, base: _ } => {}
             Constant::Text(text) => drop(text),
         }
+    }
+}
+
+/// A value from a time on.
+pub struct TimedConstant {
+    pub time: Nanoseconds,
+    pub value: Constant,
+}
+
+// (written out: whoever drops one proves one call, and no drop of its parts)
+impl Drop for TimedConstant {
+    fn drop(self) {
+        let TimedConstant { time: _, value } = self;
+        drop(value);
     }
 }
 
@@ -56,6 +71,15 @@ pub enum Formula {
         left: Box<Formula>,
         body: Box<Formula>,
     },
+    /// Whether the clock has come to the time.
+    At(Nanoseconds),
+    /// The first value, and then that of the last step whose time has come.
+    Steps {
+        first: Constant,
+        steps: Vec<TimedConstant>,
+    },
+    /// The clock, in nanoseconds.
+    Now,
 }
 
 /// What is declared.
@@ -64,6 +88,13 @@ pub enum Declaration {
     Variable(Constant),
     /// A name for a formula.
     Computed(Formula),
+    /// Whether the clock has come to the time, in nanoseconds: the end of a span that begins with the declaration.
+    After(u64),
+    /// How many whole spans went by since the base, which is the time of the declaration.
+    Every {
+        base: Nanoseconds,
+        span: Nanoseconds,
+    },
 }
 
 // (written out: whoever drops one proves one call, and no drop of its parts)
@@ -72,6 +103,7 @@ impl Drop for Declaration {
         match self {
             Declaration::Variable(first) => drop(first),
             Declaration::Computed(formula) => drop(formula),
+            Declaration::After(_) | Declaration::Every { base: _, span: _ } => {}
         }
     }
 }
@@ -91,9 +123,14 @@ impl Declaration {
                 | Formula::Fold { .. }
                 | Formula::If { .. }
                 | Formula::Join(_)
-                | Formula::Bind { .. },
+                | Formula::Bind { .. }
+                | Formula::At(_)
+                | Formula::Steps { .. }
+                | Formula::Now,
             )
-            | Declaration::Variable(_) => own,
+            | Declaration::Variable(_)
+            | Declaration::After(_)
+            | Declaration::Every { .. } => own,
         }
     }
 }
@@ -126,6 +163,10 @@ pub enum Command {
     Unobserve {
         observer: Name,
     },
+    /// Moves the clock on to a time, in nanoseconds.
+    Advance {
+        time: u64,
+    },
     /// Stabilizes.
     Stabilize,
     /// Shows what an observer has.
@@ -153,7 +194,7 @@ impl Drop for Command {
                 target: _,
             } => drop(observer),
             Command::Unobserve { observer } | Command::Show { observer } => drop(observer),
-            Command::Stabilize => {}
+            Command::Advance { time: _ } | Command::Stabilize => {}
         }
     }
 }

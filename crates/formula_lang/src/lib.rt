@@ -10,5 +10,6 @@ mod scope;
 mod typing;
 
 pub use checking::{CheckFault, check};
-pub use command::{Command, Constant, Declaration, Formula};
+pub use command::{Command, Constant, Declaration, Formula, TimedConstant};
+pub use line_times::Nanoseconds;
 pub use names::{Declared, Kind, Names};

@@ -4,15 +4,15 @@ ghost use Rattle.std.specs.List.{list_any};
 ghost use Rattle.script_model.specs.Check.{is_among, read_names, referred_names};
 ghost use Rattle.script_model.specs.Here.{is_here};
 ghost use Rattle.script_model.specs.Parsing.{trees_of};
-ghost use Rattle.formula_lang.specs.Here.{names_here, names_here_in_all};
+ghost use Rattle.formula_lang.specs.Here.{names_here, names_here_in_all, referred_in};
 ghost use Rattle.formula_lang.specs.Rows.{is_unknown};
 ghost use Rattle.line_parser.specs.TreeView.{line_view, tree_view};
-ghost use Rattle.line_parser.specs.View.{literal_view};
+ghost use Rattle.line_parser.specs.View.{literal_view, timed_view};
 
 use crate::names::Names;
 use crate::scope::{is_variable_name, named_within};
 use crate::typing::is_declared;
-use line_parser::{Line, Literal, Name, Tree};
+use line_parser::{Line, Literal, Name, TimedLiteral, Tree};
 use std::alloc::{AllocError, Global};
 
 /// Whether a name that the line reads isn't declared, and is no variable of a bind where it stands. Like the next ones it
@@ -86,7 +86,10 @@ fn has_unknown_name(
             Ok(left | body)
         }
         Tree::Join { child } => has_unknown_name(alloc, names, variables, child),
-        Tree::At(_) | Tree::Now | Tree::Steps { .. } | Tree::After(_) | Tree::Every(_) => Ok(false),
+        Tree::Steps { first, steps } => {
+            Ok(has_unknown_reference(names, first) | have_unknown_reference(names, steps))
+        }
+        Tree::At(_) | Tree::Now | Tree::After(_) | Tree::Every(_) => Ok(false),
         Tree::Freeze { .. } => Ok(false),
     }
 }
@@ -130,6 +133,18 @@ fn have_unknown_name(
         }
     }
     Ok(false)
+}
+
+/// Whether a name that the literal of one of the steps refers to isn't declared.
+fn have_unknown_reference(names: &Names, steps: &[TimedLiteral]) -> bool
+    ensures { result ≡ list_any (is_unknown names.entry.now) (referred_in (map timed_view steps.now)) }
+{
+    for step in steps {
+        if has_unknown_reference(names, &step.literal) {
+            return true;
+        }
+    }
+    false
 }
 
 /// Whether a name that a literal refers to isn't declared. A variable of a bind doesn't count.

@@ -9,6 +9,7 @@ ghost use Rattle.formula_lang.specs.NamesView.{AreEarlier, declared_view, kind_v
 use inc_value::Ty;
 use indexmap::{IndexMap, IndexSet};
 use line_parser::Name;
+use line_times::Nanoseconds;
 use std::alloc::{AllocError, Global};
 use std::marker::Model;
 
@@ -197,6 +198,13 @@ impl Names {
         ensures { result ≡ pos self.entry.now.now }
     {
         self.now
+    }
+
+    /// The same, as a time that has no sign.
+    pub(crate) fn clock(&self) -> Nanoseconds
+        ensures { result ≡ self.entry.now.now }
+    {
+        Nanoseconds::new(self.now.unsigned_abs())
     }
 
     /// Sets the clock, in nanoseconds.

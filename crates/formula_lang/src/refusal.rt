@@ -11,6 +11,7 @@ ghost use Rattle.formula_lang.specs.Rows.{is_no_bind, is_no_observer, is_no_vari
 use crate::names::{Kind, Names};
 use crate::typing::{declared_as, has_unknown_function, is_declared};
 use line_parser::{Line, Name};
+use line_times::{is_back, is_not_rising, is_not_whole, is_span_zero, is_time_too_large};
 use node_arena::Library;
 
 /// Why a command is refused.
@@ -21,21 +22,31 @@ pub(crate) enum Reason {
     NameUnknown,
     ObserverUnknown,
     FunctionUnknown,
+    NotWhole,
     NotVariable,
     NotBind,
     IllTyped,
+    TimeTooLarge,
+    TimesNotRising,
+    SpanIsZero,
+    BackInTime,
 }
 
 /// The order in which they are looked at.
-const ORDER: [Reason; 8] = [
+const ORDER: [Reason; 13] = [
     Reason::NameTaken,
     Reason::ObserverTaken,
     Reason::NameUnknown,
     Reason::ObserverUnknown,
     Reason::FunctionUnknown,
+    Reason::NotWhole,
     Reason::NotVariable,
     Reason::NotBind,
     Reason::IllTyped,
+    Reason::TimeTooLarge,
+    Reason::TimesNotRising,
+    Reason::SpanIsZero,
+    Reason::BackInTime,
 ];
 
 impl Reason {
@@ -52,6 +63,11 @@ impl Reason {
             Reason::NotBind => 8,
             Reason::ObserverUnknown => 11,
             Reason::ObserverTaken => 12,
+            Reason::NotWhole => 14,
+            Reason::BackInTime => 15,
+            Reason::TimeTooLarge => 16,
+            Reason::TimesNotRising => 17,
+            Reason::SpanIsZero => 18,
         }
     }
 }
@@ -99,9 +115,14 @@ fn is_against<L: Library>(
         Reason::NameUnknown => is_unknown,
         Reason::ObserverUnknown => is_observer_unknown(line, names),
         Reason::FunctionUnknown => is_function_unknown(line, library),
+        Reason::NotWhole => is_not_whole(line),
         Reason::NotVariable => is_no_variable(line, names),
         Reason::NotBind => is_no_bind(line, names),
         Reason::IllTyped => is_ill_typed,
+        Reason::TimeTooLarge => is_time_too_large(line, names.clock()),
+        Reason::TimesNotRising => is_not_rising(line),
+        Reason::SpanIsZero => is_span_zero(line),
+        Reason::BackInTime => is_back(line, names.clock()),
     }
 }
 

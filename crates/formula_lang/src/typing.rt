@@ -1,26 +1,27 @@
 //! Names, functions and types of formulas.
 ghost use Rattle.std.specs.Prelude.{◌≡◌, ◌<◌, ◌++◌, ◌∷◌, [], length, map, option_map, Some, IfOk, IfSome, OnOk};
 ghost use Rattle.std.specs.List.{list_any};
-ghost use Rattle.script_model.specs.Check.{Declare, applied as applied_to, are_all, branched, element_of, find_declared, folded, is_declared, join_of, literal_of_type, typed_as, typed_literal, typed_name};
-ghost use Rattle.formula_lang.specs.Here.{functions_here, functions_here_in_all, typed_each_here, typed_here};
+ghost use Rattle.script_model.specs.Check.{Declare, applied as applied_to, are_all, branched, element_of, find_declared, folded, is_declared, join_of, literal_of_type, steps_of_type, typed, typed_as, typed_each, typed_literal, typed_name};
+ghost use Rattle.formula_lang.specs.Here.{functions_here, functions_here_in_all};
 ghost use Rattle.script_model.specs.Literals.{Referred};
 ghost use Rattle.script_model.specs.Parsing.{trees_of};
-ghost use Rattle.script_model.specs.Formula.{Bind, Computed, Literal as Held, meanings_of, nothing_kept};
+ghost use Rattle.script_model.specs.Formula.{At, Bind, Computed, Literal as Held, Now, Steps, meanings_of, nothing_kept};
 ghost use Rattle.script_model.specs.Grammar.{Call, Fold, Join};
 ghost use Rattle.inc_value.specs.Choice.{and_then};
 ghost use Rattle.inc_value.specs.Ty.{same_ty, same_types};
-ghost use Rattle.formula_lang.specs.CommandView.{command_view, constant_view, formula_view};
+ghost use Rattle.formula_lang.specs.CommandView.{command_view, constant_view, formula_view, timed_view};
 ghost use Rattle.formula_lang.specs.NamesView.{declared_view};
 ghost use Rattle.formula_lang.specs.Rows.{lacks};
 ghost use Rattle.line_parser.specs.TreeView.{tree_view};
-ghost use Rattle.line_parser.specs.View.{literal_view};
+ghost use Rattle.line_parser.specs.View.{literal_view, timed_view as timed_literal_view};
 ghost use Rattle.formula_lang.specs.Typing.{bound_view, named_formula, part_view, typed_view, typed_each_view};
 
-use crate::command::{Command, Constant, Declaration, Formula};
+use crate::command::{Command, Constant, Declaration, Formula, TimedConstant};
 use crate::names::{Declared, Names};
 use crate::scope::{Variable, variable_named, within};
 use inc_value::{FnRef, Ty};
-use line_parser::{Literal, Name, Tree};
+use line_parser::{Literal, Name, TimedLiteral, Tree};
+use line_times::{Nanoseconds, nanoseconds_of};
 use node_arena::Library;
 use std::alloc::{AllocError, Global};
 
@@ -291,7 +292,7 @@ pub(crate) fn typed<L: Library>(
     tree: &Tree,
 ) -> Result<Option<TypedFormula>, AllocError>
     ensures { IfOk result (λ t. option_map typed_view t
-        ≡ typed_here (meanings_of (L.named library.now) (L.value library.now)) names.entry.now (map bound_view variables.now)
+        ≡ typed (meanings_of (L.named library.now) (L.value library.now)) names.entry.now (map bound_view variables.now)
         (tree_view tree.now)) }
 {
     match tree {
@@ -334,7 +335,11 @@ pub(crate) fn typed<L: Library>(
             Ok(None) => Ok(None),
             Err(fault) => Err(fault),
         },
-        Tree::At(_) | Tree::Now | Tree::Steps { .. } | Tree::After(_) | Tree::Every(_) => Ok(None),
+        Tree::At(time) => Ok(Some(at(nanoseconds_of(*time)))),
+        Tree::Now => Ok(Some(now())),
+        Tree::Steps { first, steps } => typed_steps(alloc, names, first, steps),
+        // As the whole of a declared formula they have a type.
+        Tree::After(_) | Tree::Every(_) => Ok(None),
         Tree::Freeze { .. } => Ok(None),
     }
 }
@@ -351,7 +356,7 @@ fn typed_call<L: Library>(
     arguments: &[Tree],
 ) -> Result<Option<TypedFormula>, AllocError>
     ensures { IfOk result (λ t. option_map typed_view t
-        ≡ typed_here (meanings_of (L.named library.now) (L.value library.now)) names.entry.now (map bound_view variables.now)
+        ≡ typed (meanings_of (L.named library.now) (L.value library.now)) names.entry.now (map bound_view variables.now)
         (Call function.now (trees_of (map tree_view arguments.now)))) }
 {
     let Some(function) = library.find(function.bytes()) else {
@@ -377,7 +382,7 @@ fn typed_fold<L: Library>(
     elements: &[Tree],
 ) -> Result<Option<TypedFormula>, AllocError>
     ensures { IfOk result (λ t. option_map typed_view t
-        ≡ typed_here (meanings_of (L.named library.now) (L.value library.now)) names.entry.now (map bound_view variables.now)
+        ≡ typed (meanings_of (L.named library.now) (L.value library.now)) names.entry.now (map bound_view variables.now)
         (Fold function.now (literal_view first.now) (trees_of (map tree_view elements.now)))) }
 {
     let Some(function) = library.find(function.bytes()) else {
@@ -401,7 +406,7 @@ fn typed_join<L: Library>(
     child: &Tree,
 ) -> Result<Option<TypedFormula>, AllocError>
     ensures { IfOk result (λ t. option_map typed_view t
-        ≡ typed_here (meanings_of (L.named library.now) (L.value library.now)) names.entry.now (map bound_view variables.now)
+        ≡ typed (meanings_of (L.named library.now) (L.value library.now)) names.entry.now (map bound_view variables.now)
         (Join (tree_view child.now))) }
 {
     match typed_part(alloc, names, library, variables, child) {
@@ -424,7 +429,7 @@ fn typed_within<L: Library>(
     body: &Tree,
 ) -> Result<Option<TypedPart>, AllocError>
     ensures { IfOk result (λ part. option_map part_view part
-        ≡ typed_here (meanings_of (L.named library.now) (L.value library.now)) names.entry.now
+        ≡ typed (meanings_of (L.named library.now) (L.value library.now)) names.entry.now
         (record { name = variable.now; ty = ty } ∷ map bound_view variables.now) (tree_view body.now)) }
 {
     match within(alloc, variable, ty, variables) {
@@ -448,7 +453,7 @@ fn typed_part<L: Library>(
     tree: &Tree,
 ) -> Result<Option<TypedPart>, AllocError>
     ensures { IfOk result (λ part. option_map part_view part
-        ≡ typed_here (meanings_of (L.named library.now) (L.value library.now)) names.entry.now (map bound_view variables.now)
+        ≡ typed (meanings_of (L.named library.now) (L.value library.now)) names.entry.now (map bound_view variables.now)
         (tree_view tree.now)) }
 {
     match typed(alloc, names, library, variables, tree) {
@@ -469,7 +474,7 @@ fn typed_each<L: Library>(
     trees: &[Tree],
 ) -> Result<Option<TypedFormulas>, AllocError>
     ensures { IfOk result (λ t. option_map typed_each_view t
-        ≡ typed_each_here (meanings_of (L.named library.now) (L.value library.now)) names.entry.now (map bound_view variables.now)
+        ≡ typed_each (meanings_of (L.named library.now) (L.value library.now)) names.entry.now (map bound_view variables.now)
         (trees_of (map tree_view trees.now))) }
 {
     let mut formulas = TypedFormulas::new(alloc);
@@ -534,6 +539,91 @@ fn typed_declared(names: &Names, name: &Name) -> Option<TypedFormula>
         formula: Formula::Name(declared.target),
         ty: declared.ty,
     })
+}
+
+/// Whether the clock has come to the time.
+fn at(time: Nanoseconds) -> TypedFormula
+    ensures { typed_view result ≡ record { formula = At time; ty = Ty.Bool } }
+{
+    TypedFormula {
+        formula: Formula::At(time),
+        ty: Ty::Bool,
+    }
+}
+
+/// The clock.
+fn now() -> TypedFormula
+    ensures { typed_view result ≡ record { formula = Now; ty = Ty.Int } }
+{
+    TypedFormula {
+        formula: Formula::Now,
+        ty: Ty::Int,
+    }
+}
+
+/// The steps from the first value on, unless a value is of another type than the first.
+#[inline(never)]
+fn typed_steps(
+    alloc: Global,
+    names: &Names,
+    first: &Literal,
+    steps: &[TimedLiteral],
+) -> Result<Option<TypedFormula>, AllocError>
+    ensures { IfOk result (λ t. option_map typed_view t
+        ≡ and_then (typed_literal names.entry.now (literal_view first.now)) (λ v.
+        and_then (steps_of_type names.entry.now v.ty (map timed_literal_view steps.now)) (λ rest. typed_as (Steps v.value rest) v.ty))) }
+{
+    let Some(ty) = type_of_literal(names, first) else {
+        return Ok(None);
+    };
+    match steps_of_type(alloc, names, ty, steps) {
+        Ok(Some(steps)) => match constant_of_literal(alloc, names, first) {
+            Ok(Some(first)) => Ok(Some(TypedFormula {
+                formula: Formula::Steps { first, steps },
+                ty,
+            })),
+            Ok(None) => {
+                drop(steps);
+                Ok(None)
+            }
+            Err(fault) => {
+                drop(steps);
+                Err(fault)
+            }
+        },
+        Ok(None) => Ok(None),
+        Err(fault) => Err(fault),
+    }
+}
+
+/// The constants of the steps, unless one has another type.
+fn steps_of_type(
+    alloc: Global,
+    names: &Names,
+    ty: Ty,
+    steps: &[TimedLiteral],
+) -> Result<Option<Vec<TimedConstant>>, AllocError>
+    ensures { IfOk result (λ found. option_map (λ constants. map timed_view constants.items) found
+        ≡ steps_of_type names.entry.now ty (map timed_literal_view steps.now)) }
+{
+    let mut constants = Vec::new(alloc);
+    for step in steps {
+        match literal_of_type(alloc, names, ty, &step.literal) {
+            Ok(Some(value)) => {
+                let time = nanoseconds_of(step.time);
+                constants.push(TimedConstant { time, value })?;
+            }
+            Ok(None) => {
+                drop(constants);
+                return Ok(None);
+            }
+            Err(fault) => {
+                drop(constants);
+                return Err(fault);
+            }
+        }
+    }
+    Ok(Some(constants))
 }
 
 /// The type of the elements that the function folds; none where it doesn't take what it gives and an element.

@@ -1,17 +1,17 @@
-use Rattle.std.proofs.Common.{refl}
-use Rattle.script_model.specs.Formula.{meanings_of}
-use Rattle.line_parser.specs.TreeView.{tree_view}
-use Rattle.formula_lang.proofs.Plainness.{top_here}
+use Rattle.std.proofs.Common.{◌≡◌, true, false, sym, ap, ◌∙◌}
+use Rattle.script_model.specs.Grammar.{Tree}
+use Rattle.line_parser.specs.TreeView.{level_view, tree_view}
+use Rattle.line_parser.specs.declared.tree.Tree.TheFolds.{fold-roll-Tree}
+use Rattle.line_parser.specs.declared.tree.Tree.TheOpen as level
+use Rattle.line_parser.specs.declared.tree.Tree.TheVariants.{rolls-Freeze}
+use Rattle.line_times.proofs.Freezes.{never_plain}
 use Rattle.formula_lang.proofs.checking.definition.Goals as goal
 
-pub returns-in-Ok-None : goal.returns-in-Ok-None
-returns-in-Ok-None g c =
-    let F = meanings_of (g.L.Library.named c.args.library.now) (g.L.Library.value c.args.library.now) in
-    let found = rw c.in-Ok-None.field-0-is at c.in-Ok-None.ensures in
-    rw (top_here F c.args.names.now (tree_view c.args.formula.now) c.requires, ← found) refl
-
-pub returns-in-Ok : goal.returns-in-Ok
-returns-in-Ok g c =
-    let F = meanings_of (g.L.Library.named c.args.library.now) (g.L.Library.value c.args.library.now) in
-    let found = rw c.in-Ok-Some.field-0-is at c.in-Ok-Some.ensures in
-    rw (c.declared.ensures, top_here F c.args.names.now (tree_view c.args.formula.now) c.requires, ← found, c.in-Ok.ensures, c.bytes.ensures) refl
+pub unreachable-requires : goal.unreachable-requires
+unreachable-requires g c =
+    let f = c.in-Freeze in
+    let written = ap tree_view (f.is ∙ sym (rolls-Freeze f.child f.predicate f.around))
+    ∙ fold-roll-Tree Tree level_view (level.Freeze f.child f.predicate f.around) in
+    let plain = rw written at c.requires in
+    let both : true ≡ false = sym plain ∙ never_plain (tree_view f.child.value) f.predicate f.around.items in
+    cc

@@ -5,7 +5,7 @@ use Rattle.line_parser.specs.declared.tree.Tree.TheFolds.{fold-roll-Tree}
 use Rattle.line_parser.specs.declared.tree.Tree.TheOpen as level
 use Rattle.line_parser.specs.declared.tree.Tree.TheVariants.{rolls-Bind, rolls-Freeze, rolls-If}
 use Rattle.formula_lang.specs.Rows.{is_unknown}
-use Rattle.formula_lang.proofs.Mentions.{any_three, any_two}
+use Rattle.line_times.proofs.Mentions.{any_three, any_two}
 use Rattle.formula_lang.proofs.Plainness.{no_names_frozen}
 use Rattle.formula_lang.proofs.mentioning.+names_of.Goals as goal
 

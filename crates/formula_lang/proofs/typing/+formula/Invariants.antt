@@ -1,5 +1,5 @@
 use Rattle.std.proofs.Common.{◌≡◌, drop, map, Some}
-use Rattle.formula_lang.specs.Here.{typed_each_here}
+use Rattle.script_model.specs.Check.{typed_each}
 use Rattle.inc_value.specs.Choice.{and_then}
 use Rattle.script_model.specs.Parsing.{trees_of}
 use Rattle.line_parser.specs.TreeView.{tree_view}
@@ -10,7 +10,7 @@ use Rattle.formula_lang.proofs.typing.+formula.Given as goal
 
 abbrev pub invariant-typed_each-loop-tree : goal.invariant-typed_each-loop-tree
 invariant-typed_each-loop-tree g l =
-    typed_each_here (meanings_of (g.L.Library.named l.library) (g.L.Library.value l.library)) l.names (map bound_view l.variables) (trees_of (map tree_view l.trees))
-    ≡ and_then (typed_each_here (meanings_of (g.L.Library.named l.library) (g.L.Library.value l.library)) l.names
+    typed_each (meanings_of (g.L.Library.named l.library) (g.L.Library.value l.library)) l.names (map bound_view l.variables) (trees_of (map tree_view l.trees))
+    ≡ and_then (typed_each (meanings_of (g.L.Library.named l.library) (g.L.Library.value l.library)) l.names
     (map bound_view l.variables) (trees_of (map tree_view (drop l.tree-index l.trees))))
     (λ ts. Some (behind l.formulas.formulas.items l.formulas.tys.items ts))

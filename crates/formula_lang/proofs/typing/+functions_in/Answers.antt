@@ -5,7 +5,7 @@ use Rattle.line_parser.specs.declared.tree.Tree.TheFolds.{fold-roll-Tree}
 use Rattle.line_parser.specs.declared.tree.Tree.TheOpen as level
 use Rattle.line_parser.specs.declared.tree.Tree.TheVariants.{rolls-Freeze, rolls-If}
 use Rattle.formula_lang.specs.Rows.{lacks}
-use Rattle.formula_lang.proofs.Mentions.{any_three}
+use Rattle.line_times.proofs.Mentions.{any_three}
 use Rattle.formula_lang.proofs.Plainness.{no_functions_frozen}
 use Rattle.formula_lang.proofs.typing.+functions_in.Goals as goal
 
