@@ -9,7 +9,7 @@ use Rattle.script_functions.specs.Bodies as spec
 use Rattle.script_functions.specs.Bodies.{captured, IsTyped, NextHas, with_line, size_of}
 use Rattle.script_functions.specs.Lines.{AreTyped, LineHas, PartsHave, FoldTakes, BindTakes, line_size, parts_of, type_in}
 use Rattle.script_functions.specs.declared.line.Line as lines
-use Rattle.script_functions.specs.declared.line.Line.TheVariants.{Const, Map, Fold, If, Join, Bind}
+use Rattle.script_functions.specs.declared.line.Line.TheVariants.{Const, Map, Fold, If, Join, Bind, At, Steps, Now}
 use Rattle.script_functions.specs.declared.line.Part as parts
 use Rattle.script_functions.specs.declared.line.TypedLine.{TypedLine}
 
@@ -50,6 +50,9 @@ module _ (T : parts.Part → Option Ty) where
   line_there listed (If c a b) t h = (some_there _ _ h.0, (some_there _ _ h.1, (some_there _ _ h.2, tt)))
   line_there listed (Join p) t h = (some_there _ _ h.2, tt)
   line_there listed (Bind l f most ps) t h = bound_there l ps f.sig.takes h.takes
+  line_there listed (At time) t h = tt
+  line_there listed (Steps first steps) t h = tt
+  line_there listed Now t h = tt
 
 -- ---- one line more
 

@@ -14,7 +14,7 @@ use Rattle.inc_value.specs.declared.ty.Ty.{Ty}
 use Rattle.inc_value.specs.declared.ty.Ty.TheVariants as ty
 use Rattle.inc_value.specs.declared.value.Value.{Value}
 use Rattle.inc_value.specs.declared.value.Value.TheVariants as value
-use Rattle.inc_terms.specs.Term.{Term, Const, Ref, Cap}
+use Rattle.inc_terms.specs.Term.{Term, Step, Const, Ref, Cap}
 use Rattle.inc_terms.specs.Within.{TermWithin, TermsWithin, ValueWithin}
 use Rattle.node_arena.specs.Building.{Use, IsListed}
 use Rattle.node_arena.specs.Listing.{Listed, nodes_of, IsNamed}
@@ -70,6 +70,11 @@ module _ (listed : List Listed) (uses : List Use) (left : Value) where
     value_within (value.Bool z) h = tt
     value_within (value.Text z) h = tt
 
+    steps_within : (steps : List Step) (t : Ty) → Every (λ (s : Step). ValueHas (IsListedAs listed) s.value t) steps
+        → Every (λ (s : Step). ValueWithin (IsNamed listed left) s.value) steps
+    steps_within [] t h = tt
+    steps_within (s ∷ steps) t h = (value_within s.value h.0.reference, steps_within steps t h.1)
+
     module _ (T : parts.Part → Option Ty) where
       new_within : (x : lines.Line) (t : Ty) → LineHas listed T x t → AllIn (line_uses x) uses
           → Within (line_term listed terms x)
@@ -87,6 +92,9 @@ module _ (listed : List Listed) (uses : List Use) (left : Value) where
         part_within l,
         parts_within ps,
       )
+      new_within (line.At time) t h mine = tt
+      new_within (line.Steps first steps) t h mine = (value_within first h.0.reference, steps_within steps t h.1)
+      new_within line.Now t h mine = tt
 
   every_more : (terms : List Term) (t : Term) → Every Within terms → Within t → Every Within (terms ++ t ∷ [])
   every_more [] t h w = (w, tt)
@@ -165,6 +173,11 @@ module _ (listed : List Listed) (captures : List Ty) (left : Value) where
     bind_has l f most ps t h (first ∷ rest) e takes =
         (first, rest, h.gives, e, part_has l first takes.0, parts_have ps rest takes.1)
 
+    steps_have : (steps : List Step) (t : Ty) → Every (λ (s : Step). ValueHas (IsListedAs listed) s.value t) steps
+        → Every (λ (s : Step). ValueHas N s.value t) steps
+    steps_have [] t h = tt
+    steps_have (s ∷ steps) t h = (value_has s.value t h.0, steps_have steps t h.1)
+
     new_has : (x : lines.Line) (t : Ty) → LineHas listed T x t → Has (line_term listed terms x) t
     new_has (line.Const v) t h = value_has v t h
     new_has (line.Map f ps) t h = (h.gives, parts_have ps f.sig.takes h.takes)
@@ -172,6 +185,9 @@ module _ (listed : List Listed) (captures : List Ty) (left : Value) where
     new_has (line.If c x y) t h = (part_has c ty.Bool h.0, part_has x t h.1, part_has y t h.2)
     new_has (line.Join p) t h = (h.0, base_back t h.0 h.1, part_has p (ty.Node h.0) h.2)
     new_has (line.Bind l f most ps) t h = bind_has l f most ps t h f.sig.takes refl h.takes
+    new_has (line.At time) t h = sym h
+    new_has (line.Steps first steps) t h = (value_has first t h.0, steps_have steps t h.1)
+    new_has line.Now t h = sym h
 
   all_have : (terms : List Term) (types : List Ty) (xs : List TypedLine) → AreTyped listed captures types xs
       → AllZip Has terms types → AllZip Has (terms_after listed terms xs) (types ++ map (λ (x : TypedLine). x.ty) xs)

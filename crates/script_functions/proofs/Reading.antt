@@ -10,7 +10,7 @@ use Rattle.inc_value.specs.declared.ty.Ty.TheVariants as ty
 use Rattle.inc_value.specs.declared.value.Value.{Value}
 use Rattle.inc_value.specs.declared.value.Value.TheVariants as value
 use Rattle.inc_terms.specs.Graph.{Row}
-use Rattle.inc_terms.specs.Term.{Term, Ref, Cap}
+use Rattle.inc_terms.specs.Term.{Term, Step, Ref, Cap}
 use Rattle.inc_terms.specs.Unfold.{IsIn, Outside, Unfolds, UnfoldsAll}
 use Rattle.inc_terms.specs.Within.{Given, ValueWithin}
 use Rattle.node_arena.specs.Arena.{Arena, row_at, NamesGiven}
@@ -28,7 +28,7 @@ use Rattle.script_functions.specs.Lines.{term_of, terms_of, line_term, parts_of,
 use Rattle.script_functions.specs.Lines.{PartsHave, FoldTakes, BindTakes, LineHas}
 use Rattle.script_functions.specs.Underway.{Reads, AreMade}
 use Rattle.script_functions.specs.declared.line.Line as lines
-use Rattle.script_functions.specs.declared.line.Line.TheVariants.{Const, Map, Fold, If, Join, Bind}
+use Rattle.script_functions.specs.declared.line.Line.TheVariants.{Const, Map, Fold, If, Join, Bind, At, Steps, Now}
 use Rattle.script_functions.specs.declared.line.Part as parts
 use Rattle.script_functions.specs.declared.line.Part.TheVariants as part
 use Rattle.script_functions.proofs.Adding.{line_there}
@@ -157,6 +157,9 @@ module _ (body : spec.Body) (start : Building) (left : Value) (captures : List N
   line_reads id (If c x y) h is = (node c, node x, node y, is, there_reads c h.0, there_reads x h.1.0, there_reads y h.1.1.0)
   line_reads id (Join p) h is = (node p, is, there_reads p h.0)
   line_reads id (Bind l f most ps) h is = (node l, map node ps, is, there_reads l h.0, all_read ps h.1)
+  line_reads id (At time) h is = is
+  line_reads id (Steps first steps) h is = is
+  line_reads id Now h is = is
 
   -- ---- it can be added
 
@@ -176,6 +179,16 @@ module _ (body : spec.Body) (start : Building) (left : Value) (captures : List N
   value_is : (v : Value) (t : Ty) → ValueHas (IsListedAs listed) v t → HasType b.arena v t
   value_is v t h = record { type = h.type; reference = value_fits v h.reference }
 
+  steps_given : (steps : List Step) (t : Ty) → Every (λ (s : Step). ValueHas (IsListedAs listed) s.value t) steps
+      → Every (λ (s : Step). ValueWithin (Given b.arena.given) s.value) steps
+  steps_given [] t h = tt
+  steps_given (s ∷ steps) t h = (value_given s.value h.0.reference, steps_given steps t h.1)
+
+  steps_are : (steps : List Step) (t : Ty) → Every (λ (s : Step). ValueHas (IsListedAs listed) s.value t) steps
+      → Every (λ (s : Step). HasType b.arena s.value t) steps
+  steps_are [] t h = tt
+  steps_are (s ∷ steps) t h = (value_is s.value t h.0, steps_are steps t h.1)
+
   names : (x : lines.Line) (t : Ty) → LineHas listed T x t → NamesGiven b.arena.given (filled listed captures made x)
   names (Const v) t h = value_given v h.reference
   names (Map f ps) t h = (tt, all_given ps (line_there T listed (Map f ps) t h))
@@ -185,6 +198,9 @@ module _ (body : spec.Body) (start : Building) (left : Value) (captures : List N
   names (Join p) t h = let there = line_there T listed (Join p) t h in there_given p there.0
   names (Bind l f most ps) t h =
       let there = line_there T listed (Bind l f most ps) t h in (tt, there_given l there.0, all_given ps there.1)
+  names (At time) t h = tt
+  names (Steps first steps) t h = (value_given first h.0.reference, steps_given steps t h.1)
+  names Now t h = tt
 
   fold_takes : (t : Ty) (ps : List parts.Part) (tys : List Ty) → FoldTakes T t ps tys
       → typing.FoldTakes b.arena t (map node ps) tys
@@ -210,6 +226,9 @@ module _ (body : spec.Body) (start : Building) (left : Value) (captures : List N
   makes (If c x y) t h = ((part_is c ty.Bool h.0).fits, (part_is x t h.1).fits, (part_is y t h.2).fits)
   makes (Join p) t h = (h.0, h.1, (part_is p (ty.Node h.0) h.2).fits)
   makes (Bind l f most ps) t h = record { kind = h.kind; takes = bind_takes l ps f.sig.takes h.takes; gives = h.gives }
+  makes (At time) t h = h
+  makes (Steps first steps) t h = (value_is first t h.0, steps_are steps t h.1)
+  makes Now t h = h
 
   -- the node of a line that is of a type can be added
   pub line_ready : (x : lines.Line) (t : Ty) → LineHas listed T x t → IsReady b (filled listed captures made x) t

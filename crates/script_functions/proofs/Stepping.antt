@@ -12,7 +12,8 @@ use Rattle.inc_value.specs.declared.value.Value.{Value}
 use Rattle.inc_value.specs.Value.{type_of}
 use Rattle.inc_terms.specs.Graph as graph
 use Rattle.inc_terms.specs.Graph.{Def}
-use Rattle.inc_terms.specs.Term.{Term, Const}
+use Rattle.inc_terms.specs.Term.{Term, Step, Const}
+use Rattle.inc_terms.specs.Within.{ValueWithin}
 use Rattle.node_arena.specs.Building.{Building, Adds, Use, CallsListed, Weighs, Grows}
 use Rattle.node_arena.specs.Listing.{Listed}
 use Rattle.node_arena.specs.RightSide.{MayBuild, IsRoot}
@@ -44,6 +45,10 @@ every_any : {A : Type 0} (xs : List A) → Every (λ (x : A). Unit {0}) xs
 every_any [] = tt
 every_any (x ∷ xs) = (tt, every_any xs)
 
+steps_any : (steps : List Step) → Every (λ (s : Step). ValueWithin (λ (n : NodeId). Unit {0}) s.value) steps
+steps_any [] = tt
+steps_any (s ∷ steps) = (value_any s.value, steps_any steps)
+
 module _ (uses : List Use) (listed : List Listed) (T : parts.Part → Option Ty) (captures made : List NodeId) where
   line_calls : (x : lines.Line) (t : Ty) → LineHas listed T x t → AllIn (line_uses x) uses
       → CallsListed uses (filled listed captures made x)
@@ -55,6 +60,9 @@ module _ (uses : List Use) (listed : List Listed) (T : parts.Part → Option Ty)
   line_calls (line.Join p) t h all = tt
   line_calls (line.Bind l f most ps) t h all =
       (called uses kind.Rhs (record { function = f; most = most }) all h.kind, tt, every_any _)
+  line_calls (line.At time) t h all = tt
+  line_calls (line.Steps first steps) t h all = (value_any first, steps_any steps)
+  line_calls line.Now t h all = tt
 
   line_weighs : (x : lines.Line) → AllIn (line_uses x) uses → Weighs uses (filled listed captures made x) (line_size x)
   line_weighs (line.Const v) all = omega arith
@@ -62,6 +70,9 @@ module _ (uses : List Use) (listed : List Listed) (T : parts.Part → Option Ty)
   line_weighs (line.Fold f v ps) all = omega arith
   line_weighs (line.If c x y) all = omega arith
   line_weighs (line.Join p) all = omega arith
+  line_weighs (line.At time) all = omega arith
+  line_weighs (line.Steps first steps) all = omega arith
+  line_weighs line.Now all = omega arith
   line_weighs (line.Bind l f most ps) all = (record { function = f; most = most }, all _ (inl refl), refl, omega arith)
 
 -- ---- what was made stays

@@ -9,7 +9,7 @@ use Rattle.node_arena.specs.Building.{Building}
 use Rattle.node_arena.specs.Listing.{Listed}
 use Rattle.node_arena.specs.Typing.{Makes}
 use Rattle.script_functions.specs.declared.line.Line as lines
-use Rattle.script_functions.specs.declared.line.Line.TheVariants.{Const, Map, Fold, If, Join, Bind}
+use Rattle.script_functions.specs.declared.line.Line.TheVariants.{Const, Map, Fold, If, Join, Bind, At, Steps, Now}
 use Rattle.script_functions.specs.declared.line.Part as parts
 use Rattle.script_functions.specs.declared.line.Part.TheVariants as part
 
@@ -40,6 +40,9 @@ filled listed captures made (If c a b) =
 filled listed captures made (Join p) = graph.Join (node_of listed captures made p)
 filled listed captures made (Bind l f most ps) =
     graph.Bind (node_of listed captures made l) f (map (node_of listed captures made) ps)
+filled listed captures made (At time) = graph.At time
+filled listed captures made (Steps first steps) = graph.Steps first steps
+filled listed captures made Now = graph.Now
 
 -- a node that is so defined names given nodes, and is of the type that it makes
 pub record IsReady (b : Building) (def : Def) (t : Ty) : Type 0 where

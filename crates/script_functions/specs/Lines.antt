@@ -17,7 +17,7 @@ use Rattle.node_arena.specs.Building.{Use}
 use Rattle.node_arena.specs.Listing.{Listed}
 use Rattle.node_arena.specs.RightSide.{ValueHas}
 use Rattle.script_functions.specs.declared.line.Line as lines
-use Rattle.script_functions.specs.declared.line.Line.TheVariants.{Const, Map, Fold, If, Join, Bind}
+use Rattle.script_functions.specs.declared.line.Line.TheVariants.{Const, Map, Fold, If, Join, Bind, At, Steps, Now}
 use Rattle.script_functions.specs.declared.line.Part as parts
 use Rattle.script_functions.specs.declared.line.Part.TheVariants as part
 use Rattle.script_functions.specs.declared.line.TypedLine.{TypedLine}
@@ -44,6 +44,9 @@ line_term listed terms (Fold f v ps) = term.Fold f v (terms_of listed terms ps)
 line_term listed terms (If t a b) = term.If (term_of listed terms t) (term_of listed terms a) (term_of listed terms b)
 line_term listed terms (Join p) = term.Join (term_of listed terms p)
 line_term listed terms (Bind l f most ps) = term.Bind (term_of listed terms l) f (terms_of listed terms ps)
+line_term listed terms (At time) = term.At time
+line_term listed terms (Steps first steps) = term.Steps first steps
+line_term listed terms Now = term.Now
 
 -- the terms of all lines, after those that stand there
 abbrev pub terms_after : List Listed → List Term → List TypedLine → List Term
@@ -127,6 +130,11 @@ pub record BindHas (T : parts.Part → Option Ty) (l : parts.Part) (f : FnRef) (
   pub takes : BindTakes T l ps f.sig.takes
   pub gives : f.sig.gives ≡ t
 
+-- steps from a value on, all of the type
+abbrev pub StepsHave : List Listed → Value → List term.Step → Ty → Type 0
+StepsHave listed first steps t =
+    ValueHas (IsListedAs listed) first t × Every (λ (s : term.Step). ValueHas (IsListedAs listed) s.value t) steps
+
 -- the line is of the type, where parts have the types that T tells: its values name listed nodes alone, and its function
 -- is of the kind that stands there
 abbrev pub LineHas : List Listed → (parts.Part → Option Ty) → lines.Line → Ty → Type 0
@@ -136,6 +144,9 @@ LineHas listed T (Fold f v ps) t = FoldHas listed T f v ps t
 LineHas listed T (If c a b) t = IfHas T c a b t
 LineHas listed T (Join p) t = JoinHas T p t
 LineHas listed T (Bind l f most ps) t = BindHas T l f ps t
+LineHas listed T (At time) t = t ≡ ty.Bool
+LineHas listed T (Steps first steps) t = StepsHave listed first steps t
+LineHas listed T Now t = t ≡ ty.Int
 
 -- each line is of its type, over those that stand before it
 abbrev pub AreTyped : List Listed → List Ty → List Ty → List TypedLine → Type 0
@@ -151,3 +162,6 @@ parts_of (Fold f v ps) = ps
 parts_of (If c a b) = c ∷ a ∷ b ∷ []
 parts_of (Join p) = p ∷ []
 parts_of (Bind l f most ps) = l ∷ ps
+parts_of (At time) = []
+parts_of (Steps first steps) = []
+parts_of Now = []

@@ -1,7 +1,7 @@
 //! Lines built in an arena.
 ghost use Rattle.std.specs.Prelude.{◌≡◌, map, option_map, slice_get, Ok, IfOk, IsErr, OnOk, OnErr, IsErrOf};
 ghost use Rattle.inc_value.specs.Value.{type_of};
-ghost use Rattle.inc_terms.specs.Graph.{Const, Map, Fold, If, Join, Bind};
+ghost use Rattle.inc_terms.specs.Graph.{Const, Map, Fold, If, Join, Bind, Steps};
 ghost use Rattle.node_arena.specs.Arena.{IsFull};
 ghost use Rattle.node_arena.specs.Building.{Adds, Grows};
 ghost use Rattle.node_arena.specs.Listing.{Listed};
@@ -11,6 +11,7 @@ ghost use Rattle.script_functions.specs.Filling.{node_of, filled, parts_in_list,
 ghost use Rattle.script_functions.specs.Underway.{IsNoted, AreBuilt};
 
 use crate::{Body, Line, ListedNode, Part, TypedLine};
+use inc_terms::StepList;
 use inc_value::{FnRef, NodeId, Ty, Value};
 use node_arena::{AddFault, BuildFault, Builder};
 use std::alloc::{AllocError, Global};
@@ -153,6 +154,31 @@ fn add_bind(
     built(builder.bind(left, f, captures))
 }
 
+/// Adds a node that shows the first value, and then that of the last step whose time has come, where all values are of one type
+/// and what they name was given and is of its type.
+fn add_steps(
+    alloc: Global,
+    first: &Value,
+    steps: &StepList,
+    builder: &mut Builder,
+) -> Result<NodeId, BuildFault>
+    requires ready { IsReady builder.old (Steps first.now steps.now) (type_of first.now) }
+    ensures added { IfOk result (λ id. Adds builder.old builder.new id (Steps first.now steps.now) (type_of first.now)) }
+    ensures full { IsErrOf result BuildFault.Full → IsFull builder.new.arena }
+    ensures err { OnErr result (builder.new ≡ builder.old) }
+{
+    let Ok(steps) = steps.copy(alloc) else {
+        return Err(BuildFault::Memory);
+    };
+    match first.copy(alloc) {
+        Ok(first) => built(builder.listed_steps(first, steps)),
+        Err(AllocError) => {
+            drop(steps);
+            Err(BuildFault::Memory)
+        }
+    }
+}
+
 /// The parts of a line that stand in a list.
 fn parts_in_list(line: &Line) -> &[Part]
     ensures { result.now ≡ parts_in_list line.now }
@@ -160,7 +186,12 @@ fn parts_in_list(line: &Line) -> &[Part]
     match line {
         Line::Map(_, parts) | Line::Fold(_, _, parts) => parts.as_slice(),
         Line::Bind { captures, .. } => captures.as_slice(),
-        Line::Const(_) | Line::If { .. } | Line::Join(_) => &[],
+        Line::Const(_)
+        | Line::If { .. }
+        | Line::Join(_)
+        | Line::At(_)
+        | Line::Steps(_, _)
+        | Line::Now => &[],
     }
 }
 
@@ -196,6 +227,9 @@ fn add_over(
             let left = node_of(listed, captures, made, *left);
             add_bind(left, *function, nodes, builder)
         }
+        Line::At(time) => built(builder.at(*time)),
+        Line::Steps(first, steps) => add_steps(alloc, first, steps, builder),
+        Line::Now => built(builder.now()),
     }
 }
 

@@ -1,6 +1,7 @@
 //! Lines of a body, and what they read.
 ghost use Rattle.std.specs.Prelude.{◌≡◌, IfOk};
 
+use inc_terms::StepList;
 use inc_value::{FnRef, NodeId, Ty, Value};
 use std::alloc::{AllocError, Global};
 use std::marker::Model;
@@ -80,6 +81,12 @@ pub enum Line {
         most: u64,
         captures: Parts,
     },
+    /// Whether the clock has come to the time, in nanoseconds.
+    At(i64),
+    /// The first value, and then that of the last step whose time has come.
+    Steps(Value, StepList),
+    /// The clock, in nanoseconds.
+    Now,
 }
 
 // (written out: whoever drops one proves one call, and no drop of its parts)
@@ -97,7 +104,13 @@ impl Drop for Line {
                 yes: _,
                 no: _,
             }
-            | Line::Join(_) => {}
+            | Line::Join(_)
+            | Line::At(_)
+            | Line::Now => {}
+            Line::Steps(first, steps) => {
+                drop(first);
+                drop(steps);
+            }
             Line::Bind {
                 left: _,
                 function: _,
@@ -140,7 +153,26 @@ impl Line {
                 most: *most,
                 captures: Parts::from_slice(alloc, captures.as_slice())?,
             },
+            Line::At(time) => Line::At(*time),
+            Line::Steps(first, steps) => steps_line(alloc, first, steps)?,
+            Line::Now => Line::Now,
         })
+    }
+}
+
+/// The line of these steps, from the first value on.
+fn steps_line(alloc: Global, first: &Value, steps: &StepList) -> Result<Line, AllocError>
+    ensures { IfOk result (λ line. line ≡ Line.Steps first.now steps.now) }
+{
+    match steps.copy(alloc) {
+        Ok(steps) => match first.copy(alloc) {
+            Ok(first) => Ok(Line::Steps(first, steps)),
+            Err(fault) => {
+                drop(steps);
+                Err(fault)
+            }
+        },
+        Err(fault) => Err(fault),
     }
 }
 

@@ -1,5 +1,7 @@
 //! The types of lines, over what stands before them.
-ghost use Rattle.std.specs.Prelude.{◌≡◌, ◌≤◌, ◌+◌, ◌^◌, ◌↔◌, Any, Some, IfOk, IfSome, IfNone, IsErrOf, IsTrue};
+ghost use Rattle.std.specs.Prelude.{◌≡◌, ◌≤◌, ◌+◌, ◌^◌, ◌↔◌, map, Any, Some, IfOk, IfSome, IfNone, IsErrOf, IsTrue};
+ghost use Rattle.inc_terms.specs.Steps.{step_of};
+ghost use Rattle.inc_terms.specs.Term.{Step as AStep};
 ghost use Rattle.inc_value.specs.Choice.{Every};
 ghost use Rattle.inc_value.specs.Ty.{base_of};
 ghost use Rattle.inc_value.specs.declared.ty.Base.{Base};
@@ -10,6 +12,7 @@ ghost use Rattle.script_functions.specs.Lines.{IsListedAs, PartsHave, MapHas, Fo
 ghost use Rattle.script_functions.specs.Lines.{line_size, parts_of};
 
 use crate::{Draft, Line, LineFault, ListedNode, Part};
+use inc_terms::Step;
 use inc_value::{FnKind, FnRef, NodeId, Ty, Value};
 
 /// Whether one of the listed nodes is the wanted one, of the same type.
@@ -41,6 +44,25 @@ fn value_has(draft: &Draft, value: &Value, ty: Ty) -> bool
     ensures { IsTrue result ↔ ValueHas (IsListedAs draft.now.listed) value.now ty }
 {
     value.ty() == ty && names_listed(draft.listed(), value)
+}
+
+/// Whether the values of all steps are of the type, and name listed nodes alone.
+fn steps_have(draft: &Draft, steps: &[Step], ty: Ty) -> bool
+    ensures { IsTrue result ↔ Every (λ (s : AStep). ValueHas (IsListedAs draft.now.listed) s.value ty) (map step_of steps.now) }
+{
+    for step in steps {
+        if !value_has(draft, &step.value, ty) {
+            return false;
+        }
+    }
+    true
+}
+
+/// Whether a type is the wanted one.
+fn is_type(ty: Ty, wanted: Ty) -> bool
+    ensures { IsTrue result ↔ (ty ≡ wanted) }
+{
+    ty == wanted
 }
 
 /// Whether the part is there.
@@ -170,6 +192,11 @@ fn line_has(draft: &Draft, line: &Line, ty: Ty) -> bool
             captures,
             ..
         } => binds(draft, *left, *function, captures.as_slice(), ty),
+        Line::At(_) => is_type(ty, Ty::Bool),
+        Line::Steps(first, steps) => {
+            value_has(draft, first, ty) && steps_have(draft, steps.as_slice(), ty)
+        }
+        Line::Now => is_type(ty, Ty::Int),
     }
 }
 
@@ -188,7 +215,9 @@ fn only_type(draft: &Draft, line: &Line) -> Option<Ty>
     ensures { (t : Ty) → NextHas draft.now line.now t → result ≡ Some t }
 {
     match line {
-        Line::Const(value) => Some(value.ty()),
+        Line::Const(value) | Line::Steps(value, _) => Some(value.ty()),
+        Line::At(_) => Some(Ty::Bool),
+        Line::Now => Some(Ty::Int),
         Line::Map(f, _) | Line::Fold(f, _, _) => Some(f.sig.gives()),
         Line::If { yes, .. } => draft.type_of(*yes),
         Line::Join(part) => referred(draft.type_of(*part)),
@@ -212,7 +241,7 @@ fn reads_what_is_there(draft: &Draft, line: &Line) -> bool
     ensures { IsTrue result ↔ Every (IsThere draft.now) (parts_of line.now) }
 {
     match line {
-        Line::Const(_) => true,
+        Line::Const(_) | Line::At(_) | Line::Steps(_, _) | Line::Now => true,
         Line::Map(_, parts) | Line::Fold(_, _, parts) => are_there(draft, parts.as_slice()),
         Line::If { test, yes, no } => are_there(draft, &[*test, *yes, *no]),
         Line::Join(part) => is_there(draft, *part),
