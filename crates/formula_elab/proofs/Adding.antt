@@ -48,6 +48,9 @@ one_type listed T (lines.Join p) t t' h h' =
     let same : h.0 ≡ h'.0 = cc in
     one_base t t' h'.0 (subst (λ b. base_of t ≡ Some b) same h.1) h'.1
 one_type listed T (lines.Bind l f most ps) t t' h h' = sym h.gives ∙ h'.gives
+one_type listed T (lines.At time) t t' h h' = h ∙ sym h'
+one_type listed T (lines.Steps first steps) t t' h h' = sym h.0.type ∙ h'.0.type
+one_type listed T lines.Now t t' h h' = h ∙ sym h'
 
 -- ---- sizes
 

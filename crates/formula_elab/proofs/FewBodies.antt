@@ -3,7 +3,7 @@ use Rattle.std.proofs.Common.{◌≡◌, ℕ, ◌+◌, ◌≤◌, List, [], ◌�
 use Rattle.inc_value.specs.declared.node.NodeId.{NodeId}
 use Rattle.inc_value.specs.declared.ty.Ty.{Ty}
 use Rattle.script_model.specs.Formula as script
-use Rattle.script_model.specs.Formula.{Formula, Formulas, Body, Literal, Name, Apply, End, More, Variable, Computed}
+use Rattle.script_model.specs.Formula.{Formula, Formulas, Body, Literal, Name, Apply, End, More, Variable, Computed, After}
 use Rattle.script_model.specs.Formula.{binds_in, binds_in_all, binds_of_body}
 use Rattle.transfer.specs.Both.{graph_value}
 use Rattle.formula_elab.specs.Bodies.{Page, empty_page}
@@ -100,7 +100,9 @@ module _ (nodes : ℕ → NodeId) (tys : ℕ → Ty) where
         let inner = few_written (u ∷ []) (start + length l.makes) empty_page body in
         omega (arith, size, rest, here, inner)
     few start (script.Bound k) is_laid = absurd (omega (arith, is_laid))
-    few start f is_laid = absurd is_laid
+    few start (script.At time) is_laid = omega arith
+    few start (script.Steps first steps) is_laid = omega arith
+    few start script.Now is_laid = omega arith
 
     all_few : (start : ℕ) (fs : Formulas) → AreLaidOut 0 fs → bodies_in (laid_each nodes tys start fs).makes ≤ binds_in_all fs
     all_few start End is_laid = omega arith
@@ -113,4 +115,6 @@ module _ (nodes : ℕ → NodeId) (tys : ℕ → Ty) where
   pub few_bodies : (body : Body) → IsLaidOutBody body → bodies_in (laid_body nodes tys 0 body).makes ≤ binds_of_body body
   few_bodies (Variable v) is_laid = omega arith
   few_bodies (Computed f kept) is_laid = few 0 f is_laid
+  few_bodies (After time) is_laid = omega arith
+  few_bodies (script.Every base span) is_laid = omega arith
   few_bodies body is_laid = absurd is_laid

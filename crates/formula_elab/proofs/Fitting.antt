@@ -53,7 +53,9 @@ module _ (known : FnRef → Bool) (names : Names) (targets : AreTypedAsTargets n
   formula_type bounds (script.Bind left body) ty fits =
       ap (λ u. formula_ty (type_at names) (u ∷ bounds) body) (formula_type bounds left fits.0 fits.1)
       ∙ formula_type (fits.0 ∷ bounds) body ty fits.2
-  formula_type bounds f ty fits = absurd fits
+  formula_type bounds (script.At time) ty fits = fits
+  formula_type bounds (script.Steps first steps) ty fits = fits.0.0
+  formula_type bounds script.Now ty fits = fits
 
 -- ---- values
 

@@ -1,15 +1,16 @@
 -- A page that is written on keeps the lines and the nodes that it had.
-use Rattle.std.proofs.Common.{◌≡◌, ℕ, ◌+◌, List, [], ◌∷◌, length, refl}
+use Rattle.std.proofs.Common.{◌≡◌, ℕ, ◌+◌, List, [], ◌∷◌, length, map, pos, refl, ◌∙◌}
 use Rattle.inc_value.specs.declared.node.NodeId.{NodeId}
 use Rattle.inc_value.specs.declared.ty.Ty.{Ty}
 use Rattle.script_functions.specs.declared.line.Line.TheVariants as lines
 use Rattle.script_model.specs.Formula as script
-use Rattle.script_model.specs.Formula.{Formula, Formulas, Literal, Name, Apply, End, More}
+use Rattle.script_model.specs.Formula.{Formula, Formulas, TimedValue, Literal, Name, Apply, End, More}
 use Rattle.script_model.specs.Values.{Value, Int, Bool, Text, Reference}
 use Rattle.transfer.specs.Both.{graph_value}
+use Rattle.transfer.specs.Shows.{graph_step}
 use Rattle.formula_elab.specs.Bodies.{Page, empty_page, size_of}
 use Rattle.formula_elab.specs.Types.{formula_ty}
-use Rattle.formula_elab.specs.Writing.{variables, with_line, with_named, with_nodes_of, written, written_each}
+use Rattle.formula_elab.specs.Writing.{variables, with_each_named, with_line, with_named, with_nodes_of, written, written_each}
 use Rattle.formula_elab.specs.declared.body.OpenLine.{OpenLine}
 use Rattle.formula_elab.specs.declared.body.OpenLine.TheVariants.{Ready, Bind}
 use Rattle.formula_elab.proofs.Lists.{Begins, begins_all, begins_more, begins_then}
@@ -20,6 +21,10 @@ named_lines nodes p (Int z) = refl
 named_lines nodes p (Bool b) = refl
 named_lines nodes p (Text bytes) = refl
 named_lines nodes p (Reference target base) = refl
+
+pub named_each_lines : (nodes : ℕ → NodeId) (p : Page) (steps : List TimedValue) → (with_each_named nodes p steps).lines ≡ p.lines
+named_each_lines nodes p [] = refl
+named_each_lines nodes p (s ∷ steps) = named_each_lines nodes (with_named nodes p s.value) steps ∙ named_lines nodes p s.value
 
 -- the page begins with the other
 pub record Grows (q p : Page) : Type 0 where
@@ -49,6 +54,12 @@ grows_named nodes p (Reference target base) = record {
   listed = begins_more p.listed ((with_named nodes empty_page (Reference target base)).listed);
   lines = begins_all p.lines;
 }
+
+pub grows_each_named : (nodes : ℕ → NodeId) (p : Page) (steps : List TimedValue) → Grows (with_each_named nodes p steps) p
+grows_each_named nodes p [] = grows_not p
+grows_each_named nodes p (s ∷ steps) =
+    let q = with_named nodes p s.value in
+    grows_then (with_each_named nodes q steps) q p (grows_each_named nodes q steps) (grows_named nodes p s.value)
 
 module _ (nodes : ℕ → NodeId) (tys : ℕ → Ty) where
   mutual
@@ -92,6 +103,13 @@ module _ (nodes : ℕ → NodeId) (tys : ℕ → Ty) where
         let q = with_nodes_of l.page i.page in
         let line = Bind l.root (start + (length l.makes + length i.makes)) (size_of i.page) (variables (length bounds)) in
         grows_then (with_line q line) q p (grows_line q line) (grows_then q l.page p (grows_nodes l.page i.page) (grows bounds start p left))
+    grows bounds start p (script.At time) = grows_line p (Ready (lines.At (pos time)))
+    grows bounds start p (script.Steps first steps) =
+        let q = with_named nodes p first in
+        let r = with_each_named nodes q steps in
+        let line = Ready (lines.Steps (graph_value nodes first) (map (graph_step nodes) steps)) in
+        grows_then (with_line r line) r p (grows_line r line) (grows_then r q p (grows_each_named nodes q steps) (grows_named nodes p first))
+    grows bounds start p script.Now = grows_line p (Ready lines.Now)
     grows bounds start p f = grows_not p
 
     pub grows_all : (bounds : List Ty) (start : ℕ) (p : Page) (fs : Formulas) → Grows (written_each nodes tys bounds start p fs).page p

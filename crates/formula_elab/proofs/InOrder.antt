@@ -1,5 +1,5 @@
 -- What is laid out needs only nodes and functions that are made before it.
-use Rattle.std.proofs.Common.{◌≡◌, ℕ, suc, ◌+◌, List, [], ◌∷◌, ◌++◌, length, All, Some, arith, refl, subst, sym, ◌∙◌}
+use Rattle.std.proofs.Common.{◌≡◌, ℕ, suc, ◌+◌, List, [], ◌∷◌, ◌++◌, length, map, pos, All, Some, arith, refl, subst, sym, ◌∙◌}
 use Rattle.std.proofs.lemmas.List.{append_assoc, length-append}
 use Rattle.std.proofs.lemmas.List.Elements.{All-nil, All-cons}
 use Rattle.std.specs.List.{slice_get}
@@ -9,21 +9,23 @@ use Rattle.inc_value.specs.declared.ty.Ty.{Ty}
 use Rattle.script_functions.specs.declared.line.Line.{Line}
 use Rattle.script_functions.specs.declared.line.Line.TheVariants as lines
 use Rattle.script_model.specs.Formula as script
-use Rattle.script_model.specs.Formula.{Formula, Formulas, Literal, Apply, End, More, Variable, Computed}
+use Rattle.script_model.specs.Formula.{Formula, Formulas, Literal, Apply, End, More, Variable, Computed, After}
 use Rattle.transfer.specs.Both.{graph_value}
+use Rattle.transfer.specs.Shows.{graph_step}
 use Rattle.formula_elab.specs.Bodies.{Page, empty_page, size_of}
 use Rattle.formula_elab.specs.Laying.{laid, laid_each, laid_body}
 use Rattle.formula_elab.specs.Made.{LaidInOrder}
-use Rattle.formula_elab.specs.Opened.{IsEarlier, LineNeedsEarlier, AreInOrder}
+use Rattle.formula_elab.specs.Opened.{IsEarlier, LineNeedsEarlier, NodeNeedsEarlier, AreInOrder}
 use Rattle.formula_elab.specs.Types.{formula_ty, joined_ty}
-use Rattle.formula_elab.specs.Writing.{body_of, variables, with_named, written, written_body, written_each}
+use Rattle.formula_elab.specs.Writing.{body_of, variables, with_each_named, with_named, written, written_body, written_each}
 use Rattle.formula_elab.specs.declared.body.OpenLine.TheVariants as open_line
 use Rattle.formula_elab.specs.declared.opened.Open.{Open}
+use Rattle.formula_elab.specs.declared.opened.Open.TheVariants as opened
 use Rattle.formula_elab.specs.declared.opened.Open.TheVariants.{Const, Var, Map, Fold, If, Join, Bind}
 use Rattle.formula_elab.specs.declared.opened.Part.TheVariants.{Made}
 use Rattle.formula_elab.specs.declared.plan.Planned.{Planned}
 use Rattle.formula_elab.specs.declared.plan.Planned.TheVariants.{Body, Node}
-use Rattle.formula_elab.proofs.Grows.{named_lines}
+use Rattle.formula_elab.proofs.Grows.{named_lines, named_each_lines}
 use Rattle.formula_elab.proofs.Lists.{every_more, get_there, get_next, get_behind}
 use Rattle.formula_elab.proofs.Order.{order_append, earlier_more, lines_more}
 
@@ -102,6 +104,16 @@ module _ (nodes : ℕ → NodeId) (tys : ℕ → Ty) where
           order_append earlier l.makes (i.makes ++ Body o ∷ []) first.0 (order_append before i.makes (Body o ∷ []) inner.0 (inner.1, tt)),
           every_more (LineNeedsEarlier (earlier ++ makes)) l.page.lines line old (o, last),
         )
+    written_in_order earlier bounds start p (script.At time) size h =
+        (tt, ready_more (earlier ++ []) p (lines.At (pos time)) (lines_more earlier [] p.lines h))
+    written_in_order earlier bounds start p (script.Steps first steps) size h =
+        let q = with_named nodes p first in
+        let r = with_each_named nodes q steps in
+        let named = subst (λ xs. Every (LineNeedsEarlier earlier) xs) (sym (named_each_lines nodes q steps ∙ named_lines nodes p first)) h in
+        let line = lines.Steps (graph_value nodes first) (map (graph_step nodes) steps) in
+        (tt, ready_more (earlier ++ []) r line (lines_more earlier [] r.lines named))
+    written_in_order earlier bounds start p script.Now size h =
+        (tt, ready_more (earlier ++ []) p lines.Now (lines_more earlier [] p.lines h))
     written_in_order earlier bounds start p f size h = (tt, lines_more earlier [] p.lines h)
 
     all_written_in_order : (earlier : List Planned) (bounds : List Ty) (start : ℕ) (p : Page) (fs : Formulas) → length earlier ≡ start
@@ -125,15 +137,18 @@ root_is : (earlier xs : List Planned) (x : Open) (start : ℕ) → length earlie
     → IsEarlier (earlier ++ (xs ++ Node x ∷ [])) (Made (start + length xs))
 root_is earlier xs x start size = (x, get_behind earlier (xs ++ Node x ∷ []) (length xs) start (Node x) size (get_there xs [] (Node x)))
 
+-- one that needs none before it
+alone : (earlier : List Planned) (start : ℕ) (x : Open) → NodeNeedsEarlier earlier x → length earlier ≡ start
+    → AreInOrder earlier (Node x ∷ []) × IsEarlier (earlier ++ Node x ∷ []) (Made start)
+alone earlier start x needs size =
+    ((needs, tt), (x, subst (λ i. slice_get (earlier ++ Node x ∷ []) i ≡ Some (Node x)) size (get_there earlier [] (Node x))))
+
 module _ (nodes : ℕ → NodeId) (tys : ℕ → Ty) where
   mutual
     formula_in_order : (earlier : List Planned) (start : ℕ) (f : Formula) → length earlier ≡ start
         → AreInOrder earlier (laid nodes tys start f).makes
         × IsEarlier (earlier ++ (laid nodes tys start f).makes) (laid nodes tys start f).root
-    formula_in_order earlier start (Literal v) size =
-        let x = Const (graph_value nodes v) in
-        let at = get_there earlier [] (Node x) in
-        ((tt, tt), (x, subst (λ i. slice_get (earlier ++ Node x ∷ []) i ≡ Some (Node x)) size at))
+    formula_in_order earlier start (Literal v) size = alone earlier start (Const (graph_value nodes v)) tt size
     formula_in_order earlier start (Apply function arguments) size =
         let each = laid_each nodes tys start arguments in
         let parts = formulas_in_order earlier start arguments size in
@@ -198,6 +213,10 @@ module _ (nodes : ℕ → NodeId) (tys : ℕ → Ty) where
               (order_append behind_l w.makes (Body o ∷ Node whole ∷ []) second.0 (second.1, ((left_there, (o, body_there)), tt))),
           (whole, subst (λ i. slice_get (earlier ++ (l.makes ++ tail)) i ≡ Some (Node whole)) there last),
         )
+    formula_in_order earlier start (script.At time) size = alone earlier start (opened.At (pos time)) tt size
+    formula_in_order earlier start (script.Steps first steps) size =
+        alone earlier start (opened.Steps (graph_value nodes first) (map (graph_step nodes) steps)) tt size
+    formula_in_order earlier start script.Now size = alone earlier start opened.Now tt size
     formula_in_order earlier start f size = (tt, tt)
 
     formulas_in_order : (earlier : List Planned) (start : ℕ) (fs : Formulas) → length earlier ≡ start
@@ -221,6 +240,8 @@ module _ (nodes : ℕ → NodeId) (tys : ℕ → Ty) where
       → AreInOrder [] (laid_body nodes tys 0 body).makes × IsEarlier (laid_body nodes tys 0 body).makes (laid_body nodes tys 0 body).root
   body_in_order (Variable v) = ((tt, tt), (Var (graph_value nodes v), refl))
   body_in_order (Computed f kept) = formula_in_order [] 0 f refl
+  body_in_order (After time) = ((tt, tt), (opened.At (pos time), refl))
+  body_in_order (script.Every base span) = ((tt, tt), (opened.Every (pos base) span, refl))
   body_in_order body = (tt, tt)
 
 pub laid_in_order : LaidInOrder

@@ -1,19 +1,20 @@
 -- One line is written for each place, and for a bind its function takes the rest.
-use Rattle.std.proofs.Common.{◌≡◌, ℕ, ◌+◌, List, [], ◌∷◌, length, arith, refl}
+use Rattle.std.proofs.Common.{◌≡◌, ℕ, ◌+◌, List, [], ◌∷◌, length, map, pos, arith, refl, ◌∙◌}
 use Rattle.std.proofs.lemmas.List.Sums.{sum_by-append}
 use Rattle.inc_value.specs.declared.node.NodeId.{NodeId}
 use Rattle.inc_value.specs.declared.ty.Ty.{Ty}
 use Rattle.script_functions.specs.declared.line.Line.TheVariants as lines
 use Rattle.script_model.specs.Formula as script
-use Rattle.script_model.specs.Formula.{Formula, Formulas, Literal, Name, Bound, Apply, End, More}
+use Rattle.script_model.specs.Formula.{Formula, Formulas, TimedValue, Literal, Name, Bound, Apply, End, More}
 use Rattle.script_model.specs.Formula.{places_in, places_in_all}
 use Rattle.script_model.specs.Values.{Value, Int, Bool, Text, Reference}
 use Rattle.transfer.specs.Both.{graph_value}
+use Rattle.transfer.specs.Shows.{graph_step}
 use Rattle.formula_elab.specs.Bodies.{Page, empty_page, open_size, size_of}
 use Rattle.formula_elab.specs.Made.{OneLineEach}
 use Rattle.formula_elab.specs.Today.{IsLaidOut, AreLaidOut}
 use Rattle.formula_elab.specs.Types.{formula_ty}
-use Rattle.formula_elab.specs.Writing.{with_line, with_named, variables, written, written_each}
+use Rattle.formula_elab.specs.Writing.{with_each_named, with_line, with_named, variables, written, written_each}
 use Rattle.formula_elab.specs.declared.body.OpenLine.{OpenLine}
 use Rattle.formula_elab.specs.declared.body.OpenLine.TheVariants.{Ready, Bind}
 
@@ -29,6 +30,10 @@ size_named nodes p (Int z) = refl
 size_named nodes p (Bool b) = refl
 size_named nodes p (Text bytes) = refl
 size_named nodes p (Reference target base) = refl
+
+size_each_named : (nodes : ℕ → NodeId) (p : Page) (steps : List TimedValue) → size_of (with_each_named nodes p steps) ≡ size_of p
+size_each_named nodes p [] = refl
+size_each_named nodes p (s ∷ steps) = size_each_named nodes (with_named nodes p s.value) steps ∙ size_named nodes p s.value
 
 module _ (nodes : ℕ → NodeId) (tys : ℕ → Ty) where
   mutual
@@ -69,7 +74,13 @@ module _ (nodes : ℕ → NodeId) (tys : ℕ → Ty) where
         let first = line_each bounds start p left is_laid.0 in
         let inner = line_each (u ∷ bounds) (start + length l.makes) empty_page body is_laid.1 in
         omega (arith, more, first, inner)
-    line_each bounds start p f is_laid = absurd is_laid
+    line_each bounds start p (script.At time) is_laid = let more = size_more p (Ready (lines.At (pos time))) in omega (arith, more)
+    line_each bounds start p (script.Steps first steps) is_laid =
+        let q = with_named nodes p first in
+        let r = with_each_named nodes q steps in
+        let more = size_more r (Ready (lines.Steps (graph_value nodes first) (map (graph_step nodes) steps))) in
+        omega (arith, more, size_each_named nodes q steps, size_named nodes p first)
+    line_each bounds start p script.Now is_laid = let more = size_more p (Ready lines.Now) in omega (arith, more)
 
     line_each_of_all : (bounds : List Ty) (start : ℕ) (p : Page) (fs : Formulas) → AreLaidOut (length bounds) fs
         → size_of (written_each nodes tys bounds start p fs).page ≡ size_of p + places_in_all fs

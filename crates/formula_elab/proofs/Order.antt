@@ -7,6 +7,7 @@ use Rattle.formula_elab.specs.Opened.{IsEarlier, IsEarlierBody, LineNeedsEarlier
 use Rattle.formula_elab.specs.declared.body.OpenLine.{OpenLine}
 use Rattle.formula_elab.specs.declared.body.OpenLine.TheVariants as line
 use Rattle.formula_elab.specs.declared.opened.Open.{Open}
+use Rattle.formula_elab.specs.declared.opened.Open.TheVariants as opened
 use Rattle.formula_elab.specs.declared.opened.Open.TheVariants.{Const, Var, Map, Fold, If, Join, Bind}
 use Rattle.formula_elab.specs.declared.opened.Part.{Part}
 use Rattle.formula_elab.specs.declared.opened.Part.TheVariants.{Given, Made}
@@ -46,6 +47,10 @@ module _ (earlier more : List Planned) where
   node_more (If ty test a b) h = (earlier_more test h.0, earlier_more a h.1, earlier_more b h.2)
   node_more (Join ty child) h = earlier_more child h
   node_more (Bind ty left body) h = (earlier_more left h.0, earlier_body_more body h.1)
+  node_more (opened.At time) h = tt
+  node_more (opened.Steps first steps) h = tt
+  node_more opened.Now h = tt
+  node_more (opened.Every base span) h = tt
 
   pub needs_more : (x : Planned) → NeedsEarlier earlier x → NeedsEarlier (earlier ++ more) x
   needs_more (Body o) h = lines_more o.page.lines h

@@ -4,7 +4,7 @@ use Rattle.std.proofs.lemmas.List.{length-append}
 use Rattle.inc_value.specs.declared.node.NodeId.{NodeId}
 use Rattle.inc_value.specs.declared.ty.Ty.{Ty}
 use Rattle.script_model.specs.Formula as script
-use Rattle.script_model.specs.Formula.{Formula, Formulas, Body, Literal, Name, Apply, End, More, Variable, Computed}
+use Rattle.script_model.specs.Formula.{Formula, Formulas, Body, Literal, Name, Apply, End, More, Variable, Computed, After}
 use Rattle.script_model.specs.Formula.{places_in, places_in_all, places_of_body}
 use Rattle.transfer.specs.Both.{graph_value}
 use Rattle.formula_elab.specs.Bodies.{Page, empty_page}
@@ -98,7 +98,9 @@ module _ (nodes : ℕ → NodeId) (tys : ℕ → Ty) where
         let inner = few_written (u ∷ []) (start + length l.makes) empty_page body in
         omega (arith, size, rest, here, inner)
     few start (script.Bound k) is_laid = absurd (omega (arith, is_laid))
-    few start f is_laid = absurd is_laid
+    few start (script.At time) is_laid = omega arith
+    few start (script.Steps first steps) is_laid = omega arith
+    few start script.Now is_laid = omega arith
 
     all_few : (start : ℕ) (fs : Formulas) → AreLaidOut 0 fs → length (laid_each nodes tys start fs).makes ≤ places_in_all fs
     all_few start End is_laid = omega arith
@@ -111,6 +113,8 @@ module _ (nodes : ℕ → NodeId) (tys : ℕ → Ty) where
   pub few_of_body : (body : Body) → IsLaidOutBody body → length (laid_body nodes tys 0 body).makes ≤ places_of_body body
   few_of_body (Variable v) is_laid = omega arith
   few_of_body (Computed f kept) is_laid = few 0 f is_laid
+  few_of_body (After time) is_laid = omega arith
+  few_of_body (script.Every base span) is_laid = omega arith
   few_of_body body is_laid = absurd is_laid
 
 pub few_makes : FewMakes

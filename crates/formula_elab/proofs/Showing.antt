@@ -1,5 +1,5 @@
 -- The root of what was made shows what it was made for.
-use Rattle.std.proofs.Common.{◌≡◌, ℕ, suc, ◌+◌, List, [], ◌∷◌, ◌++◌, length, map, None, Some, arith, refl, sym, ◌∙◌, ap, subst}
+use Rattle.std.proofs.Common.{◌≡◌, ℕ, suc, ◌+◌, List, [], ◌∷◌, ◌++◌, length, map, pos, None, Some, arith, refl, sym, ◌∙◌, ap, subst}
 use Rattle.std.proofs.lemmas.Option.{slice_get_within}
 use Rattle.std.specs.List.{slice_get}
 use Rattle.inc_value.specs.declared.function.FnRef.{FnRef}
@@ -10,13 +10,13 @@ use Rattle.inc_terms.specs.Graph.{Graph}
 use Rattle.inc_terms.specs.Term as term
 use Rattle.inc_terms.specs.Term.{refs}
 use Rattle.script_model.specs.Formula as script
-use Rattle.script_model.specs.Formula.{Formula, Formulas, Literal, Name, Apply, End, More, Variable, Computed}
+use Rattle.script_model.specs.Formula.{Formula, Formulas, Literal, Name, Apply, End, More, Variable, Computed, After}
 use Rattle.script_model.specs.Leaves.{EveryLeaf, EveryLeafOfAll}
 use Rattle.transfer.specs.Both.{Both, graph_value}
-use Rattle.transfer.specs.Shows.{Built, Shows, ShowsAll, Opens, IsTop, Declares, Writes, plain}
+use Rattle.transfer.specs.Shows.{Built, Shows, ShowsAll, Opens, IsTop, Declares, Writes, graph_step, plain}
 use Rattle.formula_elab.specs.Bodies.{empty_page, IsMadeOf, OpenBody}
 use Rattle.formula_elab.specs.Laying.{laid, laid_each, laid_body}
-use Rattle.formula_elab.specs.Made.{RootDeclares}
+use Rattle.formula_elab.specs.Made.{CountsAlike, RootDeclares}
 use Rattle.formula_elab.specs.Make.{function_made, made_at}
 use Rattle.formula_elab.specs.Names.{EveryNameOf}
 use Rattle.formula_elab.specs.Opened.{made_node, node_of, filled}
@@ -25,12 +25,13 @@ use Rattle.formula_elab.specs.Types.{formula_ty, joined_ty}
 use Rattle.formula_elab.specs.Writing.{body_of, written_body}
 use Rattle.formula_elab.specs.declared.make.Made.{Made}
 use Rattle.formula_elab.specs.declared.opened.Open.{Open}
+use Rattle.formula_elab.specs.declared.opened.Open.TheVariants as opened
 use Rattle.formula_elab.specs.declared.opened.Open.TheVariants.{Const, Var, Map, Fold, If, Join, Bind}
 use Rattle.formula_elab.specs.declared.plan.Planned.{Planned}
 use Rattle.formula_elab.specs.declared.plan.Planned.TheVariants.{Body, Node}
 use Rattle.formula_elab.proofs.Lists.{StandsAt, at_split, at_all, begins_all}
 use Rattle.formula_elab.proofs.Terms.{page_terms, made_term}
-use Rattle.formula_elab.proofs.Writes.{spots_of, value_same, writes}
+use Rattle.formula_elab.proofs.Writes.{spots_of, steps_same, value_same, writes}
 
 -- ---- nodes
 
@@ -57,6 +58,10 @@ opens_join G n k top = (n, top.0, refl, top.1, top.2, ap plain top.3)
 opens_bind : (G : Graph) (n l : NodeId) (f : FnRef) → IsTop G n (graph.Bind l f [])
     → Opens G (Built None) (term.Ref n) (term.Bind (term.Ref l) f term.End)
 opens_bind G n l f top = (n, top.0, refl, top.1, top.2, ap plain top.3)
+
+-- what reads no other node
+opens_alone : (G : Graph) (n : NodeId) (d : graph.Def) (t : term.Term) → plain d ≡ Some t → IsTop G n d → Opens G (Built None) (term.Ref n) t
+opens_alone G n d t is top = (n, top.0, refl, top.1, top.2, ap plain top.3 ∙ is)
 
 -- ---- formulas
 
@@ -152,7 +157,15 @@ module _ (x : Both) (nodes : ℕ → NodeId) (tys : ℕ → Ty) (makes : List Pl
               (page_terms made w.page.listed v w.page.lines) (begins_all (page_terms made w.page.listed v w.page.lines))),
         )
     shows start (script.Bound k) is_laid leaves at = absurd (omega (arith, is_laid))
-    shows start f is_laid leaves at = absurd is_laid
+    shows start (script.At time) is_laid leaves at =
+        opens_alone x.graph (made_node made start) (graph.At (pos time)) (term.At (pos time)) refl (tops start (opened.At (pos time)) at.0)
+    shows start (script.Steps first steps) is_laid leaves at =
+        opens_alone x.graph (made_node made start) (graph.Steps (graph_value nodes first) (map (graph_step nodes) steps))
+        (term.Steps (graph_value x.nodes first) (map (graph_step x.nodes) steps))
+        (rw (value_same nodes x.nodes first leaves.0, steps_same nodes x.nodes steps leaves.1) refl)
+        (tops start (opened.Steps (graph_value nodes first) (map (graph_step nodes) steps)) at.0)
+    shows start script.Now is_laid leaves at =
+        opens_alone x.graph (made_node made start) graph.Now term.Now refl (tops start opened.Now at.0)
 
     shows_each : (start : ℕ) (fs : Formulas) → AreLaidOut 0 fs → EveryLeafOfAll Same Same fs
         → StandsAt makes start (laid_each nodes tys start fs).makes
@@ -164,20 +177,22 @@ module _ (x : Both) (nodes : ℕ → NodeId) (tys : ℕ → Ty) (makes : List Pl
         let parts = at_split makes start first.makes (laid_each nodes tys next rest).makes at in
         (shows start f is_laid.0 leaves.0 parts.0, shows_each next rest is_laid.1 leaves.1 parts.1)
 
-  body_declares : (body : script.Body) → EveryNameOf Same body → StandsAt makes 0 (laid_body nodes tys 0 body).makes
+  body_declares : (body : script.Body) → EveryNameOf Same body → CountsAlike x body → StandsAt makes 0 (laid_body nodes tys 0 body).makes
       → Declares x (node_of made (laid_body nodes tys 0 body).root) (Some body)
-  body_declares (Variable v) names at =
+  body_declares (Variable v) names counts at =
       let top = tops 0 (Var (graph_value nodes v)) at.0 in
       (top.0, top.1, top.2, top.3 ∙ ap graph.Var (value_same nodes x.nodes v names.1))
-  body_declares (Computed f kept) names at = shows 0 f names.0 names.1 at
-  body_declares body names at = absurd names.0
+  body_declares (Computed f kept) names counts at = shows 0 f names.0 names.1 at
+  body_declares (After time) names counts at = tops 0 (opened.At (pos time)) at.0
+  body_declares (script.Every base span) names counts at = (tops 0 (opened.Every (pos base) span) at.0, counts)
+  body_declares body names counts at = absurd names.0
 
 pub root_declares : RootDeclares
-root_declares nodes tys body x made names stands all =
+root_declares nodes tys body x made names counts stands all =
     body_declares x nodes tys makes made
     (λ i y at. stands.top i y at (omega (arith, slice_get_within makes i (Node y) at, all)))
     (λ i o at. stands.functions i o at (omega (arith, slice_get_within makes i (Body o) at, all)))
-    body names (at_all makes)
+    body names counts (at_all makes)
   where
     makes : List Planned
     makes = (laid_body nodes tys 0 body).makes

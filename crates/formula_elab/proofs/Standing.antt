@@ -21,6 +21,7 @@ use Rattle.formula_elab.specs.declared.body.OpenLine.TheVariants as open_line
 use Rattle.formula_elab.specs.declared.make.Made.{Made}
 use Rattle.formula_elab.specs.declared.make.Made.TheVariants as was
 use Rattle.formula_elab.specs.declared.opened.Open.{Open}
+use Rattle.formula_elab.specs.declared.opened.Open.TheVariants as opened
 use Rattle.formula_elab.specs.declared.opened.Open.TheVariants.{Const, Var, Map, Fold, If, Join, Bind}
 use Rattle.formula_elab.specs.declared.opened.Part.{Part}
 use Rattle.formula_elab.specs.declared.opened.Part.TheVariants.{Given, Made as Numbered}
@@ -65,6 +66,10 @@ module _ (made : List Made) (m : Made) (earlier : List Planned) (within : length
   filled_stays (If ty test a b) h = rw (node_of_stays test h.0, node_of_stays a h.1, node_of_stays b h.2) refl
   filled_stays (Join ty child) h = ap (λ (n : NodeId). graph.Join n) (node_of_stays child h)
   filled_stays (Bind ty left body) h = rw (node_of_stays left h.0, function_stays body h.1) refl
+  filled_stays (opened.At time) h = refl
+  filled_stays (opened.Steps first steps) h = refl
+  filled_stays opened.Now h = refl
+  filled_stays (opened.Every base span) h = refl
 
   line_stays : (x : OpenLine) → LineNeedsEarlier earlier x → line_filled (made ++ m ∷ []) x ≡ line_filled made x
   line_stays (open_line.Ready line) h = refl

@@ -1,5 +1,5 @@
 -- Bodies that are laid out have lines and roots of their types.
-use Rattle.std.proofs.Common.{◌≡◌, ℕ, zero, suc, ◌+◌, Bool, List, [], ◌∷◌, ◌++◌, length, take, Some, arith, refl, sym, ◌∙◌, ap, subst}
+use Rattle.std.proofs.Common.{◌≡◌, ℕ, zero, suc, ◌+◌, Bool, List, [], ◌∷◌, ◌++◌, length, pos, take, Some, arith, refl, sym, ◌∙◌, ap, subst}
 use Rattle.std.proofs.lemmas.List.{append-nil, append_assoc}
 use Rattle.std.specs.List.{slice_get}
 use Rattle.inc_value.specs.declared.function.FnRef.{FnRef}
@@ -9,7 +9,7 @@ use Rattle.inc_value.specs.declared.ty.Ty.TheVariants as types
 use Rattle.formula_lang.specs.Fits.{ArgumentsFit, BodyFits, ElementsFit, FormulaFits}
 use Rattle.script_model.specs.Check.{Names}
 use Rattle.script_model.specs.Formula as script
-use Rattle.script_model.specs.Formula.{Formula, Formulas, Literal, Apply, End, More, Variable, Computed}
+use Rattle.script_model.specs.Formula.{Formula, Formulas, Literal, Apply, End, More, Variable, Computed, After}
 use Rattle.transfer.specs.Both.{graph_value}
 use Rattle.formula_elab.specs.Bodies.{empty_page, Page}
 use Rattle.formula_elab.specs.Laying.{laid, laid_each, laid_body}
@@ -17,6 +17,7 @@ use Rattle.formula_elab.specs.Made.{LaidTyped}
 use Rattle.formula_elab.specs.Opened.{AreTyped, IsTyped, IsTypedIn}
 use Rattle.formula_elab.specs.Types.{formula_ty, joined_ty, type_at, AreTypedAsTargets}
 use Rattle.formula_elab.specs.Writing.{body_of, with_named, written, written_body, written_each}
+use Rattle.formula_elab.specs.declared.opened.Open.TheVariants as opened
 use Rattle.formula_elab.specs.declared.opened.Open.TheVariants.{Var, Map, Fold, If, Join, Bind}
 use Rattle.formula_elab.specs.declared.plan.Planned.{Planned}
 use Rattle.formula_elab.specs.declared.plan.Planned.TheVariants.{Body, Node}
@@ -181,6 +182,9 @@ module _ (known : FnRef → Bool) (names : Names) (targets : AreTypedAsTargets n
         typed_append earlier l.makes (w.makes ++ Body o ∷ last ∷ []) (formula_typed earlier start left fits.0 fits.1 size)
         (typed_append before w.makes (Body o ∷ last ∷ []) (written_typed before (u ∷ []) (start + length l.makes) empty_page body ty inner size_l)
         (is_typed, (tt, tt)))
+    formula_typed earlier start (script.At time) ty fits size = (tt, tt)
+    formula_typed earlier start (script.Steps first steps) ty fits size = (tt, tt)
+    formula_typed earlier start script.Now ty fits size = (tt, tt)
     formula_typed earlier start f ty fits size = tt
 
     arguments_laid : (earlier : List Planned) (start : ℕ) (fs : Formulas) (takes : List Ty) → ArgumentsFit known names [] fs takes
@@ -205,6 +209,8 @@ module _ (known : FnRef → Bool) (names : Names) (targets : AreTypedAsTargets n
   pub body_of_types : (body : script.Body) (ty : Ty) → BodyFits known names body ty → AreTyped (laid_body nodes tys 0 body).makes
   body_of_types (Variable v) ty fits = all_typed (Node (Var (graph_value nodes v)) ∷ []) (tt, tt)
   body_of_types (Computed f kept) ty fits = all_typed (laid nodes tys 0 f).makes (formula_typed [] 0 f ty fits.0 refl)
+  body_of_types (After time) ty fits = all_typed (Node (opened.At (pos time)) ∷ []) (tt, tt)
+  body_of_types (script.Every base span) ty fits = all_typed (Node (opened.Every (pos base) span) ∷ []) (tt, tt)
   body_of_types body ty fits = absurd fits
 
 pub laid_typed : LaidTyped

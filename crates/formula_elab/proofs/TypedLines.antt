@@ -1,5 +1,5 @@
 -- The lines of a page are of their types, with what was made.
-use Rattle.std.proofs.Common.{◌≡◌, ℕ, zero, suc, ◌+◌, Bool, List, [], ◌∷◌, ◌++◌, length, map, Option, Some, arith, refl, sym, ◌∙◌, ap, subst}
+use Rattle.std.proofs.Common.{◌≡◌, ℕ, zero, suc, ◌+◌, Bool, List, [], ◌∷◌, ◌++◌, length, map, pos, Option, Some, arith, refl, sym, ◌∙◌, ap, subst}
 use Rattle.std.proofs.lemmas.List.{append-nil, append_assoc, length-map, map-append}
 use Rattle.std.proofs.lemmas.Option.{slice_get_within, get_or_from_slice_get}
 use Rattle.std.specs.List.{slice_get}
@@ -7,28 +7,31 @@ use Rattle.std.specs.Option.{option_map}
 use Rattle.inc_value.specs.Choice.{Every}
 use Rattle.inc_value.specs.Sig.{Signature}
 use Rattle.inc_value.specs.Ty.{base_of}
+use Rattle.inc_terms.specs.Term.{Step}
 use Rattle.inc_value.specs.declared.function.FnRef.{FnRef}
 use Rattle.inc_value.specs.declared.node.NodeId.{NodeId}
 use Rattle.inc_value.specs.declared.ty.Ty.{Ty}
 use Rattle.inc_value.specs.declared.ty.Ty.TheVariants as types
 use Rattle.node_arena.specs.Listing.{Listed}
-use Rattle.script_functions.specs.Lines.{type_in, AreTyped, BindTakes, FoldTakes, LineHas, PartsHave}
+use Rattle.node_arena.specs.RightSide.{ValueHas}
+use Rattle.script_functions.specs.Lines.{type_in, AreTyped, BindTakes, FoldTakes, IsListedAs, LineHas, PartsHave}
 use Rattle.script_functions.specs.declared.line.Line.{Line}
 use Rattle.script_functions.specs.declared.line.Line.TheVariants as lines
 use Rattle.script_functions.specs.declared.line.Part.{Part}
 use Rattle.script_functions.specs.declared.line.Part.TheVariants as part
 use Rattle.script_functions.specs.declared.line.TypedLine.{TypedLine}
-use Rattle.formula_lang.specs.Fits.{ArgumentsFit, ElementsFit, FormulaFits}
+use Rattle.formula_lang.specs.Fits.{ArgumentsFit, ElementsFit, FormulaFits, StepsFit}
 use Rattle.script_model.specs.Check.{Names}
 use Rattle.script_model.specs.Formula as script
-use Rattle.script_model.specs.Formula.{Formula, Formulas, Literal, Name, Bound, Apply, End, More}
+use Rattle.script_model.specs.Formula.{Formula, Formulas, TimedValue, Literal, Name, Bound, Apply, End, More}
 use Rattle.script_model.specs.Values.{Value}
 use Rattle.transfer.specs.Both.{graph_value}
+use Rattle.transfer.specs.Shows.{graph_step}
 use Rattle.formula_elab.specs.Bodies.{empty_page, line_filled, size_of, OpenBody, Page}
 use Rattle.formula_elab.specs.Make.{function_made, made_at, no_node}
 use Rattle.formula_elab.specs.Opened.{AreMadeAs}
 use Rattle.formula_elab.specs.Types.{formula_ty, type_at, AreTypedAsTargets}
-use Rattle.formula_elab.specs.Writing.{body_of, variable, variables_from, variables, with_line, with_named, with_nodes_of, written, written_each}
+use Rattle.formula_elab.specs.Writing.{body_of, variable, variables_from, variables, with_each_named, with_line, with_named, with_nodes_of, written, written_each}
 use Rattle.formula_elab.specs.declared.body.OpenLine.{OpenLine}
 use Rattle.formula_elab.specs.declared.body.OpenLine.TheVariants.{Ready, Bind}
 use Rattle.formula_elab.specs.declared.make.Made.{Made}
@@ -36,7 +39,7 @@ use Rattle.formula_elab.specs.declared.make.Made.TheVariants as was
 use Rattle.formula_elab.specs.declared.plan.Planned.{Planned}
 use Rattle.formula_elab.specs.declared.plan.Planned.TheVariants as planned
 use Rattle.formula_elab.proofs.Fitting.{base_is, formula_type, name_type, value_has}
-use Rattle.formula_elab.proofs.Grows.{grows, grows_all, named_lines}
+use Rattle.formula_elab.proofs.Grows.{grows, grows_all, grows_each_named, named_each_lines, named_lines}
 use Rattle.formula_elab.proofs.Lists.{StandsAt, at_split, Begins, begins_all, begins_more, begins_then, begins_get, get_there}
 use Rattle.formula_elab.proofs.MadeAs.{kinds_at}
 
@@ -206,6 +209,23 @@ module _ (known : FnRef → Bool) (names : Names) (targets : AreTypedAsTargets n
     fit = are.fit;
   }
 
+  each_named_typed : (first : Ty) (outer : List Ty) (listed : List Listed) (p : Page) (steps : List TimedValue) (xs : List TypedLine)
+      → AreLines made first outer listed p xs → AreLines made first outer listed (with_each_named nodes p steps) xs
+  each_named_typed first outer listed p steps xs are = record {
+    same = are.same ∙ ap (map (line_filled made)) (sym (named_each_lines nodes p steps));
+    fit = are.fit;
+  }
+
+  -- the values of steps, whose nodes are listed
+  steps_have : (p : Page) (steps : List TimedValue) (ty : Ty) (listed : List Listed) → StepsFit names steps ty
+      → Begins listed (with_each_named nodes p steps).listed
+      → Every (λ (s : Step). ValueHas (IsListedAs listed) s.value ty) (map (graph_step nodes) steps)
+  steps_have p [] ty listed fits ids = tt
+  steps_have p (s ∷ steps) ty listed fits ids =
+      let q = with_named nodes p s.value in
+      let ids_q = begins_then listed (with_each_named nodes q steps).listed q.listed ids (grows_each_named nodes q steps).listed in
+      (value_has nodes p s.value ty listed fits.0.0 ids_q, steps_have q steps ty listed fits.1 ids)
+
   mutual
     pub lines_typed : (first : Ty) (outer : List Ty) (start : ℕ) (p : Page) (f : Formula) (ty : Ty)
         → FormulaFits known names (first ∷ outer) f ty
@@ -301,7 +321,18 @@ module _ (known : FnRef → Bool) (names : Names) (targets : AreTypedAsTargets n
         (Bind l.root number (size_of i.page) (variables (length bounds))) ty
         (bind_has first outer listed lefts.all o number (subst (λ j. slice_get earlier j ≡ Some (planned.Body o)) there two.1.0) u refl l.root left_is
         (size_of i.page) ty (formula_type known names targets bounds (script.Bind left body) ty fits))
-    lines_typed first outer start p f ty fits at listed ids before are = absurd fits
+    lines_typed first outer start p (script.At time) ty fits at listed ids before are =
+        line_added made first outer listed before p before (begins_all before) are (Ready (lines.At (pos time))) ty (sym fits)
+    lines_typed first outer start p (script.Steps v steps) ty fits at listed ids before are =
+        let q = with_named nodes p v in
+        let r = with_each_named nodes q steps in
+        let ids_q = begins_then listed r.listed q.listed ids (grows_each_named nodes q steps).listed in
+        let named = each_named_typed first outer listed q steps before (named_typed first outer listed p v before are) in
+        line_added made first outer listed before r before (begins_all before) named
+        (Ready (lines.Steps (graph_value nodes v) (map (graph_step nodes) steps))) ty
+        (value_has nodes p v ty listed fits.0.0 ids_q, steps_have q steps ty listed fits.1 ids)
+    lines_typed first outer start p script.Now ty fits at listed ids before are =
+        line_added made first outer listed before p before (begins_all before) are (Ready lines.Now) ty (sym fits)
 
     arguments_typed : (first : Ty) (outer : List Ty) (start : ℕ) (p : Page) (fs : Formulas) (takes : List Ty)
         → ArgumentsFit known names (first ∷ outer) fs takes

@@ -6,7 +6,7 @@ use Rattle.inc_value.specs.declared.node.NodeId.{NodeId}
 use Rattle.inc_value.specs.declared.ty.Ty.{Ty}
 use Rattle.script_model.specs.Formula as script
 use Rattle.script_model.specs.Formula.{Formula, Formulas, Literal, Name, Apply, End, More}
-use Rattle.script_model.specs.Formula.{Variable, Computed, Body as Declaration}
+use Rattle.script_model.specs.Formula.{Variable, Computed, After, Body as Declaration}
 use Rattle.script_model.specs.Formula.{places_in, places_in_all, places_of_body}
 use Rattle.transfer.specs.Both.{graph_value}
 use Rattle.formula_elab.specs.Bodies.{OpenBody, Page, empty_page, size_of}
@@ -129,7 +129,9 @@ module _ (nodes : ℕ → NodeId) (tys : ℕ → Ty) (all : List Planned) where
         let inner = one_line_each nodes tys (u ∷ []) (start + length l.makes) empty_page body is_laid.1 in
         omega (arith, sum, sum_body, sum_last, size, here, none, inner)
     node_each start (script.Bound k) is_laid at = absurd (omega (arith, is_laid))
-    node_each start f is_laid at = absurd is_laid
+    node_each start (script.At time) is_laid at = refl
+    node_each start (script.Steps first steps) is_laid at = refl
+    node_each start script.Now is_laid at = refl
 
     node_each_of_all : (start : ℕ) (fs : Formulas) → AreLaidOut 0 fs → StandsAt all start (laid_each nodes tys start fs).makes
         → weigh (laid_each nodes tys start fs).makes ≡ places_in_all fs
@@ -147,6 +149,8 @@ module _ (nodes : ℕ → NodeId) (tys : ℕ → Ty) (all : List Planned) where
       → weigh (laid_body nodes tys 0 body).makes ≡ places_of_body body
   node_each_of_body (Variable v) is_laid at = refl
   node_each_of_body (Computed f kept) is_laid at = node_each 0 f is_laid at
+  node_each_of_body (After time) is_laid at = refl
+  node_each_of_body (script.Every base span) is_laid at = refl
   node_each_of_body body is_laid at = absurd is_laid
 
 pub one_node_each : OneNodeEach

@@ -1,7 +1,8 @@
 -- The term of what a body is written as is written for its formula.
-use Rattle.std.proofs.Common.{◌≡◌, ℕ, zero, suc, ◌+◌, ◌<◌, List, [], ◌∷◌, ◌++◌, length, map, Option, Some, arith, refl, sym, subst, ap, ◌∙◌}
+use Rattle.std.proofs.Common.{◌≡◌, ℕ, zero, suc, ◌+◌, ◌<◌, List, [], ◌∷◌, ◌++◌, length, map, pos, Option, Some, arith, refl, sym, subst, ap, ◌∙◌}
 use Rattle.std.specs.List.{slice_get}
 use Rattle.std.specs.Option.{option_map, unwrap_or}
+use Rattle.inc_value.specs.Choice.{Every}
 use Rattle.inc_value.specs.declared.node.NodeId.{NodeId}
 use Rattle.inc_value.specs.declared.ty.Ty.{Ty}
 use Rattle.inc_value.specs.declared.value.Value.{Value as GraphValue}
@@ -12,17 +13,17 @@ use Rattle.node_arena.specs.Listing.{Listed}
 use Rattle.script_functions.specs.Lines.{term_of, terms_of}
 use Rattle.script_functions.specs.declared.line.Line.TheVariants as lines
 use Rattle.script_model.specs.Formula as script
-use Rattle.script_model.specs.Formula.{Formula, Formulas, Literal, Name, Bound, Apply, End, More}
+use Rattle.script_model.specs.Formula.{Formula, Formulas, TimedValue, Literal, Name, Bound, Apply, End, More}
 use Rattle.script_model.specs.Leaves.{EveryLeaf, EveryLeafOfAll, EveryReference}
 use Rattle.script_model.specs.Values.{Value, Int, Bool, Text, Reference}
 use Rattle.transfer.specs.Both.{Both, graph_value}
 use Rattle.transfer.specs.Shows as shows
-use Rattle.transfer.specs.Shows.{Spot, Own, Taken, Takes, Writes, WritesAll, taken}
+use Rattle.transfer.specs.Shows.{Spot, Own, Taken, Takes, Writes, WritesAll, graph_step, taken}
 use Rattle.formula_elab.specs.Bodies.{empty_page, size_of, IsMadeOf, OpenBody, Page}
 use Rattle.formula_elab.specs.Make.{function_made, made_at}
 use Rattle.formula_elab.specs.Today.{IsLaidOut, AreLaidOut}
 use Rattle.formula_elab.specs.Types.{formula_ty}
-use Rattle.formula_elab.specs.Writing.{body_of, variable, variables, variables_from, with_named, written, written_each}
+use Rattle.formula_elab.specs.Writing.{body_of, variable, variables, variables_from, with_each_named, with_named, written, written_each}
 use Rattle.formula_elab.specs.declared.body.OpenLine.TheVariants.{Ready, Bind}
 use Rattle.formula_elab.specs.declared.make.Made.{Made}
 use Rattle.formula_elab.specs.declared.plan.Planned.{Planned}
@@ -37,6 +38,12 @@ value_same nodes nodes' (Int z) same = refl
 value_same nodes nodes' (Bool b) same = refl
 value_same nodes nodes' (Text bytes) same = refl
 value_same nodes nodes' (Reference target b) same = ap (λ (n : NodeId). held.Node n b) same
+
+pub steps_same : (nodes nodes' : ℕ → NodeId) (steps : List TimedValue)
+    → Every (λ (s : TimedValue). EveryReference (λ n. nodes n ≡ nodes' n) s.value) steps
+    → map (graph_step nodes) steps ≡ map (graph_step nodes') steps
+steps_same nodes nodes' [] same = refl
+steps_same nodes nodes' (s ∷ steps) same = rw (value_same nodes nodes' s.value same.0, steps_same nodes nodes' steps same.1) refl
 
 -- ---- variables
 
@@ -201,7 +208,16 @@ module _ (x : Both) (nodes : ℕ → NodeId) (tys : ℕ → Ty) (makes : List Pl
               (writes (u ∷ bounds) (start + length l.makes) empty_page body is_laid.1 leaves.1 second.0 w i.page.listed (begins_all i.page.listed)
               (page_terms made i.page.listed w i.page.lines) (begins_all (page_terms made i.page.listed w i.page.lines))),
         )
-    writes bounds start p f is_laid leaves at v listed ids terms there = absurd is_laid
+    writes bounds start p (script.At time) is_laid leaves at v listed ids terms there =
+        last_term made listed v p.lines (Ready (lines.At (pos time))) terms there
+    writes bounds start p (script.Steps c steps) is_laid leaves at v listed ids terms there =
+        let r = with_each_named nodes (with_named nodes p c) steps in
+        let same : term.Steps (graph_value nodes c) (map (graph_step nodes) steps)
+        ≡ term.Steps (graph_value x.nodes c) (map (graph_step x.nodes) steps) =
+        rw (value_same nodes x.nodes c leaves.0, steps_same nodes x.nodes steps leaves.1) refl in
+        last_term made listed v r.lines (Ready (lines.Steps (graph_value nodes c) (map (graph_step nodes) steps))) terms there ∙ same
+    writes bounds start p script.Now is_laid leaves at v listed ids terms there =
+        last_term made listed v p.lines (Ready lines.Now) terms there
 
     writes_all : (bounds : List Ty) (start : ℕ) (p : Page) (fs : Formulas) → AreLaidOut (length bounds) fs → EveryLeafOfAll Same Same fs
         → StandsAt makes start (written_each nodes tys bounds start p fs).makes

@@ -3,18 +3,22 @@ use Rattle.std.proofs.Common.{◌≡◌, ℕ, zero, suc, ◌+◌, ◌<◌, ◌�
 use Rattle.std.proofs.lemmas.List.{length-append, append_assoc}
 use Rattle.std.proofs.lemmas.List.Sums.{sum_by_push}
 use Rattle.formula_lang.specs.declared.command.Formula.{Formula}
+use Rattle.inc_value.specs.declared.function.FnRef.{FnRef}
 use Rattle.inc_value.specs.declared.node.NodeId.{NodeId}
 use Rattle.inc_value.specs.declared.ty.Ty.{Ty}
+use Rattle.inc_value.specs.declared.value.Value.{Value as GraphValue}
 use Rattle.script_functions.specs.declared.line.Line.TheVariants as line
 use Rattle.script_functions.specs.declared.line.Part.{Part}
 use Rattle.script_functions.specs.declared.line.Part.TheVariants as part
 use Rattle.script_model.specs.Formula as model
 use Rattle.script_model.specs.Formula.{binds_in_all, places_in_all}
+use Rattle.script_model.specs.Values.{Value}
+use Rattle.transfer.specs.Both.{graph_value}
 use Rattle.formula_elab.specs.Bodies.{OpenBody, Page, open_size, size_of}
 use Rattle.formula_elab.specs.Names.{EveryNameOfAll}
 use Rattle.formula_elab.specs.Types.{formula_ty}
-use Rattle.formula_elab.specs.Writing.{Written, WrittenEach, body_of, variable, variables, variables_from, with_line, with_nodes_of, written}
-use Rattle.formula_elab.specs.Writing.{written_body, written_each, IsBindAdded, IsWritten, IsWrittenBody}
+use Rattle.formula_elab.specs.Writing.{Written, WrittenEach, body_of, variable, variables, variables_from, with_line, with_named, with_nodes_of, written}
+use Rattle.formula_elab.specs.Writing.{written_body, written_each, AreWritten, IsBindAdded, IsWritten, IsWrittenBody}
 use Rattle.formula_elab.specs.declared.body.OpenLine.{OpenLine}
 use Rattle.formula_elab.specs.declared.body.OpenLine.TheVariants.{Bind, Ready}
 use Rattle.formula_elab.specs.declared.plan.Planned.{Planned}
@@ -133,6 +137,39 @@ module _ (nodes : ℕ → NodeId) (tys : ℕ → Ty) (bounds : List Ty) where
         → IfOk r' (λ x. x ≡ part.Line (length p3.lines + 1)) → IfOk r' (λ x. IsWritten nodes tys bounds (model.If test a b) m0 m3 p0 p4 x)
     if_answer p4 (Ok x) page is = if_written p4 x page is
     if_answer p4 (Err fault) page is = tt
+
+  -- a fold behind its elements
+  module _ (f : FnRef) (v : Value) (fs : model.Formulas) (m0 m1 : List Planned) (p0 p1 p2 : Page) (first : GraphValue) (roots : List Part)
+      (named : p1 ≡ with_named nodes p0 v) (named_size : size_of p1 ≡ size_of p0) (first_is : first ≡ graph_value nodes v)
+      (elements_written : AreWritten nodes tys bounds fs m0 m1 p1 p2 roots) where
+    abbrev each : WrittenEach
+    each = written_each nodes tys bounds (length m0) (with_named nodes p0 v) fs
+
+    each_is : (m1 ≡ m0 ++ each.makes) × (p2 ≡ each.page) × (roots ≡ each.roots)
+    each_is =
+        subst (λ (y : Page). (m1 ≡ m0 ++ (written_each nodes tys bounds (length m0) y fs).makes)
+        × (p2 ≡ (written_each nodes tys bounds (length m0) y fs).page) × (roots ≡ (written_each nodes tys bounds (length m0) y fs).roots)) named
+        (elements_written.makes, elements_written.page, elements_written.roots)
+
+    fold_line : with_line p2 (Ready (line.Fold f first roots)) ≡ with_line each.page (Ready (line.Fold f (graph_value nodes v) each.roots))
+    fold_line = ap (λ (y : Page). with_line y (Ready (line.Fold f first roots))) each_is.1
+        ∙ (ap (λ (x : GraphValue). with_line each.page (Ready (line.Fold f x roots))) first_is
+        ∙ ap (λ (ps : List Part). with_line each.page (Ready (line.Fold f (graph_value nodes v) ps))) each_is.2)
+
+    pub fold_written : (p3 : Page) (root : Part) → p3 ≡ with_line p2 (Ready (line.Fold f first roots)) → root ≡ part.Line (length p2.lines + 1)
+        → IsWritten nodes tys bounds (model.Fold f v fs) m0 m1 p0 p3 root
+    fold_written p3 root page is = record {
+      makes = each_is.0;
+      page = page ∙ fold_line;
+      root = is ∙ line_root p2 each.page each_is.1;
+      size = omega (arith, ap size_of page, line_size p2 (Ready (line.Fold f first roots)), elements_written.size, named_size);
+    }
+
+    -- where the line of the fold is added, if there is memory
+    pub fold_answer : {E : Type 0} (p3 : Page) (r' : Result Part E) → OnOk r' (p3 ≡ with_line p2 (Ready (line.Fold f first roots)))
+        → IfOk r' (λ x. x ≡ part.Line (length p2.lines + 1)) → IfOk r' (λ x. IsWritten nodes tys bounds (model.Fold f v fs) m0 m1 p0 p3 x)
+    fold_answer p3 (Ok x) page is = fold_written p3 x page is
+    fold_answer p3 (Err fault) page is = tt
 
   -- a bind behind its left and its function
   module _ (left body : model.Formula) (m0 m1 m2 : List Planned) (p0 p1 : Page) (r : Part) (o : OpenBody)

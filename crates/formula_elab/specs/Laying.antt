@@ -1,19 +1,20 @@
 -- The nodes and functions to be made for a formula: those of its parts before its own, and none for a bare name; the function of a bind before
 -- its node, and those of the binds in its body before that.
-use Rattle.std.specs.Prelude.{◌≡◌, ◌+◌, ℕ, List, [], ◌∷◌, ◌++◌, length}
+use Rattle.std.specs.Prelude.{◌≡◌, ◌+◌, ℕ, pos, List, [], ◌∷◌, ◌++◌, length, map}
 use Rattle.inc_value.specs.declared.function.FnRef.{FnRef}
 use Rattle.inc_value.specs.declared.node.NodeId.{NodeId}
 use Rattle.inc_value.specs.declared.ty.Ty.{Ty}
 use Rattle.inc_value.specs.declared.value.Value.{Value}
 use Rattle.script_model.specs.Formula as script
-use Rattle.script_model.specs.Formula.{Formula, Formulas, Body, Literal, Name, Apply, End, More, Variable, Computed}
+use Rattle.script_model.specs.Formula.{Formula, Formulas, Body, Literal, Name, Apply, End, More, Variable, Computed, After}
 use Rattle.transfer.specs.Both.{graph_value}
+use Rattle.transfer.specs.Shows.{graph_step}
 use Rattle.formula_elab.specs.Make.{no_node}
 use Rattle.formula_elab.specs.Opened.{Planned}
 use Rattle.formula_elab.specs.Types.{formula_ty, joined_ty}
 use Rattle.formula_elab.specs.Writing.{Written, body_of, written_body}
 use Rattle.formula_elab.specs.declared.opened.Open.{Open}
-use Rattle.formula_elab.specs.declared.opened.Open.TheVariants.{Const, Var, Map, Fold, If, Join, Bind}
+use Rattle.formula_elab.specs.declared.opened.Open.TheVariants.{Const, Var, Map, Fold, If, Join, Bind, At, Steps, Now, Every}
 use Rattle.formula_elab.specs.declared.opened.Part.{Part}
 use Rattle.formula_elab.specs.declared.opened.Part.TheVariants.{Given, Made}
 use Rattle.formula_elab.specs.declared.plan.Planned.TheVariants.{Body as Function, Node}
@@ -79,8 +80,7 @@ abbrev pub laid_before : Laid → LaidEach → LaidEach
 laid_before first rest = record { makes = first.makes ++ rest.makes; roots = first.root ∷ rest.roots }
 
 abbrev mutual
-  -- what is to be made for a formula, the first as the start-th, over the nodes and types of names; no other form is
-  -- laid out
+  -- what is to be made for a formula, the first as the start-th, over the nodes and types of names; a variable isn't laid out
   pub laid : (ℕ → NodeId) → (ℕ → Ty) → ℕ → Formula → Laid
   laid nodes tys start (Literal v) = laid_one start (Const (graph_value nodes v))
   laid nodes tys start (Name n) = laid_given (nodes n)
@@ -98,7 +98,10 @@ abbrev mutual
       let u = formula_ty tys [] left in
       let l = laid nodes tys start left in
       laid_bind start u (formula_ty tys (u ∷ []) body) l (written_body nodes tys (u ∷ []) (start + length l.makes) body)
-  laid nodes tys start f = laid_given no_node
+  laid nodes tys start (script.At time) = laid_one start (At (pos time))
+  laid nodes tys start (script.Steps first steps) = laid_one start (Steps (graph_value nodes first) (map (graph_step nodes) steps))
+  laid nodes tys start script.Now = laid_one start Now
+  laid nodes tys start (script.Bound k) = laid_given no_node
 
   -- what is to be made for formulas, one after the other
   pub laid_each : (ℕ → NodeId) → (ℕ → Ty) → ℕ → Formulas → LaidEach
@@ -107,10 +110,12 @@ abbrev mutual
       laid_before (laid nodes tys start f)
       (laid_each nodes tys (start + length (laid nodes tys start f).makes) rest)
 
--- what is to be made for what is declared: a variable is one node
+-- what is to be made for what is declared: a variable is one node, and so is what reads the clock
 abbrev pub laid_body : (ℕ → NodeId) → (ℕ → Ty) → ℕ → Body → Laid
 laid_body nodes tys start (Variable v) = laid_one start (Var (graph_value nodes v))
 laid_body nodes tys start (Computed f kept) = laid nodes tys start f
+laid_body nodes tys start (After time) = laid_one start (At (pos time))
+laid_body nodes tys start (script.Every base span) = laid_one start (Every (pos base) span)
 laid_body nodes tys start body = laid_given no_node
 
 -- ---- what was laid out

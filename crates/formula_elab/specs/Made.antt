@@ -1,5 +1,6 @@
 -- A graph in which what was to be made for a declaration was made.
-use Rattle.std.specs.Prelude.{◌≡◌, ◌+◌, ◌<◌, ◌≤◌, ◌++◌, ℕ, Bool, List, [], ◌∷◌, length, Some, slice_get}
+use Rattle.std.specs.Prelude.{◌≡◌, ◌+◌, ◌-◌, ◌/◌, ◌-ℤ◌, ◌<◌, ◌≤◌, ◌++◌, ℕ, pos, Bool, List, [], ◌∷◌, length, Some, slice_get}
+use Rattle.std.specs.Int.Signed.{quot_z}
 use Rattle.inc_value.specs.declared.function.FnRef.{FnRef}
 use Rattle.inc_value.specs.declared.node.NodeId.{NodeId}
 use Rattle.inc_value.specs.declared.ty.Ty.{Ty}
@@ -7,7 +8,7 @@ use Rattle.inc_terms.specs.Graph.{Graph, Row}
 use Rattle.inc_terms.specs.Term.{Functions}
 use Rattle.formula_lang.specs.Fits.{BodyFits}
 use Rattle.script_model.specs.Check.{Names}
-use Rattle.script_model.specs.Formula.{Body, Formula, places_in, places_of_body}
+use Rattle.script_model.specs.Formula.{Body, Every, Formula, places_in, places_of_body}
 use Rattle.transfer.specs.Both.{Both}
 use Rattle.transfer.specs.Shows.{IsTop, Declares}
 use Rattle.formula_elab.specs.Bodies.{IsMadeOf, OpenBody, Page, size_of}
@@ -49,11 +50,16 @@ WasMade H G earlier (planned.Body o) m = IsMadeOf H earlier o m
 
 -- ---- what is to be made for a declaration
 
+-- where what is declared counts spans, the graph's clock counts as many as the script's
+abbrev pub CountsAlike : Both → Body → Type 0
+CountsAlike x (Every base span) = quot_z (x.graph.now -ℤ pos base) (pos span) ≡ pos ((x.state.now - base) / span)
+CountsAlike x body = Unit {0}
+
 -- in every graph in which all of it was made, and in which the names have these nodes, the root is the node of what is
 -- declared
 abbrev pub ShowsOnceMade : (ℕ → NodeId) → Body → List Planned → Part → Type 0
 ShowsOnceMade nodes body makes root =
-    (x : Both) (made : List Made) → EveryNameOf (λ n. nodes n ≡ x.nodes n) body
+    (x : Both) (made : List Made) → EveryNameOf (λ n. nodes n ≡ x.nodes n) body → CountsAlike x body
     → StandsIn x.functions x.graph makes made → length makes ≤ length made → Declares x (node_of made root) (Some body)
 
 -- ---- laws

@@ -1,10 +1,11 @@
 -- Nodes and functions to be made, over those that may not be made yet.
-use Rattle.std.specs.Prelude.{◌≡◌, ◌≤◌, ◌+◌, ℕ, List, [], ◌∷◌, ◌++◌, All, length, map, sum_by, take, Some, slice_get, slice_index_or}
-use Rattle.inc_value.specs.Choice.{Every}
+use Rattle.std.specs.Prelude.{◌≡◌, ◌≤◌, ◌+◌, ℕ, List, [], ◌∷◌, ◌++◌, All, length, map, pos, sum_by, take, Some, slice_get, slice_index_or}
+use Rattle.inc_value.specs.Choice.{Every as Each}
 use Rattle.inc_value.specs.Value.{type_of}
 use Rattle.inc_value.specs.declared.function.FnKind.TheVariants as kind
 use Rattle.inc_value.specs.declared.node.NodeId.{NodeId}
 use Rattle.inc_value.specs.declared.ty.Ty.{Ty}
+use Rattle.inc_value.specs.declared.ty.Ty.TheVariants as types
 use Rattle.inc_terms.specs.Graph as graph
 use Rattle.inc_terms.specs.Graph.{Def}
 use Rattle.script_functions.specs.Bodies as functions
@@ -16,7 +17,7 @@ use Rattle.formula_elab.specs.declared.body.OpenLine.{OpenLine}
 use Rattle.formula_elab.specs.declared.body.OpenLine.TheVariants as line
 use Rattle.formula_elab.specs.declared.make.Made.{Made}
 use Rattle.formula_elab.specs.declared.opened.Open.{Open}
-use Rattle.formula_elab.specs.declared.opened.Open.TheVariants.{Const, Var, Map, Fold, If, Join, Bind}
+use Rattle.formula_elab.specs.declared.opened.Open.TheVariants.{Const, Var, Map, Fold, If, Join, Bind, At, Steps, Now, Every}
 use Rattle.formula_elab.specs.declared.opened.Part.{Part}
 use Rattle.formula_elab.specs.declared.opened.Part.TheVariants.{Given, Made as Numbered}
 pub use Rattle.formula_elab.specs.declared.plan.Planned.{Planned}
@@ -44,6 +45,10 @@ filled made (Fold f v parts) = graph.Fold f v (map (node_of made) parts)
 filled made (If ty test a b) = graph.If (node_of made test) (node_of made a) (node_of made b)
 filled made (Join ty child) = graph.Join (node_of made child)
 filled made (Bind ty left body) = graph.Bind (node_of made left) (function_made (made_at made body)) []
+filled made (At time) = graph.At time
+filled made (Steps first steps) = graph.Steps first steps
+filled made Now = graph.Now
+filled made (Every base span) = graph.Every base (pos span)
 
 -- the type of the node
 abbrev pub open_ty : Open → Ty
@@ -54,6 +59,10 @@ open_ty (Fold f v parts) = f.sig.gives
 open_ty (If ty test a b) = ty
 open_ty (Join ty child) = ty
 open_ty (Bind ty left body) = ty
+open_ty (At time) = types.Bool
+open_ty (Steps first steps) = type_of first
+open_ty Now = types.Int
+open_ty (Every base span) = types.Int
 
 -- what is to be made of it: the node, or the function of a body that has its lines
 abbrev pub Makes : List Made → Planned → Make → Type 0
@@ -90,10 +99,14 @@ NodeNeedsEarlier earlier (Fold f v parts) = All (IsEarlier earlier) parts
 NodeNeedsEarlier earlier (If ty test a b) = IsEarlier earlier test × IsEarlier earlier a × IsEarlier earlier b
 NodeNeedsEarlier earlier (Join ty child) = IsEarlier earlier child
 NodeNeedsEarlier earlier (Bind ty left body) = IsEarlier earlier left × IsEarlierBody earlier body
+NodeNeedsEarlier earlier (At time) = Unit {0}
+NodeNeedsEarlier earlier (Steps first steps) = Unit {0}
+NodeNeedsEarlier earlier Now = Unit {0}
+NodeNeedsEarlier earlier (Every base span) = Unit {0}
 
 -- so does what is to be made
 abbrev pub NeedsEarlier : List Planned → Planned → Type 0
-NeedsEarlier earlier (Body o) = Every (LineNeedsEarlier earlier) o.page.lines
+NeedsEarlier earlier (Body o) = Each (LineNeedsEarlier earlier) o.page.lines
 NeedsEarlier earlier (Node x) = NodeNeedsEarlier earlier x
 
 -- behind these, each needs only nodes and functions that are made before it

@@ -1,9 +1,9 @@
--- What is so of today's forms alone, and goes once all are laid out.
+-- What is so of today's forms alone, and goes once all are laid out: no freeze and no expert is.
 use Rattle.std.specs.Prelude.{◌<◌, ℕ, suc}
-use Rattle.script_model.specs.Formula.{Formula, Formulas, Body, Literal, Name, Bound, Apply, Fold, If, Join, Bind, End, More, Variable, Computed}
+use Rattle.script_model.specs.Formula.{Formula, Formulas, Body, Literal, Name, Bound, Apply, Fold, If, Join, Bind, At, Steps, Now, End, More, Variable, Computed, After, Every}
 
 abbrev mutual
-  -- within so many binds the formula is of forms that are laid out
+  -- within so many binds each variable of the formula is of one of these
   pub IsLaidOut : ℕ → Formula → Type 0
   IsLaidOut binds (Literal v) = Unit {0}
   IsLaidOut binds (Name n) = Unit {0}
@@ -13,7 +13,9 @@ abbrev mutual
   IsLaidOut binds (If test a b) = IsLaidOut binds test × IsLaidOut binds a × IsLaidOut binds b
   IsLaidOut binds (Join child) = IsLaidOut binds child
   IsLaidOut binds (Bind left body) = IsLaidOut binds left × IsLaidOut (suc binds) body
-  IsLaidOut binds f = ⊥
+  IsLaidOut binds (At time) = Unit {0}
+  IsLaidOut binds (Steps first steps) = Unit {0}
+  IsLaidOut binds Now = Unit {0}
 
   -- so are all of the formulas
   pub AreLaidOut : ℕ → Formulas → Type 0
@@ -24,4 +26,6 @@ abbrev mutual
 abbrev pub IsLaidOutBody : Body → Type 0
 IsLaidOutBody (Variable v) = Unit {0}
 IsLaidOutBody (Computed f kept) = IsLaidOut 0 f
+IsLaidOutBody (After time) = Unit {0}
+IsLaidOutBody (Every base span) = Unit {0}
 IsLaidOutBody body = ⊥

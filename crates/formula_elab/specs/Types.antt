@@ -32,4 +32,6 @@ formula_ty tys bounds (script.Fold function first elements) = function.sig.gives
 formula_ty tys bounds (script.If test a b) = formula_ty tys bounds a
 formula_ty tys bounds (script.Join child) = joined_ty (formula_ty tys bounds child)
 formula_ty tys bounds (script.Bind left body) = formula_ty tys (formula_ty tys bounds left ∷ bounds) body
-formula_ty tys bounds f = types.Int
+formula_ty tys bounds (script.At time) = types.Bool
+formula_ty tys bounds (script.Steps first steps) = type_of first
+formula_ty tys bounds script.Now = types.Int

@@ -1,17 +1,18 @@
 -- What the body of a bind is written as: for each place a line behind those of its parts, none for a name or a variable. The
 -- functions of the binds in it are to be made before its own.
-use Rattle.std.specs.Prelude.{◌≡◌, ◌+◌, ℕ, zero, suc, List, [], ◌∷◌, ◌++◌, length}
+use Rattle.std.specs.Prelude.{◌≡◌, ◌+◌, ℕ, zero, suc, pos, List, [], ◌∷◌, ◌++◌, length, map}
 use Rattle.inc_value.specs.Ty.{type_of_base}
 use Rattle.inc_value.specs.declared.node.NodeId.{NodeId}
 use Rattle.inc_value.specs.declared.ty.Ty.{Ty}
 use Rattle.script_functions.specs.declared.line.Line.{Line}
-use Rattle.script_functions.specs.declared.line.Line.TheVariants.{Const, Map, Fold, If, Join}
+use Rattle.script_functions.specs.declared.line.Line.TheVariants.{Const, Map, Fold, If, Join, At, Steps, Now}
 use Rattle.script_functions.specs.declared.line.Part.{Part}
 use Rattle.script_functions.specs.declared.line.Part.TheVariants as part
 use Rattle.script_model.specs.Formula as script
-use Rattle.script_model.specs.Formula.{Formula, Formulas, Literal, Name, Bound, Apply, End, More, places_in, places_in_all}
+use Rattle.script_model.specs.Formula.{Formula, Formulas, TimedValue, Literal, Name, Bound, Apply, End, More, places_in, places_in_all}
 use Rattle.script_model.specs.Values.{Value, Reference}
 use Rattle.transfer.specs.Both.{graph_value}
+use Rattle.transfer.specs.Shows.{graph_step}
 use Rattle.formula_elab.specs.Bodies.{OpenBody, Page, empty_page, size_of}
 use Rattle.formula_elab.specs.Opened.{Planned}
 use Rattle.formula_elab.specs.Types.{formula_ty}
@@ -45,6 +46,11 @@ with_node p n ty = record p { listed = p.listed ++ record { node = n; ty = ty } 
 abbrev pub with_named : (ℕ → NodeId) → Page → Value → Page
 with_named nodes p (Reference target base) = with_node p (nodes target) (type_of_base base)
 with_named nodes p v = p
+
+-- the page with the nodes that the values of steps name
+abbrev pub with_each_named : (ℕ → NodeId) → Page → List TimedValue → Page
+with_each_named nodes p [] = p
+with_each_named nodes p (step ∷ steps) = with_each_named nodes (with_named nodes p step.value) steps
 
 -- the page with one line more
 abbrev pub with_line : Page → OpenLine → Page
@@ -94,7 +100,7 @@ written_before first rest =
 
 abbrev mutual
   -- what a formula is written as behind a page, where so many are to be made before, over the nodes and types of names and
-  -- the types of the variables of the binds round it; no other form is written
+  -- the types of the variables of the binds round it
   pub written : (ℕ → NodeId) → (ℕ → Ty) → List Ty → ℕ → Page → Formula → Written
   written nodes tys bounds start p (Literal v) = written_ready [] (with_named nodes p v) (Const (graph_value nodes v))
   written nodes tys bounds start p (Name n) =
@@ -117,7 +123,10 @@ abbrev mutual
       let l = written nodes tys bounds start p left in
       written_bind bounds start u (formula_ty tys (u ∷ bounds) body) l
       (written nodes tys (u ∷ bounds) (start + length l.makes) empty_page body)
-  written nodes tys bounds start p f = record { makes = []; page = p; root = part.Line 0 }
+  written nodes tys bounds start p (script.At time) = written_ready [] p (At (pos time))
+  written nodes tys bounds start p (script.Steps first steps) =
+      written_ready [] (with_each_named nodes (with_named nodes p first) steps) (Steps (graph_value nodes first) (map (graph_step nodes) steps))
+  written nodes tys bounds start p script.Now = written_ready [] p Now
 
   -- what formulas are written as, one after the other
   pub written_each : (ℕ → NodeId) → (ℕ → Ty) → List Ty → ℕ → Page → Formulas → WrittenEach

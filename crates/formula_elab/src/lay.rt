@@ -1,25 +1,29 @@
 //! Laying formulas out as nodes to be made.
 ghost use Rattle.std.specs.Prelude.{◌≡◌, ◌<◌, ◌≤◌, ◌^◌, ◌++◌, ◌∷◌, [], Bool, false, length, map, IfOk, OnOk};
+ghost use Rattle.inc_value.specs.Choice.{Every};
 ghost use Rattle.inc_value.specs.declared.function.FnRef.{FnRef};
 ghost use Rattle.inc_value.specs.declared.ty.Ty.{Ty};
 ghost use Rattle.formula_lang.specs.Fits.{BodyFits};
-ghost use Rattle.formula_lang.specs.CommandView.{body_view, constant_view, formula_view, formulas_of};
-ghost use Rattle.script_model.specs.Formula.{Apply, Bind, Fold, Join, binds_in, binds_in_all, binds_of_body, places_in, places_in_all, places_of_body};
+ghost use Rattle.formula_lang.specs.CommandView.{body_view, constant_view, formula_view, formulas_of, timed_view};
+ghost use Rattle.script_model.specs.Formula.{Apply, Bind, Fold, Join, TimedValue, binds_in, binds_in_all, binds_of_body, places_in, places_in_all, places_of_body};
 ghost use Rattle.formula_elab.specs.Laying.{laid_body, AreLaid, IsLaid, IsLaidBody};
 ghost use Rattle.formula_elab.specs.Made.{ShowsOnceMade};
 ghost use Rattle.formula_elab.specs.Names.{EveryName, EveryNameOfAll, EveryNameOf};
 ghost use Rattle.script_model.specs.Leaves.{EveryReference};
 ghost use Rattle.formula_elab.specs.Opened.{node_at, weight, AreInOrder};
 ghost use Rattle.formula_elab.specs.Types.{type_at, AreTypedAsTargets};
+ghost use Rattle.formula_elab.specs.declared.opened.Open.TheVariants as open_node;
 ghost use Rattle.formula_elab.specs.declared.opened.Part.TheVariants as part;
 ghost use Rattle.formula_elab.specs.declared.plan.Planned.TheVariants as planned;
+ghost use Rattle.transfer.specs.Both.{graph_value};
+ghost use Rattle.transfer.specs.Shows.{graph_step};
 
 use crate::opened::{Open, Part, Parts};
 use crate::plan::{Plan, Planned};
 use crate::types::{formula_type, joined_type};
-use crate::value::value_of;
+use crate::value::{steps_of, value_of};
 use crate::write::write_body;
-use formula_lang::{Constant, Declaration, Formula, Names};
+use formula_lang::{Constant, Declaration, Formula, Names, Nanoseconds, TimedConstant};
 use inc_value::{FnRef, NodeId};
 use std::alloc::{AllocError, Global};
 
@@ -63,12 +67,21 @@ fn lay_body(
     requires names { EveryNameOf (λ n. n < length ids.now) (body_view body.now) }
     requires few { places_of_body (body_view body.now) < 2 ^ 64 }
     requires few_binds { binds_of_body (body_view body.now) ≤ 64 }
+    requires fits { (known : FnRef → Bool) × (ty : Ty) × BodyFits known names.now (body_view body.now) ty }
     ensures { IfOk result (λ root. IsLaidBody (node_at ids.now) (type_at names.entry.now)
         (body_view body.now) makes.old.items makes.new.items root) }
 {
     match body {
         Declaration::Variable(value) => { add_node(Open::Var(value_of(alloc, value, ids)?), makes) }
         Declaration::Computed(formula) => lay(alloc, formula, names, ids, makes),
+        Declaration::After(time) => add_node(Open::At(Nanoseconds::new(*time).time()), makes),
+        Declaration::Every { base, span } => add_node(
+            Open::Every {
+                base: base.time(),
+                span: span.count(),
+            },
+            makes,
+        ),
     }
 }
 
@@ -124,6 +137,34 @@ fn lay(
         }
         Formula::Join(child) => lay_join(alloc, child, names, ids, makes),
         Formula::Bind { left, body } => lay_bind(alloc, left, body, names, ids, makes),
+        Formula::At(time) => add_node(Open::At(time.time()), makes),
+        Formula::Steps { first, steps } => lay_steps(alloc, first, steps, ids, makes),
+        Formula::Now => add_node(Open::Now, makes),
+    }
+}
+
+/// Lays steps out behind what is to be made already. The answer is their node.
+#[inline(never)]
+fn lay_steps(
+    alloc: Global,
+    first: &Constant,
+    steps: &[TimedConstant],
+    ids: &[NodeId],
+    makes: &mut Vec<Planned>,
+) -> Result<Part, AllocError>
+    requires first { EveryReference (λ n. n < length ids.now) (constant_view first.now) }
+    requires steps { Every (λ (s : TimedValue). EveryReference (λ n. n < length ids.now) s.value) (map timed_view steps.now) }
+    ensures root { IfOk result (λ root. root ≡ part.Made (length makes.old.items)) }
+    ensures added { OnOk result (makes.new.items ≡ makes.old.items ++ planned.Node (open_node.Steps (graph_value (node_at ids.now) (constant_view first.now))
+        (map (graph_step (node_at ids.now)) (map timed_view steps.now))) ∷ []) }
+{
+    let steps = steps_of(alloc, steps, ids)?;
+    match value_of(alloc, first, ids) {
+        Ok(first) => add_node(Open::Steps(first, steps), makes),
+        Err(fault) => {
+            drop(steps);
+            Err(fault)
+        }
     }
 }
 

@@ -1,11 +1,12 @@
 //! Nodes to be made, over nodes and functions that may not be made yet.
 ghost use Rattle.std.specs.Prelude.{◌≡◌, List, All, length, map, IfOk};
 ghost use Rattle.inc_terms.specs.Code.{def_of};
+ghost use Rattle.inc_terms.specs.Graph.{Steps};
 ghost use Rattle.formula_elab.specs.Make.{function_made, made_at};
 ghost use Rattle.formula_elab.specs.Opened.{node_of, filled, open_ty, AreMadeAs, IsEarlier, IsEarlierBody, NodeNeedsEarlier, Planned};
 
 use crate::make::Made;
-use inc_terms::{Def, Nodes};
+use inc_terms::{Def, Nodes, StepList};
 use inc_value::{FnRef, NodeId, Ty, Value};
 use std::alloc::{AllocError, Global};
 use std::marker::Model;
@@ -94,6 +95,17 @@ pub(crate) enum Open {
         left: Part,
         body: usize,
     },
+    /// Whether the clock has come to the time, in nanoseconds.
+    At(i64),
+    /// The first value, and then that of the last step whose time has come.
+    Steps(Value, StepList),
+    /// The clock, in nanoseconds.
+    Now,
+    /// How many whole spans went by since the base, both in nanoseconds.
+    Every {
+        base: i64,
+        span: u64,
+    },
 }
 
 // (written out: whoever drops one proves one call, and no drop of its parts)
@@ -106,6 +118,10 @@ impl Drop for Open {
                 drop(first);
                 drop(parts);
             }
+            Open::Steps(first, steps) => {
+                drop(first);
+                drop(steps);
+            }
             Open::If {
                 ty: _,
                 test: _,
@@ -117,7 +133,10 @@ impl Drop for Open {
                 ty: _,
                 left: _,
                 body: _,
-            } => {}
+            }
+            | Open::At(_)
+            | Open::Now
+            | Open::Every { base: _, span: _ } => {}
         }
     }
 }
@@ -149,6 +168,13 @@ impl Open {
                 function: function_of(made, *body),
                 captures: Nodes::from_slice(alloc, &[])?,
             },
+            Open::At(time) => Def::At(*time),
+            Open::Steps(first, steps) => steps_def(alloc, first, steps)?,
+            Open::Now => Def::Now,
+            Open::Every { base, span } => Def::Every {
+                base: *base,
+                span: *span,
+            },
         })
     }
 
@@ -157,10 +183,28 @@ impl Open {
         ensures { result ≡ open_ty self.now }
     {
         match self {
-            Open::Const(value) | Open::Var(value) => value.ty(),
+            Open::Const(value) | Open::Var(value) | Open::Steps(value, _) => value.ty(),
+            Open::At(_) => Ty::Bool,
+            Open::Now | Open::Every { .. } => Ty::Int,
             Open::Map(function, _) | Open::Fold(function, _, _) => function.sig.gives(),
             Open::If { ty, .. } | Open::Join { ty, .. } | Open::Bind { ty, .. } => *ty,
         }
+    }
+}
+
+/// The first value, and then that of the last step whose time has come.
+fn steps_def(alloc: Global, first: &Value, steps: &StepList) -> Result<Def, AllocError>
+    ensures { IfOk result (λ def. def_of def ≡ Steps first.now steps.now) }
+{
+    match steps.copy(alloc) {
+        Ok(steps) => match first.copy(alloc) {
+            Ok(first) => Ok(Def::Steps(first, steps)),
+            Err(fault) => {
+                drop(steps);
+                Err(fault)
+            }
+        },
+        Err(fault) => Err(fault),
     }
 }
 

@@ -27,6 +27,9 @@ pub(crate) fn formula_type(
         Formula::Bound(binds_between) => Ok(tys[*binds_between]),
         Formula::Apply { function, .. } => Ok(function.sig.gives()),
         Formula::Fold { function, .. } => Ok(function.sig.gives()),
+        Formula::At(_) => Ok(Ty::Bool),
+        Formula::Steps { first, .. } => Ok(constant_type(first)),
+        Formula::Now => Ok(Ty::Int),
         Formula::If { yes, .. } => formula_type(alloc, names, tys, yes),
         Formula::Join(child) => Ok(joined_type(formula_type(alloc, names, tys, child)?)),
         Formula::Bind { left, body } => {

@@ -1,13 +1,17 @@
 //! Values of commands in a graph.
-ghost use Rattle.std.specs.Prelude.{◌≡◌, ◌≢◌, ◌<◌, length, IfOk, IsOk};
+ghost use Rattle.std.specs.Prelude.{◌≡◌, ◌≢◌, ◌<◌, length, map, IfOk, IsOk};
+ghost use Rattle.inc_value.specs.Choice.{Every};
 ghost use Rattle.inc_value.specs.Value.{type_of};
 ghost use Rattle.inc_value.specs.declared.ty.Ty.TheVariants.{Text};
-ghost use Rattle.formula_lang.specs.CommandView.{constant_view};
+ghost use Rattle.formula_lang.specs.CommandView.{constant_view, timed_view};
+ghost use Rattle.script_model.specs.Formula.{TimedValue};
 ghost use Rattle.script_model.specs.Leaves.{EveryReference};
 ghost use Rattle.formula_elab.specs.Opened.{node_at};
 ghost use Rattle.transfer.specs.Both.{graph_value};
+ghost use Rattle.transfer.specs.Shows.{graph_step};
 
-use formula_lang::Constant;
+use formula_lang::{Constant, TimedConstant};
+use inc_terms::{Step, StepList};
 use inc_value::{NodeId, Value};
 use std::alloc::{AllocError, Global};
 
@@ -24,4 +28,22 @@ pub fn value_of(alloc: Global, constant: &Constant, ids: &[NodeId]) -> Result<Va
         Constant::Text(text) => Value::Text(text.copy(alloc)?),
         Constant::Reference { target, base } => Value::Node(ids[*target], *base),
     })
+}
+
+/// Values from their times on in a graph. Only texts and the list need memory.
+pub(crate) fn steps_of(
+    alloc: Global,
+    steps: &[TimedConstant],
+    ids: &[NodeId],
+) -> Result<StepList, AllocError>
+    requires names { Every (λ (s : TimedValue). EveryReference (λ n. n < length ids.now) s.value) (map timed_view steps.now) }
+    ensures { IfOk result (λ list. list ≡ map (graph_step (node_at ids.now)) (map timed_view steps.now)) }
+{
+    let mut list = Vec::new(alloc);
+    for step in steps {
+        let time = step.time.time();
+        let value = value_of(alloc, &step.value, ids)?;
+        list.push(Step { time, value })?;
+    }
+    Ok(StepList::new(list))
 }

@@ -2,22 +2,24 @@
 ghost use Rattle.std.specs.Prelude.{◌≡◌, ◌<◌, ◌≤◌, ◌+◌, ◌^◌, length, map, IfOk, OnOk};
 ghost use Rattle.script_functions.specs.declared.line.Line.TheVariants as line;
 ghost use Rattle.script_functions.specs.declared.line.Part.TheVariants as part;
-ghost use Rattle.formula_lang.specs.CommandView.{constant_view, formula_view, formulas_of};
-ghost use Rattle.script_model.specs.Formula.{Apply, Fold, Join, binds_in, binds_in_all, places_in, places_in_all};
+ghost use Rattle.formula_lang.specs.CommandView.{constant_view, formula_view, formulas_of, timed_view};
+ghost use Rattle.inc_value.specs.Choice.{Every};
+ghost use Rattle.script_model.specs.Formula.{Apply, Fold, Join, TimedValue, binds_in, binds_in_all, places_in, places_in_all};
 ghost use Rattle.script_model.specs.Leaves.{EveryReference};
 ghost use Rattle.transfer.specs.Both.{graph_value};
+ghost use Rattle.transfer.specs.Shows.{graph_step};
 ghost use Rattle.formula_elab.specs.Bodies.{size_of};
 ghost use Rattle.formula_elab.specs.Names.{EveryName, EveryNameOfAll};
 ghost use Rattle.formula_elab.specs.Opened.{node_at};
 ghost use Rattle.formula_elab.specs.Types.{type_at};
-ghost use Rattle.formula_elab.specs.Writing.{variable, variables, with_line, with_named, AreWritten, IsBindAdded, IsWritten, IsWrittenBody};
+ghost use Rattle.formula_elab.specs.Writing.{variable, variables, with_each_named, with_line, with_named, AreWritten, IsBindAdded, IsWritten, IsWrittenBody};
 ghost use Rattle.formula_elab.specs.declared.body.OpenLine.TheVariants as open_line;
 
 use crate::body::{OpenBody, OpenLine, Page};
 use crate::plan::Planned;
 use crate::types::{formula_type, within};
-use crate::value::value_of;
-use formula_lang::{Constant, Formula, Names};
+use crate::value::{steps_of, value_of};
+use formula_lang::{Constant, Formula, Names, TimedConstant};
 use inc_value::{FnRef, NodeId, Sig, Ty};
 use script_functions::{Line, Part, Parts};
 use std::alloc::{AllocError, Global};
@@ -101,6 +103,9 @@ fn write(
             drop(inner);
             add_bind(alloc, left, body, tys.len(), page, makes)
         }
+        Formula::At(time) => page.add(OpenLine::Ready(Line::At(time.time()))),
+        Formula::Steps { first, steps } => write_steps(alloc, first, steps, ids, page),
+        Formula::Now => page.add(OpenLine::Ready(Line::Now)),
     }
 }
 
@@ -122,6 +127,54 @@ fn write_literal(
     list_named(constant, ids, page)?;
     let value = value_of(alloc, constant, ids)?;
     page.add(OpenLine::Ready(Line::Const(value)))
+}
+
+/// Writes steps. The nodes that their values name are listed.
+#[inline(never)]
+fn write_steps(
+    alloc: Global,
+    first: &Constant,
+    steps: &[TimedConstant],
+    ids: &[NodeId],
+    page: &mut Page,
+) -> Result<Part, AllocError>
+    requires first { EveryReference (λ n. n < length ids.now) (constant_view first.now) }
+    requires steps { Every (λ (s : TimedValue). EveryReference (λ n. n < length ids.now) s.value) (map timed_view steps.now) }
+    requires few { size_of page.old + 1 < 2 ^ 64 }
+    ensures part { IfOk result (λ p. p ≡ part.Line (length
+        (with_each_named (node_at ids.now) (with_named (node_at ids.now) page.old (constant_view first.now)) (map timed_view steps.now)).lines + 1)) }
+    ensures page { OnOk result (page.new ≡ with_line
+        (with_each_named (node_at ids.now) (with_named (node_at ids.now) page.old (constant_view first.now)) (map timed_view steps.now))
+        (open_line.Ready (line.Steps (graph_value (node_at ids.now) (constant_view first.now))
+        (map (graph_step (node_at ids.now)) (map timed_view steps.now))))) }
+    ensures size { OnOk result (size_of page.new ≡ size_of page.old + 1) }
+{
+    list_named(first, ids, page)?;
+    list_each_named(steps, ids, page)?;
+    let steps = steps_of(alloc, steps, ids)?;
+    match value_of(alloc, first, ids) {
+        Ok(first) => page.add(OpenLine::Ready(Line::Steps(first, steps))),
+        Err(fault) => {
+            drop(steps);
+            Err(fault)
+        }
+    }
+}
+
+/// Lists the nodes that the values of steps name.
+fn list_each_named(
+    steps: &[TimedConstant],
+    ids: &[NodeId],
+    page: &mut Page,
+) -> Result<(), AllocError>
+    requires names { Every (λ (s : TimedValue). EveryReference (λ n. n < length ids.now) s.value) (map timed_view steps.now) }
+    ensures listed { OnOk result (page.new ≡ with_each_named (node_at ids.now) page.old (map timed_view steps.now)) }
+    ensures size { OnOk result (size_of page.new ≡ size_of page.old) }
+{
+    for step in steps {
+        list_named(&step.value, ids, page)?;
+    }
+    Ok(())
 }
 
 /// Lists the node that a constant names, if it names one.

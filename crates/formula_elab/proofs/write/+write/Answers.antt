@@ -1,5 +1,5 @@
-use Rattle.std.proofs.Common.{◌+◌, ◌<◌, ◌^◌, List, ◌∷◌, length, arith, ap, subst, sym, ◌∙◌}
-use Rattle.formula_lang.specs.CommandView.{formula_level, formula_view}
+use Rattle.std.proofs.Common.{◌+◌, ◌<◌, ◌^◌, List, ◌∷◌, length, map, arith, ap, subst, sym, ◌∙◌}
+use Rattle.formula_lang.specs.CommandView.{constant_view, formula_level, formula_view, formulas_of}
 use Rattle.formula_lang.specs.declared.command.Formula.TheFolds.{fold-roll-Formula}
 use Rattle.formula_lang.specs.declared.command.Formula.TheOpen as level
 use Rattle.formula_lang.specs.declared.command.Formula.TheVariants.{rolls-Bind, rolls-If}
@@ -11,7 +11,7 @@ use Rattle.formula_elab.specs.Names.{EveryName}
 use Rattle.formula_elab.specs.Opened.{node_at}
 use Rattle.formula_elab.specs.Types.{type_at}
 use Rattle.formula_elab.specs.Writing.{IsWrittenBody}
-use Rattle.formula_elab.proofs.WrittenInTurn.{bind_answer, if_answer}
+use Rattle.formula_elab.proofs.WrittenInTurn.{bind_answer, fold_answer, if_answer}
 use Rattle.formula_elab.proofs.write.+write.Goals as goal
 
 pub write-formula_type-requires : goal.write-formula_type-requires
@@ -74,3 +74,11 @@ write-returns-in_ok-body-in-Bind t c =
     rw is (bind_answer nodes tys bounds (formula_view h.left.value) (formula_view h.body.value) c.args.makes.now.items m1 m2 c.args.page.now
     c.write-in-Bind.new.page c.in_ok-left-in-Bind.left o (rw c.deref-in-Bind-2.ensures at c.in_ok-left-in-Bind.ensures) body
     c.add_bind.new.makes.items c.add_bind.new.page c.add_bind.result c.add_bind.ensures)
+
+pub write_fold-returns : goal.write_fold-returns
+write_fold-returns t c =
+    fold_answer (node_at c.args.ids.now) (type_at c.args.names.now) c.args.tys.now c.args.function (constant_view c.args.first.now)
+    (formulas_of (map formula_view c.args.elements.now)) c.args.makes.now.items c.write_each.new.makes.items c.args.page.now
+    c.list_named.new.page c.write_each.new.page c.in_ok-first.first c.in_ok-elements.elements c.in_ok-list_named.ensures.listed
+    c.in_ok-list_named.ensures.size c.in_ok-first.ensures.value c.in_ok-elements.ensures c.add.new.self c.add.result c.add.ensures.added
+    c.add.ensures.part
