@@ -9,3 +9,4 @@ pub mod Adding
 pub mod Cutting
 pub mod Dropping
 pub mod Added
+pub mod Advancing

@@ -113,6 +113,7 @@ pub record Adopts (old new : Parts) (b : NodeId) (count : ℕ) (These : NodeId �
   pub work : HasAdopted old.arena count These old.work new.work
   pub scopes : HaveEntered old.scopes new.scopes b These
   pub arena : new.arena ≡ old.arena
+  pub timed : new.timed ≡ old.timed
   pub dying : new.dying.items ≡ old.dying.items
   pub ran : new.ran ≡ old.ran
 
@@ -204,6 +205,7 @@ pub record HaveLeft (old new : Parts) (b : NodeId) : Type 0 where
   pub stands : (n s : NodeId) → StandsIn new.scopes n s ↔ (StandsIn old.scopes n s × (s ≢ b))
   pub killed : new.scopes.killed ≡ []
   pub arena : new.arena ≡ old.arena
+  pub timed : new.timed ≡ old.timed
   pub dying : new.dying.items ≡ old.dying.items
   pub ran : new.ran ≡ old.ran
 
@@ -228,5 +230,6 @@ pub record HasDisowned (old new : Parts) (b : NodeId) (count : ℕ) : Type 0 whe
   pub no_point : (p : Point) → count ≤ p.node.gen_ → at new.work.graph.heights p ≡ None
   pub stands : (n s : NodeId) → StandsIn new.scopes n s ↔ (StandsIn old.scopes n s × (s ≢ b))
   pub killed : new.scopes.killed ≡ []
+  pub timed : new.timed ≡ old.timed
   pub dying : new.dying.items ≡ old.dying.items
   pub ran : new.ran ≡ old.ran

@@ -88,6 +88,7 @@ pub record IsCutOff (old new : Parts) (b : NodeId) : Type 0 where
   pub places : KeepsPlaces old.work new.work
   pub rest : new.work ≡ record old.work { graph = new.work.graph; rows = new.work.rows }
   pub arena : new.arena ≡ old.arena
+  pub timed : new.timed ≡ old.timed
   pub ran : new.ran ≡ old.ran
 
 -- the bind's change is in the heap, and its main has no right side
@@ -150,6 +151,7 @@ pub record AreInvalidated (old new : Parts) (b : NodeId) : Type 0 where
   pub places : KeepsPlaces old.work new.work
   pub rest : new.work ≡ record old.work { graph = new.work.graph; rows = new.work.rows }
   pub arena : new.arena ≡ old.arena
+  pub timed : new.timed ≡ old.timed
   pub ran : new.ran ≡ old.ran
 
 -- just the nodes of the bind's scope, and of those within it, are listed, each once

@@ -13,6 +13,7 @@ use Rattle.wiring.specs.Kept.{IsKept, IsBind}
 use Rattle.wiring.specs.Stands.{Counts}
 use Rattle.wiring.specs.declared.refused.Refused.{Refused}
 use Rattle.wiring.specs.declared.refused.Refused.TheVariants as refused
+use Rattle.timed_nodes.specs.Timed.{KeepsClock}
 use Rattle.stabilizer.specs.declared.parts.Parts.{Parts}
 
 -- the nodes of parts as a graph
@@ -41,6 +42,7 @@ pub record PartsKept (parts : Parts) : Type 0 where
   pub work : IsKept parts.arena parts.work
   pub scopes : KeepsScopes parts.arena parts.scopes
   pub dying : parts.dying.items ≡ []
+  pub clock : KeepsClock parts.arena parts.timed
 
 -- the count of calls that found no memory: it stays, but that a call which finds none refuses what it was called for, as want of memory, and is counted
 abbrev pub WantsTell : {T : Type 0} → Result T Refused → ℕ → ℕ → Type 0

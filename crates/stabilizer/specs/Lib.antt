@@ -14,3 +14,4 @@ pub mod Adding
 pub mod Rooted
 pub mod Staying
 pub mod Ended
+pub mod Clock

@@ -131,6 +131,7 @@ impl Parts {
         ensures enters { OnOk result (Enters self.old.scopes self.new.scopes node bind) }
         ensures rest { KeepsRest self.old.arena self.old.work self.new.work }
         ensures arena { self.new.arena ≡ self.old.arena }
+        ensures timed { self.new.timed ≡ self.old.timed }
         ensures dying { self.new.dying.items ≡ self.old.dying.items }
         ensures ran { self.new.ran ≡ self.old.ran }
         ensures err_rows { OnErr result (KeepsRows self.old.work.rows self.new.work.rows) }

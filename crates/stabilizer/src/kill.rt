@@ -9,6 +9,7 @@ ghost use Rattle.necessary_graph.specs.Part.{Needed, IsInStep};
 ghost use Rattle.node_arena.specs.Arena.{live, IsLive};
 ghost use Rattle.wiring.specs.Graph.{died_at};
 ghost use Rattle.wiring.specs.Kept.{IsKept};
+ghost use Rattle.timed_nodes.specs.Timed.{KeepsClock};
 ghost use Rattle.stabilizer.specs.Kept.{PartsKept, graph_in};
 ghost use Rattle.stabilizer.specs.Dying.{AreDying, IsCutOff, HasDied, HaveGatesAlone, LeavesStanding, StandsBut, scope_at, AreListed, MayForget};
 ghost use Rattle.stabilizer.specs.Dying.{AreForgotten, LosesRight, IsInvalidated, IsPutToGate, KeepsGate};
@@ -91,6 +92,7 @@ impl Parts {
     /// This takes no memory, and costs what dies.
     pub(crate) fn let_die(&mut self, bind: NodeId)
         requires kept { IsKept self.old.arena self.old.work }
+        requires clock { KeepsClock self.old.arena self.old.timed }
         requires dying { AreDying (graph_in self.old) bind self.old.dying.items }
         requires gates { HaveGatesAlone self.old bind }
         requires scopes { StandsBut self.old bind }
@@ -134,10 +136,12 @@ impl Parts {
         ensures forgotten { AreForgotten self.old.arena self.new.arena self.old.work self.new.work self.old.dying.items }
         ensures none { self.new.dying.items ≡ [] }
         ensures step { IsInStep self.new.work.graph }
-        ensures rest { self.new ≡ record self.old { arena = self.new.arena; work = self.new.work; dying = self.new.dying } }
+        ensures clock { KeepsClock self.old.arena self.old.timed → KeepsClock self.new.arena self.new.timed }
+        ensures rest { self.new ≡ record self.old { arena = self.new.arena; timed = self.new.timed; work = self.new.work; dying = self.new.dying } }
     {
         while let Some(node) = self.dying.pop() {
             self.work.forget(node);
+            self.timed.forget(node);
             self.arena.drop_node(node);
         }
     }

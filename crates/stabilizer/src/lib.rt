@@ -9,4 +9,5 @@ mod stabilizer;
 
 pub use parts::Parts;
 pub use stabilizer::Stabilizer;
+pub use timed_nodes::{AdvanceFault, AfterFault};
 pub use wiring::Refused;

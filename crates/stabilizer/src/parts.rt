@@ -1,6 +1,6 @@
 //! The nodes of a graph with all that a stabilizer keeps of them.
-ghost use Rattle.std.specs.Prelude.{◌≡◌, ◌≢◌, ◌↔◌, ◌+◌, ◌<◌, ◌≤◌, pos, [], None, Some};
-ghost use Rattle.std.specs.Prelude.{OnOk, OnErr, IsErrOf, option_copied};
+ghost use Rattle.std.specs.Prelude.{◌≡◌, ◌≢◌, ◌↔◌, ◌+◌, ◌<◌, ◌≤◌, ◌+ℤ◌, ◌<ℤ◌, pos, [], None, Some};
+ghost use Rattle.std.specs.Prelude.{IfOk, OnOk, OnErr, IsErr, IsErrOf, option_copied};
 ghost use Rattle.inc_value.specs.declared.node.NodeId.{NodeId};
 ghost use Rattle.inc_value.specs.declared.node.Point.{Point};
 ghost use Rattle.inc_terms.specs.Clock.{IsTimed};
@@ -12,13 +12,15 @@ ghost use Rattle.point_map.specs.Rows.{at, Holds};
 ghost use Rattle.point_map.specs.Rows.{Changes as RowChanges};
 ghost use Rattle.link_table.specs.Links.{times};
 ghost use Rattle.necessity.specs.Need.{IsRoot};
-ghost use Rattle.necessary_graph.specs.Part.{web, Needed};
+ghost use Rattle.necessary_graph.specs.Part.{web, Needed, IsInStep};
 ghost use Rattle.node_arena.specs.Arena.{row_at, live, IsLive, NamesGiven, IsFull, IsVariable, IsSet};
 ghost use Rattle.node_arena.specs.Typing.{Makes, FitsNode, IsAddable};
 ghost use Rattle.node_outcomes.specs.Meaning.{Meaning};
 ghost use Rattle.node_outcomes.specs.Row.{IsRewritten, outcome_in, with_cutoff};
 ghost use Rattle.stabilizer.specs.Adding.{HasNode, AddsNothing, SaysAdded};
 ghost use Rattle.stabilizer.specs.Between.{StaysButHeap, LosesRoot, LosesNode, IsTakenBack};
+ghost use Rattle.stabilizer.specs.Clock.{AreMarked};
+ghost use Rattle.timed_nodes.specs.Timed.{IsMovedTo};
 ghost use Rattle.stabilizer.specs.Kept.{PartsKept};
 ghost use Rattle.wiring.specs.Places.{ChangesNode};
 ghost use Rattle.stabilizer.specs.Round.{IsReady, AreRooted};
@@ -31,12 +33,15 @@ use node_outcomes::set_cutoff;
 use point_map::PointMap;
 use scopes::Scopes;
 use std::alloc::{AllocError, Global};
+use timed_nodes::{AdvanceFault, AfterFault, TimedNodes};
 use wiring::Work;
 
 /// The nodes of a graph with all that a stabilizer keeps of them.
 pub struct Parts {
     pub(crate) alloc: Global,
     pub(crate) arena: Arena,
+    /// The nodes that read the clock.
+    pub(crate) timed: TimedNodes,
     /// Which nodes stand in the scopes of binds.
     pub(crate) scopes: Scopes,
     pub(crate) work: Work,
@@ -52,12 +57,14 @@ impl Drop for Parts {
         let Parts {
             alloc: _,
             arena,
+            timed,
             scopes,
             work,
             dying,
             ran,
         } = self;
         drop(arena);
+        drop(timed);
         drop(scopes);
         drop(work);
         drop(dying);
@@ -81,6 +88,7 @@ impl Parts {
         Parts {
             alloc,
             arena: Arena::new(alloc),
+            timed: TimedNodes::new(alloc),
             scopes: Scopes::new(alloc),
             work: Work::new(alloc),
             dying: Vec::new(alloc),
@@ -195,6 +203,65 @@ impl Parts {
         }
     }
 
+    /// The time by which nodes are read, in nanoseconds.
+    pub fn time(&self) -> i64
+        ensures { result ≡ self.now.arena.time }
+    {
+        self.arena.time()
+    }
+
+    /// The time that is a span after the present one, both in nanoseconds. None is past the greatest.
+    pub fn after(&self, span: u64) -> Result<i64, AfterFault>
+        requires kept { PartsKept self.now }
+        ensures ok { IfOk result (λ t. t ≡ (self.now.arena.time +ℤ pos span)) }
+        ensures range { IsErr result ↔ (pos 9223372036854775807 <ℤ (self.now.arena.time +ℤ pos span)) }
+    {
+        self.timed.after(span)
+    }
+
+    /// Moves the time on to one in nanoseconds, which may be the present one. Needed nodes that show another value then
+    /// are put into the heap. Fails only where the time is before the present one, or for want of memory; then the nodes
+    /// stay, and all that is kept of them.
+    pub fn advance(&mut self, to: i64) -> Result<(), AdvanceFault>
+        requires kept { PartsKept self.old }
+        ensures back { IsErrOf result AdvanceFault.Back ↔ (to <ℤ self.old.arena.time) }
+        ensures moved { OnOk result (IsMovedTo self.old.arena self.new.arena to) }
+        ensures err { OnErr result (self.new ≡ record self.old { timed = self.new.timed }) }
+        ensures stays { StaysButHeap self.old self.new }
+    {
+        if to < self.arena.time() {
+            return Err(AdvanceFault::Back);
+        }
+        match self.timed.take_in(&self.arena) {
+            Ok(()) => {}
+            Err(AllocError) => return Err(AdvanceFault::Memory),
+        }
+        match self.timed.move_to(to) {
+            Ok(()) => {
+                self.arena.move_to(to);
+                self.schedule_stale();
+                Ok(())
+            }
+            Err(AllocError) => Err(AdvanceFault::Memory),
+        }
+    }
+
+    /// The nodes that a move of the time has found are put into the heap, where they are needed.
+    fn schedule_stale(&mut self)
+        requires step { IsInStep self.old.work.graph }
+        ensures marked { AreMarked self.old.work.graph self.new.work.graph self.old.timed.stale }
+        ensures none { self.new.timed.stale ≡ [] }
+        ensures step { IsInStep self.new.work.graph }
+        ensures rest { self.new ≡ record self.old {
+          work = record self.old.work { graph = self.new.work.graph };
+          timed = record self.old.timed { stale = self.new.timed.stale };
+        } }
+    {
+        while let Some(node) = self.timed.next_stale() {
+            self.work.schedule(Point::main(node));
+        }
+    }
+
     /// Takes a root off a node, once. What is no longer needed then loses its links; its outcome and its last call
     /// stay. This takes no memory.
     pub fn unroot(&mut self, id: NodeId)
@@ -232,6 +299,7 @@ impl Parts {
         ensures { LosesNode self.old self.new id }
     {
         self.arena.drop_node(id);
+        self.timed.forget(id);
         self.work.drop_node(id);
         forget_roots(&mut self.work.roots, id);
     }

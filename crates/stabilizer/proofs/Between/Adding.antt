@@ -45,6 +45,8 @@ use Rattle.stabilizer.proofs.Between.Alone.{ready_stays}
 use Rattle.stabilizer.proofs.Between.Fitting.{added_fit}
 use Rattle.stabilizer.proofs.Between.Keeping.{carried, fit_still, parts_stay}
 use Rattle.stabilizer.proofs.Building.Adopting.{rounds_kept}
+use Rattle.timed_nodes.proofs.Watching.{clock_grown}
+use Rattle.timed_nodes.specs.Timed.{KeepsClock}
 
 -- what is there is of another node than a new one
 pub other_node : (arena : Arena) (work : Work) (id : NodeId) → IsKept arena work → id.gen_ ≡ arena.given → (p : Point) → Holds work.graph.heights p
@@ -340,7 +342,7 @@ module _ (old new : Parts) (kept : PartsKept old) (same : KeepsWork old.work new
   stays = back_stays old.arena old.work new.work same
 
   parts_kept : PartsKept parts
-  parts_kept = parts_stay old parts kept (back_kept old.arena old.work new.work kept.work same step pairs scoped) stays refl refl
+  parts_kept = parts_stay old parts kept (back_kept old.arena old.work new.work kept.work same step pairs scoped) stays refl refl kept.clock
 
   pub back_parts : PartsKept new
   back_parts = subst PartsKept (sym rest) parts_kept
@@ -358,7 +360,8 @@ module _ (old new : Parts) (id : NodeId) (row : Row) (heights : Part → ℕ) (k
     (scoped : new.work.scoped ≡ old.work.scoped)
     (links : new.work.graph.links ≡ old.work.graph.links) (roots : new.work.graph.roots ≡ old.work.graph.roots)
     (heap : (p : Point) → at new.work.graph.heap p ≡ at old.work.graph.heap p) (step : IsInStep new.work.graph) (round : KeepsRound old.work new.work)
-    (todo : new.work.todo.items ≡ old.work.todo.items) (scopes : new.scopes ≡ old.scopes) (dying : new.dying.items ≡ old.dying.items) where
+    (todo : new.work.todo.items ≡ old.work.todo.items) (scopes : new.scopes ≡ old.scopes) (dying : new.dying.items ≡ old.dying.items)
+    (timed : new.timed ≡ old.timed) where
   node_stays : Stays old.arena new.arena old.work new.work
   node_stays = added_stays old.arena new.arena old.work new.work id row heights kept.work gen added top sound given rows points pairs scoped links roots
       heap step round todo
@@ -366,6 +369,8 @@ module _ (old new : Parts) (id : NodeId) (row : Row) (heights : Part → ℕ) (k
   pub added_parts : PartsKept new
   added_parts = parts_stay old new kept (added_kept old.arena new.arena old.work new.work id row heights kept.work gen added top sound given rows points
       pairs scoped links roots heap step round todo) node_stays scopes dying
+      (subst (KeepsClock new.arena) (sym timed) (clock_grown old.arena new.arena old.timed kept.clock (omega (arith, given)) added.time
+      (λ n g. added.others n (λ is. let e = ap (λ (m : NodeId). m.gen_) is in absurd (omega (arith, e, gen, g))))))
 
   pub added_ready : (M : Meaning) → CallsFit old.arena.given M.known M.ids row.def → IsReady M old → IsReady M new
   added_ready M calls ready = ready_stays M old new ready (added_fit M old.arena new.arena id ready.fit row added given calls) added_parts node_stays

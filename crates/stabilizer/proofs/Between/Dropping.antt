@@ -34,6 +34,7 @@ use Rattle.node_lists.specs.Listed.{Listed}
 use Rattle.node_outcomes.specs.Choosing.{built_in}
 use Rattle.stabilizer.proofs.Between.Alone.{ready_stays}
 use Rattle.stabilizer.proofs.Between.Fitting.{dropped_fit}
+use Rattle.timed_nodes.specs.Timed.{KeepsClock}
 use Rattle.stabilizer.proofs.Between.Keeping.{carried, fit_still, parts_stay}
 use Rattle.wiring.proofs.Deciding.{need_same}
 use Rattle.wiring.proofs.Linking.{some_or_none}
@@ -204,7 +205,7 @@ module _ (old new : Parts) (id : NodeId) (kept : PartsKept old) (unneeded : (p :
     (links : new.work.graph.links ≡ old.work.graph.links) (roots : new.work.graph.roots ≡ old.work.graph.roots)
     (heap : new.work.graph.heap ≡ old.work.graph.heap) (step : IsInStep new.work.graph) (sound : IsSoundArena new.arena)
     (rest : new.work ≡ record old.work { graph = new.work.graph; rows = new.work.rows; roots = new.work.roots })
-    (scopes : new.scopes ≡ old.scopes) (dying : new.dying.items ≡ old.dying.items) where
+    (scopes : new.scopes ≡ old.scopes) (dying : new.dying.items ≡ old.dying.items) (clock : KeepsClock new.arena new.timed) where
   stays : Stays old.arena new.arena old.work new.work
   stays = dropped_stays old.arena new.arena old.work new.work id kept.work unneeded unscoped dropped given rows points rights links roots heap step
       sound rest
@@ -212,7 +213,7 @@ module _ (old new : Parts) (id : NodeId) (kept : PartsKept old) (unneeded : (p :
   pub dropped_parts : PartsKept new
   dropped_parts = parts_stay old new kept
       (dropped_kept old.arena new.arena old.work new.work id kept.work unneeded unscoped dropped given rows points rights links roots heap step
-      sound rest) stays scopes dying
+      sound rest) stays scopes dying clock
 
   pub dropped_ready : (M : Meaning) → IsReady M old → IsReady M new
   dropped_ready M ready = ready_stays M old new ready (dropped_fit M old.arena new.arena id ready.fit dropped given) dropped_parts stays
@@ -353,7 +354,7 @@ module _ (old left : Parts) (count : ℕ) (so : HasDropped old left count) (ran 
   }
 
   parts_kept : PartsKept parts
-  parts_kept = parts_stay left parts so.kept forgotten_kept forgotten_stays refl refl
+  parts_kept = parts_stay left parts so.kept forgotten_kept forgotten_stays refl refl so.kept.clock
 
   pub taken_back : IsTakenBack old parts count
   taken_back =

@@ -32,6 +32,7 @@ use Rattle.wiring.specs.declared.work.Work.{Work}
 use Rattle.wiring.proofs.Deciding.{need_same}
 use Rattle.wiring.proofs.Holding.{held_rewritten, died_same, links_same, root_same, pairs_same, scoped_same}
 use Rattle.stabilizer.specs.Between.{Stays}
+use Rattle.timed_nodes.specs.Timed.{KeepsClock}
 use Rattle.stabilizer.specs.Kept.{KeepsScopes, PartsKept}
 use Rattle.stabilizer.specs.declared.parts.Parts.{Parts}
 use Rattle.wiring.proofs.Staying.{rewritten_there}
@@ -221,9 +222,10 @@ scopes_stay before arena old work scopes stays kept = record {
 
 -- so parts are kept whose nodes and work are
 pub parts_stay : (old new : Parts) → PartsKept old → IsKept new.arena new.work → Stays old.arena new.arena old.work new.work → new.scopes ≡ old.scopes
-    → new.dying.items ≡ old.dying.items → PartsKept new
-parts_stay old new kept work stays scopes dying = record {
+    → new.dying.items ≡ old.dying.items → KeepsClock new.arena new.timed → PartsKept new
+parts_stay old new kept work stays scopes dying clock = record {
   work = work;
   scopes = subst (KeepsScopes new.arena) (sym scopes) (scopes_stay old.arena new.arena old.work new.work old.scopes stays kept.scopes);
   dying = dying ∙ kept.dying;
+  clock = clock;
 }

@@ -42,6 +42,7 @@ use Rattle.stabilizer.proofs.Between.Alone.{needed_row, ready_stays}
 use Rattle.wiring.proofs.Agreeing.{same_some}
 use Rattle.stabilizer.proofs.Between.Fitting.{set_fit}
 use Rattle.stabilizer.proofs.Between.Keeping.{parts_stay}
+use Rattle.timed_nodes.proofs.Watching.{clock_set}
 use Rattle.node_outcomes.specs.Meaning.{Meaning}
 use Rattle.wiring.proofs.Deciding.{need_same}
 use Rattle.stabilizer.proofs.Between.Typing.{KeepsTypes, typed_still, right_still}
@@ -309,6 +310,7 @@ module _ (old new : Parts) (id : NodeId) (v : Value) (kept : PartsKept old) (set
   parts_kept = parts_stay old parts kept
       (set_kept old.arena new.arena old.work work id v kept.work set not_other given refl marked step round_stays refl lists_stay sound)
       stays refl refl
+      (clock_set old.arena new.arena old.timed id v kept.clock set (is_variable old.arena id set.row set.there not_other) given)
 
   pub set_parts : PartsKept new
   set_parts = subst PartsKept (sym rest) parts_kept

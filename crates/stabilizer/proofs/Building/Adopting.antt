@@ -74,6 +74,7 @@ module _ (parts : Parts) (b : NodeId) (count : ℕ) (may : MayAdopt parts count)
       killed = refl;
     };
     arena = refl;
+    timed = refl;
     dying = refl;
     ran = refl;
   }
@@ -256,7 +257,7 @@ module _ (old mid : Parts) (b node : NodeId) (count next : ℕ) (may : MayAdopt 
   pub next_low : count ≤ node.gen_ + 1
   next_low = let s = new_since old.arena node count next may.sound low first in omega (arith, s)
 
-  module _ (new : Parts) (rest_now : KeepsRest mid.arena mid.work new.work) (arena : new.arena ≡ mid.arena)
+  module _ (new : Parts) (rest_now : KeepsRest mid.arena mid.work new.work) (arena : new.arena ≡ mid.arena) (timed : new.timed ≡ mid.timed)
       (dying : new.dying.items ≡ mid.dying.items) (ran : new.ran ≡ mid.ran) where
     rest : KeepsRest old.arena mid.work new.work
     rest = subst (λ (x : Arena). KeepsRest x mid.work new.work) so.arena rest_now
@@ -267,6 +268,7 @@ module _ (old mid : Parts) (b node : NodeId) (count next : ℕ) (may : MayAdopt 
           (subst (λ (x : Arena). GetsPoints x mid.work new.work node) so.arena gets) rest;
       scopes = entered_more old.arena node count next may.sound low first old.scopes mid.scopes new.scopes b so.scopes enters;
       arena = arena ∙ so.arena;
+      timed = timed ∙ so.timed;
       dying = dying ∙ so.dying;
       ran = ran ∙ so.ran;
     }
@@ -277,6 +279,7 @@ module _ (old mid : Parts) (b node : NodeId) (count next : ℕ) (may : MayAdopt 
       work = adopted_same old.arena count (IsNewBefore old.arena count next) old.work mid.work new.work so.work rows points rest;
       scopes = subst (λ (x : Scopes). HaveEntered old.scopes x b (IsNewBefore old.arena count next)) (sym scopes) so.scopes;
       arena = arena ∙ so.arena;
+      timed = timed ∙ so.timed;
       dying = dying ∙ so.dying;
       ran = ran ∙ so.ran;
     }

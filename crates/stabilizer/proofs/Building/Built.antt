@@ -39,7 +39,10 @@ use Rattle.stabilizer.specs.Giving.{GivesLive}
 use Rattle.stabilizer.specs.Kept.{PartsKept, KeepsScopes}
 use Rattle.stabilizer.specs.Rooted.{MayBuildFor, WasBuilt}
 use Rattle.stabilizer.specs.Weights.{ScopesFit, SidesFit}
+use Rattle.timed_nodes.specs.Timed.{KeepsClock}
 use Rattle.stabilizer.specs.declared.parts.Parts.{Parts}
+use Rattle.timed_nodes.specs.Timed.{Timed}
+use Rattle.timed_nodes.proofs.Watching.{clock_grown}
 use Rattle.stabilizer.proofs.Step.Giving.{built_gives}
 use Rattle.stabilizer.proofs.Building.Adopting.{rounds_kept, adopts_none}
 use Rattle.stabilizer.proofs.Building.Weighing.{sides_last, scopes_built}
@@ -79,7 +82,8 @@ stops_by before arena fault.Memory e full memory room = subst (StopsBuilding bef
 module _ (old mid : Parts) (b : NodeId) (side : RightSide) (kept : PartsKept old)
     (bind : IsBindNode old.arena b) (empty : IsEmpty old.arena b)
     (sound : IsSoundArena mid.arena) (grows : Grows side.uses (building_in b old.arena) (building_in b mid.arena) side.size)
-    (work : mid.work ≡ old.work) (scopes : mid.scopes ≡ old.scopes) (dying : mid.dying.items ≡ old.dying.items) (ran : mid.ran ≡ old.ran) where
+    (work : mid.work ≡ old.work) (scopes : mid.scopes ≡ old.scopes) (timed : mid.timed ≡ old.timed) (dying : mid.dying.items ≡ old.dying.items)
+    (ran : mid.ran ≡ old.ran) where
   -- ---- what is new
 
   no_old_row : (p : Point) → old.arena.given ≤ p.node.gen_ → at old.work.rows p ≡ None
@@ -149,6 +153,9 @@ module _ (old mid : Parts) (b : NodeId) (side : RightSide) (kept : PartsKept old
         work = subst (λ (x : Arena). IsKept x new.work) (sym so.arena) work_kept;
         scopes = subst (λ (x : Arena). KeepsScopes x new.scopes) (sym so.arena) scopes_kept;
         dying = so.dying ∙ (dying ∙ kept.dying);
+        clock = subst (λ (x : Timed). KeepsClock new.arena x) (sym (so.timed ∙ timed))
+            (subst (λ (x : Arena). KeepsClock x old.timed) (sym so.arena)
+            (clock_grown old.arena mid.arena old.timed kept.clock grows.later grows.time (λ n g. grows.keeps n g)));
       }
 
       pub has_grown : HasGrown old new b
@@ -219,6 +226,9 @@ module _ (old mid : Parts) (b : NodeId) (side : RightSide) (kept : PartsKept old
       later_last : old.arena.given ≤ last.arena.given
       later_last = let g = given_same in let l = grows.later in omega (arith, g, l)
 
+      time_last : last.arena.time ≡ old.arena.time
+      time_last = dis.arena.time ∙ (ap (λ (x : Arena). x.time) so.arena ∙ grows.time)
+
       adopted_none : HasAdopted last.arena old.arena.given (λ n. ⊥) old.work last.work
       adopted_none = record {
         step = dis.step;
@@ -270,13 +280,15 @@ module _ (old mid : Parts) (b : NodeId) (side : RightSide) (kept : PartsKept old
         scopes = grown_scopes old.arena last.arena old.work last.work b (λ n. ⊥) kept.work bind later_last dis.arena.sound nodes_old no_scope
             adopted_none none_alive (λ n t. absurd t) (λ n t. absurd t) old.scopes last.scopes kept.scopes entered_none;
         dying = dis.dying ∙ (so.dying ∙ (dying ∙ kept.dying));
+        clock = subst (λ (x : Timed). KeepsClock last.arena x) (sym (dis.timed ∙ (so.timed ∙ timed)))
+            (clock_grown old.arena last.arena old.timed kept.clock later_last time_last nodes_old);
       }
 
       pub is_unbuilt : IsUnbuilt old last b
       is_unbuilt = record {
         grown = record {
           later = later_last;
-          time = dis.arena.time ∙ (ap (λ (x : Arena). x.time) so.arena ∙ grows.time);
+          time = time_last;
           sound = dis.arena.sound;
           nodes = λ n g. nodes_old n g;
           scope = λ n r e s. absurd (none-some r (sym (dis.arena.gone n s) ∙ e));
@@ -333,6 +345,9 @@ module _ {K More : Type 0} {keeper : Ghosts K More} {fs fs' : K} {old mid : Part
   scopes : mid.scopes ≡ old.scopes
   scopes = ap (λ (p : Parts). p.scopes) h.rest
 
+  timed : mid.timed ≡ old.timed
+  timed = ap (λ (p : Parts). p.timed) h.rest
+
   dying : mid.dying.items ≡ old.dying.items
   dying = ap (λ (p : Parts). p.dying.items) h.rest
 
@@ -341,7 +356,7 @@ module _ {K More : Type 0} {keeper : Ghosts K More} {fs fs' : K} {old mid : Part
 
   pub can_adopt : MayAdopt mid count
   can_adopt = subst (λ (k : ℕ). MayAdopt mid k) (sym h.counted)
-      (may_adopt old mid b side h.may.kept h.may.bind h.may.ready.empty h.arena h.grows work scopes dying ran)
+      (may_adopt old mid b side h.may.kept h.may.bind h.may.ready.empty h.arena h.grows work scopes timed dying ran)
 
   -- before any is adopted
   pub none_adopted : (next : ℕ) × AdoptsBefore mid mid b count next
@@ -377,7 +392,7 @@ module _ {K More : Type 0} {keeper : Ghosts K More} {fs fs' : K} {old mid : Part
 
     pub can_disown : (next : ℕ) × AdoptsBefore mid new b count next → MayDisown new b count
     can_disown some = subst (λ (k : ℕ). MayDisown new b k) (sym h.counted)
-        (may_disown old mid b side h.may.kept h.may.bind h.may.ready.empty h.arena h.grows work scopes dying ran new some.0 (adopts_so some.0 some.1))
+        (may_disown old mid b side h.may.kept h.may.bind h.may.ready.empty h.arena h.grows work scopes timed dying ran new some.0 (adopts_so some.0 some.1))
 
     -- all nodes have their points
     module _ (all : (next : ℕ) × AdoptsBefore mid new b count next × NoneSince mid.arena next) where
@@ -389,8 +404,8 @@ module _ {K More : Type 0} {keeper : Ghosts K More} {fs fs' : K} {old mid : Part
 
       pub all_built : WasBuilt keeper fs fs' old new b
       all_built = was_built new
-          (has_grown old mid b side h.may.kept h.may.bind h.may.ready.empty h.arena h.grows work scopes dying ran new all.0 so_all all.2)
-          (built_kept old mid b side h.may.kept h.may.bind h.may.ready.empty h.arena h.grows work scopes dying ran new all.0 so_all all.2)
+          (has_grown old mid b side h.may.kept h.may.bind h.may.ready.empty h.arena h.grows work scopes timed dying ran new all.0 so_all all.2)
+          (built_kept old mid b side h.may.kept h.may.bind h.may.ready.empty h.arena h.grows work scopes timed dying ran new all.0 so_all all.2)
           (subst (λ (x : Arena). SidesFit (keeper.known fs') (keeper.right fs') x) (sym all.1.arena) fit_mid) given_all
 
       pub all_gives : GivesLive old.arena.given 0 new.arena
@@ -410,15 +425,15 @@ module _ {K More : Type 0} {keeper : Ghosts K More} {fs fs' : K} {old mid : Part
 
       given_none : last.arena.given ≡ mid.arena.given
       given_none =
-          given_same old mid b side h.may.kept h.may.bind h.may.ready.empty h.arena h.grows work scopes dying ran new some.0 so last dis
+          given_same old mid b side h.may.kept h.may.bind h.may.ready.empty h.arena h.grows work scopes timed dying ran new some.0 so last dis
 
       unbuilt : IsUnbuilt old last b
-      unbuilt = is_unbuilt old mid b side h.may.kept h.may.bind h.may.ready.empty h.arena h.grows work scopes dying ran new some.0 so last dis
+      unbuilt = is_unbuilt old mid b side h.may.kept h.may.bind h.may.ready.empty h.arena h.grows work scopes timed dying ran new some.0 so last dis
 
       pub none_built : WasBuilt keeper fs fs' old last b
       none_built = was_built last unbuilt.grown
-          (unbuilt_kept old mid b side h.may.kept h.may.bind h.may.ready.empty h.arena h.grows work scopes dying ran new some.0 so last dis)
-          (unbuilt_fit old mid b side h.may.kept h.may.bind h.may.ready.empty h.arena h.grows work scopes dying ran new some.0 so last dis
+          (unbuilt_kept old mid b side h.may.kept h.may.bind h.may.ready.empty h.arena h.grows work scopes timed dying ran new some.0 so last dis)
+          (unbuilt_fit old mid b side h.may.kept h.may.bind h.may.ready.empty h.arena h.grows work scopes timed dying ran new some.0 so last dis
           (keeper.known fs') (keeper.right fs') fit_mid) given_none
 
       pub none_left : (n : NodeId) → old.arena.given ≤ n.gen_ → row_at last.arena n ≡ None
@@ -428,4 +443,4 @@ module _ {K More : Type 0} {keeper : Ghosts K More} {fs fs' : K} {old mid : Part
       none_spends = spends last given_none
 
       pub none_room : IsFull mid.arena → LeavesNoRoom old.arena.given last.arena
-      none_room = no_room old mid b side h.may.kept h.may.bind h.may.ready.empty h.arena h.grows work scopes dying ran new some.0 so last dis
+      none_room = no_room old mid b side h.may.kept h.may.bind h.may.ready.empty h.arena h.grows work scopes timed dying ran new some.0 so last dis

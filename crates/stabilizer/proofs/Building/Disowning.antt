@@ -42,6 +42,7 @@ pub record AreLeaving (old now : Parts) (b : NodeId) : Type 0 where
   pub stands : (n s : NodeId) → StandsIn now.scopes n s ↔ (StandsIn old.scopes n s × (s ≢ b))
   pub rest : KeepsAllBut old.work now.work
   pub arena : now.arena ≡ old.arena
+  pub timed : now.timed ≡ old.timed
   pub pending : now.dying.items ≡ old.dying.items
   pub ran : now.ran ≡ old.ran
 
@@ -51,7 +52,7 @@ in_scope s b none n (direct h) = h
 in_scope s b none n (nested {mid} h i) = absurd (none n mid h (in_scope s b none mid i))
 
 module _ (old now : Parts) (b : NodeId) (may : MayLeave old b) (dying : (n : NodeId) → IsDying now.scopes n ↔ Inside old.scopes b n)
-    (standing : Empties old.scopes now.scopes b) (work : now.work ≡ old.work) (arena : now.arena ≡ old.arena)
+    (standing : Empties old.scopes now.scopes b) (work : now.work ≡ old.work) (arena : now.arena ≡ old.arena) (timed : now.timed ≡ old.timed)
     (pending : now.dying.items ≡ old.dying.items) (ran : now.ran ≡ old.ran) where
   same_row : (p : Point) → at now.work.rows p ≡ at old.work.rows p
   same_row p = ap (λ (w : Work). at w.rows p) work
@@ -68,6 +69,7 @@ module _ (old now : Parts) (b : NodeId) (may : MayLeave old b) (dying : (n : Nod
     stands = standing;
     rest = subst (KeepsAllBut old.work) (sym work) (let round : KeepsRound old.work old.work = round_same old.work in assumption (may.step, round));
     arena = arena;
+    timed = timed;
     pending = pending;
     ran = ran;
   }
@@ -115,7 +117,7 @@ module _ (old now : Parts) (b node : NodeId) (may : MayLeave old b) (so : AreLea
       (links : new.work.graph.links ≡ now.work.graph.links) (roots : new.work.graph.roots ≡ now.work.graph.roots)
       (heap : new.work.graph.heap ≡ now.work.graph.heap) (step : IsInStep new.work.graph)
       (rest : new.work ≡ record now.work { graph = new.work.graph; rows = new.work.rows }) (todo : new.work.todo ≡ now.work.todo)
-      (round : KeepsRound now.work new.work) (arena : new.arena ≡ now.arena) (pending : new.dying.items ≡ now.dying.items)
+      (round : KeepsRound now.work new.work) (arena : new.arena ≡ now.arena) (timed : new.timed ≡ now.timed) (pending : new.dying.items ≡ now.dying.items)
       (ran : new.ran ≡ now.ran) where
     still_dying : (n : NodeId) → IsDying new.scopes n → IsDying now.scopes n × (n ≢ node)
     still_dying n h = (gives n).0 h
@@ -152,6 +154,7 @@ module _ (old now : Parts) (b node : NodeId) (may : MayLeave old b) (so : AreLea
         scoped = ap (λ (w : Work). w.scoped) rest ∙ so.rest.scoped;
       };
       arena = arena ∙ so.arena;
+      timed = timed ∙ so.timed;
       pending = pending ∙ so.pending;
       ran = ran ∙ so.ran;
     }
@@ -174,6 +177,7 @@ module _ (old now : Parts) (b : NodeId) (so : AreLeaving old now b) (none : (n :
     stands = so.stands;
     killed = given;
     arena = so.arena;
+    timed = so.timed;
     dying = so.pending;
     ran = so.ran;
   }
@@ -308,7 +312,7 @@ module _ (old : Parts) (b : NodeId) (count : ℕ) (may : MayDisown old b count) 
         (scoped : (n : NodeId) → n.gen_ < count → IsLive left.arena n → Among n left.work.scoped.nodes → Among n new.work.scoped.nodes)
         (no_pair : (n : NodeId) → Among n new.work.pairs.nodes → n.gen_ < count)
         (no_scoped : (n : NodeId) → Among n new.work.scoped.nodes → n.gen_ < count)
-        (drops : DropsSince left.arena new.arena count) (scopes : new.scopes ≡ left.scopes) (dying : new.dying.items ≡ left.dying.items)
+        (drops : DropsSince left.arena new.arena count) (scopes : new.scopes ≡ left.scopes) (timed : new.timed ≡ left.timed) (dying : new.dying.items ≡ left.dying.items)
         (ran : new.ran ≡ left.ran) where
       alive : (n : NodeId) → IsLive old.arena n → IsLive left.arena n
       alive n h = subst (λ (a : Arena). IsLive a n) (sym has.arena) h
@@ -328,6 +332,7 @@ module _ (old : Parts) (b : NodeId) (count : ℕ) (may : MayDisown old b count) 
         no_point = λ p since. ap (λ (w : Work). at w.graph.heights p) forgot ∙ point_gone p since;
         stands = subst (λ (x : Scopes). (n s : NodeId) → StandsIn x n s ↔ (StandsIn old.scopes n s × (s ≢ b))) (sym scopes) has.stands;
         killed = ap (λ (x : Scopes). x.killed) scopes ∙ has.killed;
+        timed = timed ∙ has.timed;
         dying = dying ∙ has.dying;
         ran = ran ∙ has.ran;
       }

@@ -415,6 +415,7 @@ module _ {K More : Type 0} (keeper : Ghosts K More) (fs : K) where
                 f captures h.to.is_bind root_fits (λ some. (left, is));
             scopes = w.kept.scopes;
             dying = w.kept.dying;
+            clock = w.kept.clock;
           }
 
           pub settles_root : GivesLive ready.arena.given 0 grown.arena → IsToSettle keeper fs fs' first rooted b given
@@ -484,6 +485,7 @@ module _ {K More : Type 0} (keeper : Ghosts K More) (fs : K) where
             h.to.is_bind (λ m e. absurd (none-some m e)) (λ some. absurd (cc));
         scopes = h.lasts.scopes;
         dying = h.lasts.dying;
+        clock = h.lasts.clock;
       }
 
       pub settles_none : IsToSettle keeper fs fs first dead b given

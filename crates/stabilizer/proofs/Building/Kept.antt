@@ -229,6 +229,7 @@ module _ (old : Parts) (deaths : Deaths) (roots : Rows NodeId) (same_deaths : Ke
     work = reserved_kept old.arena old.work deaths roots same_deaths same_roots kept.work;
     scopes = kept.scopes;
     dying = same_dying ∙ kept.dying;
+    clock = kept.clock;
   }
 
   -- they stand for the same states
@@ -275,6 +276,7 @@ roots_roomy dead roots same kept = record {
   work = reserved_kept dead.arena dead.work dead.work.deaths roots (λ p. refl) same kept.work;
   scopes = kept.scopes;
   dying = kept.dying;
+  clock = kept.clock;
 }
 
 -- ---- nothing was built

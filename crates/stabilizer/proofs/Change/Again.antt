@@ -93,6 +93,7 @@ module _ (M : Meaning) (old mid : Parts) (n : NodeId) (before after : Counts) (w
     work = marked_kept (change n) mid.work work marked rest mid.arena row step kept.work;
     scopes = kept.scopes;
     dying = kept.dying;
+    clock = kept.clock;
   }
 
 -- ---- want of memory before anything changed
@@ -143,13 +144,14 @@ module _ (old : Parts) (work : Work) (rest : work ≡ record old.work { todo = w
     work = subst (IsKept old.arena) (sym rest) (todo_kept old.arena old.work work.todo kept.work);
     scopes = kept.scopes;
     dying = kept.dying;
+    clock = kept.clock;
   }
 
 -- ---- another worklist, other links
 
 -- of the parts the work is another that is kept
 pub parts_with : (parts : Parts) (work : Work) → PartsKept parts → IsKept parts.arena work → PartsKept (record parts { work = work })
-parts_with parts work kept is = record { work = is; scopes = kept.scopes; dying = kept.dying }
+parts_with parts work kept is = record { work = is; scopes = kept.scopes; dying = kept.dying; clock = kept.clock }
 
 two_in : (x : Option Row) → has_part x Change ≡ true → (r : Row) × (x ≡ Some r) × IsSome (subject_of r.def)
 two_in None e = absurd (cc)

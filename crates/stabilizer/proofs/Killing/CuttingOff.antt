@@ -67,7 +67,7 @@ module _ (old : Parts) (b : NodeId) (kept : PartsKept old) (there : Holds old.wo
   first = mid old.arena old.work loose b lost kept.work need there
 
   pub begun_kept : PartsKept begun
-  begun_kept = record { work = loose_kept old.arena old.work loose b lost kept.work need there; scopes = kept.scopes; dying = kept.dying }
+  begun_kept = record { work = loose_kept old.arena old.work loose b lost kept.work need there; scopes = kept.scopes; dying = kept.dying; clock = kept.clock }
 
   -- ---- the state that the parts stand for once the change is in the heap again
 
@@ -328,6 +328,7 @@ module _ (old : Parts) (b : NodeId) (kept : PartsKept old) (there : Holds old.wo
       places = places_then old.work loose new.work (loose_places old.arena old.work loose b lost kept.work need there) invalidate.done.places;
       rest = invalidate.done.rest ∙ ap (λ (w : Work). record w { graph = new.work.graph; rows = new.work.rows }) lost.rest;
       arena = invalidate.done.arena;
+      timed = invalidate.done.timed;
       ran = invalidate.done.ran;
     }
 

@@ -31,6 +31,7 @@ use Rattle.wiring.proofs.Deciding.{need_same, decides_needed}
 use Rattle.wiring.proofs.Holding.{died_same, right_as}
 use Rattle.wiring.proofs.Linking.{some_or_none}
 use Rattle.wiring.proofs.Releasing.{main_apart}
+use Rattle.timed_nodes.specs.Timed.{KeepsClock}
 use Rattle.stabilizer.specs.Dying.{AreDying, AreListed, MayForget, AreForgotten, HasDied, HaveGatesAlone, StandsBut, scope_at}
 use Rattle.stabilizer.specs.Kept.{PartsKept, KeepsScopes, graph_in}
 use Rattle.stabilizer.specs.declared.parts.Parts.{Parts}
@@ -573,15 +574,17 @@ module _ (old mid : Parts) (forgot : Work) (b : NodeId) (kept : IsKept old.arena
       (may_forget old mid.work forgot b old.dying.items kept dying list root row rest)
 
   module _ (new : Parts) (forgotten : AreForgotten mid.arena new.arena forgot new.work mid.dying.items)
-      (new_rest : new ≡ record mid { arena = new.arena; work = new.work; dying = new.dying }) where
+      (new_rest : new ≡ record mid { arena = new.arena; timed = new.timed; work = new.work; dying = new.dying }) where
     pub died_all : HasDied old new b
     died_all = all_died old mid.work forgot b old.dying.items kept dying list root row rest new
         (subst (λ (p : Parts). AreForgotten p.arena new.arena forgot new.work p.dying.items) mid_rest forgotten)
         (ap (λ (p : Parts). p.ran) new_rest ∙ ap (λ (p : Parts). p.ran) mid_rest)
 
-    pub kept_all : HaveGatesAlone old b → StandsBut old b → IsInStep new.work.graph → new.dying.items ≡ [] → PartsKept new
-    kept_all gates but step none = record {
+    pub kept_all : HaveGatesAlone old b → StandsBut old b → IsInStep new.work.graph → new.dying.items ≡ []
+        → KeepsClock new.arena new.timed → PartsKept new
+    kept_all gates but step none clock = record {
       work = died_kept old new b kept died_all gates step;
       scopes = died_scopes old new b kept died_all but (ap (λ (p : Parts). p.scopes) new_rest ∙ ap (λ (p : Parts). p.scopes) mid_rest);
       dying = none;
+      clock = clock;
     }

@@ -97,6 +97,7 @@ invalidating_first old b scopes kept room dying empties count = record {
     places = record { rows = λ p. refl; roots = λ p. refl; deaths = refl; round = refl };
     rest = refl;
     arena = refl;
+    timed = refl;
     ran = refl;
   };
   gated = λ n a p e. absurd (nobody n a);
@@ -181,6 +182,7 @@ module _ (old now : Parts) (b g : NodeId) (scopes : Scopes) (work : Work) (dying
     places = places_then old.work now.work work so.done.places put.places;
     rest = put.rest ∙ ap (λ (w : Work). record w { graph = work.graph; rows = work.rows }) so.done.rest;
     arena = so.done.arena;
+    timed = so.done.timed;
     ran = so.done.ran;
   }
 

@@ -447,6 +447,7 @@ module _ (M : Meaning) (old mid : Parts) (before after : Counts) (first : PartsK
         work = kept_next F z t inv quiet arena work new after kept.work stands r in_step round;
         scopes = kept.scopes;
         dying = kept.dying;
+        clock = kept.clock;
       };
       laws = laws;
       fit = fit;

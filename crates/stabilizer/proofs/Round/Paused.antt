@@ -62,7 +62,7 @@ module _ (M : Meaning) (old : Parts) (before : Counts) (ready : IsReady M old) w
       record {
         first = ready.kept;
         begins = begins;
-        kept = record { work = kept; scopes = ready.kept.scopes; dying = ready.kept.dying };
+        kept = record { work = kept; scopes = ready.kept.scopes; dying = ready.kept.dying; clock = ready.kept.clock };
         pauses = record {
           before = k.0;
           state = k.0;

@@ -33,6 +33,7 @@ returns-in-Err g c =
             c.requires.may.kept.work noted c.in-Err.ensures.computed;
         scopes = c.requires.may.kept.scopes;
         dying = c.requires.may.kept.dying;
+        clock = c.requires.may.kept.clock;
       };
       functions = meaning_kept K c.args.functions.now c.compute-computed.new.functions c.compute-computed.ensures.functions;
       wants = elim c.in-Err.ensures.wants [ inl same ↦ inl same | inr rose ↦ inr (refl, rose) ];
@@ -61,6 +62,7 @@ returns-in-Ok g c =
             c.in-Ok.outcome before after c.requires.may.kept.work c.requires.taken noted computed tally s.row s.graph s.told s.round s.todo s.step s.rest;
         scopes = c.requires.may.kept.scopes;
         dying = c.requires.may.kept.dying;
+        clock = c.requires.may.kept.clock;
       };
       functions = meaning_kept K c.args.functions.now c.compute-computed.new.functions c.compute-computed.ensures.functions;
       wants = c.in-Ok.ensures.wants;

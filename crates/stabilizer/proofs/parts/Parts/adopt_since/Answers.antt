@@ -12,7 +12,7 @@ returns-in_err-adopt-clause-some c =
     on_err c.from_residual.result (
       c.loop-node.next,
       adopts_same c.args.self.now c.loop-node.self c.args.bind c.in-Some.node c.args.count c.loop-node.next c.requires.ready c.loop-node.invariant.so
-          c.loop-node.invariant.low c.in-Some.ensures.some c.adopt.new.self a.rest a.arena a.dying a.ran a.err_rows a.err_points a.err_scopes,
+          c.loop-node.invariant.low c.in-Some.ensures.some c.adopt.new.self a.rest a.arena a.timed a.dying a.ran a.err_rows a.err_points a.err_scopes,
     )
 
 pub loop-node-preserved : goal.loop-node-preserved
@@ -23,5 +23,5 @@ loop-node-preserved c =
       high = next_given c.args.self.now c.loop-node.self c.args.bind c.in-Some.node c.args.count c.loop-node.next c.requires.ready c.loop-node.invariant.so
           c.loop-node.invariant.low c.in-Some.ensures.some;
       so = adopts_more c.args.self.now c.loop-node.self c.args.bind c.in-Some.node c.args.count c.loop-node.next c.requires.ready c.loop-node.invariant.so
-          c.loop-node.invariant.low c.in-Some.ensures.some c.adopt.new.self a.rest a.arena a.dying a.ran a.points a.enters;
+          c.loop-node.invariant.low c.in-Some.ensures.some c.adopt.new.self a.rest a.arena a.timed a.dying a.ran a.points a.enters;
     }

@@ -12,5 +12,5 @@ returns c =
     let f = c.forget_since.ensures in
     let new : Parts = record left { work = c.forget_since.new.self; arena = c.drop_since.new.arena } in record {
       disowned = has_disowned c.args.self.now c.args.bind c.args.count c.requires.ready left c.drop_entered.ensures.left new f.rest (λ n h _ x. f.kept n h x) (λ n h _ x. f.kept_scoped n h x)
-          f.forgotten f.forgotten_scoped c.drop_since.ensures.drops refl refl refl;
+          f.forgotten f.forgotten_scoped c.drop_since.ensures.drops refl refl refl refl;
     }

@@ -8,7 +8,7 @@ use Rattle.stabilizer.proofs.parts.Parts.drop_entered.Goals as goal
 pub loop-node-init : goal.loop-node-init
 loop-node-init c = record {
   so = leaving_begins c.args.self.now (record c.args.self.now { scopes = c.kill.new.self }) c.args.bind c.requires.ready c.kill.ensures.dying
-      c.kill.ensures.standing refl refl refl refl;
+      c.kill.ensures.standing refl refl refl refl refl;
 }
 
 pub drop_node-requires : goal.drop_node-requires
@@ -30,7 +30,7 @@ loop-node-preserved c =
     let d = c.drop_node.ensures in record {
       so = leaving_more c.args.self.now now c.args.bind c.in-Some.node c.requires.ready c.loop-node.invariant.so c.in-Some.ensures.was new
           c.in-Some.ensures.gives c.in-Some.ensures.standing d.rows d.dropped d.stays.links d.stays.roots d.heap d.stays.step d.rest
-          d.stays.todo d.stays.round refl refl refl;
+          d.stays.todo d.stays.round refl refl refl refl;
     }
 
 pub returns : goal.returns

@@ -1,5 +1,6 @@
 use Rattle.std.proofs.Common.{ap}
 use Rattle.stabilizer.specs.declared.parts.Parts.{Parts}
+use Rattle.timed_nodes.proofs.Watching.{clock_dropped}
 use Rattle.stabilizer.proofs.Killing.ForgettingAll.{next_main, next_change, next_died, next_live, forgetting_more}
 use Rattle.stabilizer.proofs.parts.Parts.forget_dying.Goals as goal
 
@@ -40,5 +41,8 @@ loop-node-preserved c =
       forgetting = forgetting_more old.arena now.arena old.work now.work old.dying.items now.dying.items c.pop.new.self.items c.in-Some.node c.requires.forget
           inv.forgetting c.in-Some.ensures.items c.drop_node.new.self c.forget.new.self c.forget.ensures.forgotten c.forget.ensures.absent drop.dropped drop.given
           drop.sound c.forget.ensures.step;
-      rest = ap (λ (p : Parts). record p { arena = c.drop_node.new.self; work = c.forget.new.self; dying = c.pop.new.self }) inv.rest;
+      clock = λ kept. clock_dropped now.arena c.drop_node.new.self now.timed c.forget-in-Some.new.self c.in-Some.node (inv.clock kept) c.forget-in-Some.ensures
+          drop.dropped drop.given;
+      rest = ap (λ (p : Parts). record p { arena = c.drop_node.new.self; timed = c.forget-in-Some.new.self; work = c.forget.new.self; dying = c.pop.new.self })
+          inv.rest;
     }

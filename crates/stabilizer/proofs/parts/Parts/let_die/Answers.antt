@@ -1,8 +1,10 @@
-use Rattle.std.proofs.Common.{ap, ◌∙◌}
+use Rattle.std.proofs.Common.{ap, sym, subst, ◌∙◌}
 use Rattle.std.specs.Prelude.{is_some}
 use Rattle.inc_terms.specs.Depend.{change}
 use Rattle.point_map.specs.Rows.{at}
 use Rattle.wiring.specs.declared.work.Work.{Work}
+use Rattle.timed_nodes.specs.Timed.{KeepsClock}
+use Rattle.stabilizer.specs.declared.parts.Parts.{Parts}
 use Rattle.stabilizer.proofs.Killing.Died.{inside_scope, inside_row, live_undead, dying_may, died_all, kept_all}
 use Rattle.stabilizer.proofs.parts.Parts.let_die.Goals as goal
 
@@ -40,3 +42,4 @@ returns-clause-kept c =
     kept_all c.args.self.now c.list_dying.new.self c.forget_built.new.self c.args.bind c.requires.kept c.requires.dying c.list_dying.ensures.listed
     c.list_dying.ensures.rest forgot.root forgot.row forgot.rest c.forget_dying.new.self c.forget_dying.ensures.forgotten c.forget_dying.ensures.rest
     c.requires.gates c.requires.scopes c.forget_dying.ensures.step c.forget_dying.ensures.none
+    (c.forget_dying.ensures.clock (subst (λ (p : Parts). KeepsClock p.arena p.timed) (sym c.list_dying.ensures.rest) c.requires.clock))

@@ -76,9 +76,9 @@ returns-in-Ok-insert-clause-placed c =
       right_sides = a.stays.round.roots;
       ran = refl;
       kept = added_parts (before c) (after c) c.args.id _ a.added.0 c.requires.kept c.requires.next i.added refl i.sound i.given a.rows a.added.1
-          a.pairs a.scoped a.stays.links a.stays.roots a.stays.heap a.stays.step a.stays.round (same_todo (before c).work (after c).work a.stays.todo) refl refl;
+          a.pairs a.scoped a.stays.links a.stays.roots a.stays.heap a.stays.step a.stays.round (same_todo (before c).work (after c).work a.stays.todo) refl refl refl;
       ready = added_ready (before c) (after c) c.args.id _ a.added.0 c.requires.kept c.requires.next i.added refl i.sound i.given a.rows a.added.1
-          a.pairs a.scoped a.stays.links a.stays.roots a.stays.heap a.stays.step a.stays.round (same_todo (before c).work (after c).work a.stays.todo) refl refl;
+          a.pairs a.scoped a.stays.links a.stays.roots a.stays.heap a.stays.step a.stays.round (same_todo (before c).work (after c).work a.stays.todo) refl refl refl;
     }
 
 -- ---- no memory for the node: its points are dropped again

@@ -1,8 +1,11 @@
-use Rattle.std.proofs.Common.{refl}
+use Rattle.std.proofs.Common.{refl, sym, subst}
 use Rattle.std.proofs.lemmas.Result.{on_ok_weaker, IfErr-weaker}
+use Rattle.node_arena.specs.Arena.{Arena}
 use Rattle.node_outcomes.specs.Meaning.{meaning_of}
 use Rattle.wiring.specs.declared.refused.Refused.TheVariants.{Memory}
 use Rattle.wiring.proofs.Raising.{if_refusal}
+use Rattle.timed_nodes.specs.Timed.{KeepsClock}
+use Rattle.timed_nodes.specs.Timed.{Timed}
 use Rattle.stabilizer.specs.Kept.{counts_by}
 use Rattle.stabilizer.specs.Rebuilding.{BuildRefused}
 use Rattle.stabilizer.specs.Rooted.{GetsNoRoot}
@@ -51,6 +54,12 @@ cut_off-requires-clause-kept g c =
 pub let_die-requires-clause-scopes : goal.let_die-requires-clause-scopes
 let_die-requires-clause-scopes g c =
     stands_but _ c.cut_off.new.self c.args.node c.requires.may.kept.scopes c.cut_off.ensures.scopes c.cut_off.ensures.cut.arena
+
+pub let_die-requires-clause-clock : goal.let_die-requires-clause-clock
+let_die-requires-clause-clock g c =
+    let cut = c.cut_off.ensures.cut in
+    subst (λ (t : Timed). KeepsClock c.cut_off.new.self.arena t) (sym cut.timed)
+    (subst (λ (a : Arena). KeepsClock a c.args.self.now.timed) (sym cut.arena) c.requires.may.kept.clock)
 
 died : (g : Over) (c : After-let_die g) → AreCut g.F.Functions c.args.functions.now c.args.self.now
     (roomy c.args.self.now c.make_room.new.deaths c.args.self.now.work.roots c.make_room.ensures.deaths (λ p. refl) c.make_room.new.dying

@@ -21,7 +21,7 @@ use Rattle.necessary_graph.proofs.Linking.{exit_is}
 
 pub settle_all-requires-clause-may : goal.settle_all-requires-clause-may
 settle_all-requires-clause-may g c = record {
-  kept = record { work = c.put_roots.ensures.kept; scopes = c.requires.ready.kept.scopes; dying = c.requires.ready.kept.dying };
+  kept = record { work = c.put_roots.ensures.kept; scopes = c.requires.ready.kept.scopes; dying = c.requires.ready.kept.dying; clock = c.requires.ready.kept.clock };
   quiet = c.in_ok-put_roots.ensures.quiet;
   sound = c.requires.sound;
   fit = c.requires.fit;

@@ -223,6 +223,7 @@ returns-in-Err-clause-stays g c =
             (arena_kept c.args.parts.now mid m.rest) m.kept.work;
         scopes = m.kept.scopes;
         dying = m.kept.dying;
+        clock = m.kept.clock;
       };
       fit = main_fits g (goal.at.returns-in-Err-clause-stays g c).After-step_main;
       functions = m.functions;
