@@ -16,3 +16,5 @@ pub mod Owning
 pub mod Fitting
 pub mod Knowing
 pub mod Grouping
+pub mod Timing
+pub mod Moving

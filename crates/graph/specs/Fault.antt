@@ -1,4 +1,7 @@
 -- How faults of the crates below are answered.
+use Rattle.std.specs.Prelude.{Result, Err}
+use Rattle.clock_nodes.specs.declared.clock.AdvanceFault.{AdvanceFault}
+use Rattle.clock_nodes.specs.declared.clock.AdvanceFault.TheVariants as advance
 use Rattle.graph.specs.declared.fault.Kept.{Kept}
 use Rattle.graph.specs.declared.fault.Kept.TheVariants as kept
 use Rattle.graph.specs.declared.fault.GraphFault.{GraphFault}
@@ -30,6 +33,17 @@ of_add add.Memory = fault.Memory
 abbrev pub of_untimed : Ty → GraphFault
 of_untimed ty.Int = fault.Span
 of_untimed t = fault.WrongType
+
+-- why steps aren't added whose times don't rise, by whether the nodes admit them
+abbrev pub of_unordered : {T : Type 0} → Result T AddFault → GraphFault
+of_unordered (Err add.Unknown) = fault.Unknown
+of_unordered (Err add.WrongType) = fault.WrongType
+of_unordered admitted = fault.Order
+
+-- why the time isn't moved on
+abbrev pub of_advance : AdvanceFault → GraphFault
+of_advance advance.Back = fault.Back
+of_advance advance.Memory = fault.Memory
 
 -- why a variable isn't set
 abbrev pub of_set : SetFault → GraphFault

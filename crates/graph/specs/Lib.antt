@@ -5,3 +5,4 @@ pub mod Sound
 pub mod Effects
 pub mod Stabilizes
 pub mod Few
+pub mod Clock

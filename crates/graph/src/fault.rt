@@ -1,10 +1,10 @@
 //! Why a call of a graph is refused.
 ghost use Rattle.std.specs.Prelude.{◌≡◌, ◌↔◌};
-ghost use Rattle.graph.specs.Fault.{kept_of, of_add, of_set, of_untimed};
+ghost use Rattle.graph.specs.Fault.{kept_of, of_add, of_advance, of_set, of_unordered, of_untimed};
 
 use inc_value::Ty;
 use node_arena::{AddFault, MoreFault, SetFault};
-use stabilizer::Refused;
+use stabilizer::{AdvanceFault, Refused};
 use std::alloc::AllocError;
 use thiserror::Error;
 
@@ -36,9 +36,18 @@ pub enum GraphFault {
     /// The types don't fit.
     #[error("the types don't fit")]
     WrongType,
+    /// The time is before the present one.
+    #[error("the time is before the present one")]
+    Back,
+    /// The time is past the greatest.
+    #[error("the time is past the greatest")]
+    Range,
     /// The spans to be counted are empty, or their base is below 0 or wasn't reached yet.
     #[error("no such spans can be counted")]
     Span,
+    /// The times of steps don't rise strictly.
+    #[error("the times don't rise strictly")]
+    Order,
     /// No stabilize was accepted since the observer was made.
     #[error("no stabilize was accepted since the observer was made")]
     NotStabilized,
@@ -95,6 +104,27 @@ pub(crate) fn untimed_fault(ty: Ty) -> GraphFault
     match ty {
         Ty::Int => GraphFault::Span,
         Ty::Bool | Ty::Text | Ty::Node(_) => GraphFault::WrongType,
+    }
+}
+
+/// Why steps aren't added whose times don't rise: what is looked at before the times may be refused first.
+pub(crate) fn order_fault(admitted: Result<(), AddFault>) -> GraphFault
+    ensures { result ≡ of_unordered admitted }
+{
+    match admitted {
+        Err(AddFault::Unknown) => GraphFault::Unknown,
+        Err(AddFault::WrongType) => GraphFault::WrongType,
+        Ok(()) | Err(AddFault::Full) | Err(AddFault::Memory) => GraphFault::Order,
+    }
+}
+
+/// Why the time isn't moved on.
+pub(crate) fn advance_fault(fault: AdvanceFault) -> GraphFault
+    ensures { result ≡ of_advance fault }
+{
+    match fault {
+        AdvanceFault::Back => GraphFault::Back,
+        AdvanceFault::Memory => GraphFault::Memory,
     }
 }
 

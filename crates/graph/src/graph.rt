@@ -16,6 +16,7 @@ mod build;
 mod edit;
 mod observe;
 mod stabilize;
+mod timed;
 mod undo;
 
 use crate::fault::{GraphFault, Kept, cause_of};
