@@ -1,19 +1,25 @@
 //! A table of right sides.
-ghost use Rattle.std.specs.Prelude.{◌≡◌, ◌↔◌, IfSome, IsSome};
+ghost use Rattle.std.specs.Prelude.{◌≡◌, ◌↔◌, map, pos, IfOk, IfSome, IsSome};
 ghost use Rattle.inc_value.specs.declared.function.FnKind.TheVariants.{Map, Rhs};
+ghost use Rattle.inc_terms.specs.Steps.{step_of};
 ghost use Rattle.closure_examples.specs.Arithmetic.{int_to_int, ints_to_int};
 ghost use Rattle.closure_examples.specs.Making.{BuildsTerm, IsReady, captured};
-ghost use Rattle.closure_examples.specs.Sides.{entry_of, table_term, table_uses};
+ghost use Rattle.closure_examples.specs.Sides.{entry_of, late_two, table_term, table_uses};
 
 use crate::adding::added;
 use crate::types::{is_int_to_int, is_ints_to_int};
+use inc_terms::Step;
 use inc_value::{Base, FnKind, FnRef, NodeId, Sig, Ty, Value};
 use node_arena::{BuildFault, Builder, RhsFn};
-use std::alloc::Global;
+use std::alloc::{AllocError, Global};
 
-/// By the left integer, one of seven right sides over three captures: an integer, a truth value and a reference to an
-/// integer. From 1 to 6 these are the constant 5, the negation of the first, the sum of the first and itself, the first
-/// or else 0, what the reference names, and a bind on the first. For any other left value it is the constant 0.
+/// When right sides of the table change by the clock, in nanoseconds.
+const SWITCH: i64 = 5_000_000_000;
+
+/// By the left integer, one of ten right sides over three captures: an integer, a truth value and a reference to an
+/// integer. From 1 to 9 these are the constant 5, the negation of the first, the sum of the first and itself, the first
+/// or else 0, what the reference names, a bind on the first, the clock, 1 and from 5 seconds on 2, and 0 and from 5 seconds on 1.
+/// For any other left value it is the constant 0.
 #[derive(Drop)]
 pub struct Table {
     neg: FnRef,
@@ -36,6 +42,9 @@ enum Entry {
     Choice,
     Target,
     Nested,
+    Clock,
+    Stepped,
+    Switched,
     Zero,
 }
 
@@ -58,8 +67,24 @@ fn entry_of(left: &Value) -> Entry
         Value::Int(4) => Entry::Choice,
         Value::Int(5) => Entry::Target,
         Value::Int(6) => Entry::Nested,
+        Value::Int(7) => Entry::Clock,
+        Value::Int(8) => Entry::Stepped,
+        Value::Int(9) => Entry::Switched,
         _ => Entry::Zero,
     }
+}
+
+/// One step, to 2.
+fn two_later(alloc: Global) -> Result<Vec<Step>, AllocError>
+    ensures { IfOk result (λ steps. map step_of steps.items ≡ late_two) }
+{
+    let mut steps = Vec::new(alloc);
+    let step = Step {
+        time: SWITCH,
+        value: Value::Int(2),
+    };
+    steps.push(step)?;
+    Ok(steps)
 }
 
 impl Table {
@@ -88,7 +113,7 @@ impl Table {
 
     /// The constant 5.
     fn five(&self, captures: Captured, builder: &mut Builder) -> Result<NodeId, BuildFault>
-        ensures { BuildsTerm (table_uses self.now.neg self.now.add self.now.of_left) 3 builder.old builder.new
+        ensures { BuildsTerm (table_uses self.now.neg self.now.add self.now.of_left) 4 builder.old builder.new
             (captured captures) (table_term self.now.neg self.now.add self.now.of_left Entry.Five) result }
     {
         added(builder.constant(Value::Int(5)))
@@ -96,7 +121,7 @@ impl Table {
 
     /// The constant 0.
     fn zero(&self, captures: Captured, builder: &mut Builder) -> Result<NodeId, BuildFault>
-        ensures { BuildsTerm (table_uses self.now.neg self.now.add self.now.of_left) 3 builder.old builder.new
+        ensures { BuildsTerm (table_uses self.now.neg self.now.add self.now.of_left) 4 builder.old builder.new
             (captured captures) (table_term self.now.neg self.now.add self.now.of_left Entry.Zero) result }
     {
         added(builder.constant(Value::Int(0)))
@@ -105,7 +130,7 @@ impl Table {
     /// The negation of the first capture.
     fn negation(&self, captures: Captured, builder: &mut Builder) -> Result<NodeId, BuildFault>
         requires ready { IsReady builder.old captures }
-        ensures { BuildsTerm (table_uses self.now.neg self.now.add self.now.of_left) 3 builder.old builder.new
+        ensures { BuildsTerm (table_uses self.now.neg self.now.add self.now.of_left) 4 builder.old builder.new
             (captured captures) (table_term self.now.neg self.now.add self.now.of_left Entry.Negation) result }
     {
         added(builder.map(self.neg, &[captures.x]))
@@ -114,7 +139,7 @@ impl Table {
     /// The sum of the first capture and itself.
     fn double(&self, captures: Captured, builder: &mut Builder) -> Result<NodeId, BuildFault>
         requires ready { IsReady builder.old captures }
-        ensures { BuildsTerm (table_uses self.now.neg self.now.add self.now.of_left) 3 builder.old builder.new
+        ensures { BuildsTerm (table_uses self.now.neg self.now.add self.now.of_left) 4 builder.old builder.new
             (captured captures) (table_term self.now.neg self.now.add self.now.of_left Entry.Double) result }
     {
         added(builder.fold(self.add, Value::Int(0), &[captures.x, captures.x]))
@@ -123,7 +148,7 @@ impl Table {
     /// The first capture where the second is true, else 0.
     fn choice(&self, captures: Captured, builder: &mut Builder) -> Result<NodeId, BuildFault>
         requires ready { IsReady builder.old captures }
-        ensures { BuildsTerm (table_uses self.now.neg self.now.add self.now.of_left) 3 builder.old builder.new
+        ensures { BuildsTerm (table_uses self.now.neg self.now.add self.now.of_left) 4 builder.old builder.new
             (captured captures) (table_term self.now.neg self.now.add self.now.of_left Entry.Choice) result }
     {
         let zero = match builder.constant(Value::Int(0)) {
@@ -136,7 +161,7 @@ impl Table {
     /// What the third capture names.
     fn target(&self, captures: Captured, builder: &mut Builder) -> Result<NodeId, BuildFault>
         requires ready { IsReady builder.old captures }
-        ensures { BuildsTerm (table_uses self.now.neg self.now.add self.now.of_left) 3 builder.old builder.new
+        ensures { BuildsTerm (table_uses self.now.neg self.now.add self.now.of_left) 4 builder.old builder.new
             (captured captures) (table_term self.now.neg self.now.add self.now.of_left Entry.Target) result }
     {
         added(builder.join(Ty::Int, captures.h))
@@ -145,21 +170,66 @@ impl Table {
     /// A bind on the first capture.
     fn nested(&self, captures: Captured, builder: &mut Builder) -> Result<NodeId, BuildFault>
         requires ready { IsReady builder.old captures }
-        ensures { BuildsTerm (table_uses self.now.neg self.now.add self.now.of_left) 3 builder.old builder.new
+        ensures { BuildsTerm (table_uses self.now.neg self.now.add self.now.of_left) 4 builder.old builder.new
             (captured captures) (table_term self.now.neg self.now.add self.now.of_left Entry.Nested) result }
     {
         added(builder.bind(captures.x, self.of_left, &[]))
     }
 
+    /// The clock.
+    fn clock(&self, captures: Captured, builder: &mut Builder) -> Result<NodeId, BuildFault>
+        ensures { BuildsTerm (table_uses self.now.neg self.now.add self.now.of_left) 4 builder.old builder.new
+            (captured captures) (table_term self.now.neg self.now.add self.now.of_left Entry.Clock) result }
+    {
+        added(builder.now())
+    }
+
+    /// 1, and 2 later.
+    fn stepped(
+        &self,
+        alloc: Global,
+        captures: Captured,
+        builder: &mut Builder,
+    ) -> Result<NodeId, BuildFault>
+        ensures { BuildsTerm (table_uses self.now.neg self.now.add self.now.of_left) 4 builder.old builder.new
+            (captured captures) (table_term self.now.neg self.now.add self.now.of_left Entry.Stepped) result }
+    {
+        match two_later(alloc) {
+            Ok(steps) => added(builder.steps(Value::Int(1), steps)),
+            Err(AllocError) => Err(BuildFault::Memory),
+        }
+    }
+
+    /// 0, and 1 later.
+    fn switched(&self, captures: Captured, builder: &mut Builder) -> Result<NodeId, BuildFault>
+        ensures { BuildsTerm (table_uses self.now.neg self.now.add self.now.of_left) 4 builder.old builder.new
+            (captured captures) (table_term self.now.neg self.now.add self.now.of_left Entry.Switched) result }
+    {
+        let is_later = match builder.at(SWITCH) {
+            Ok(id) => id,
+            Err(fault) => return Err(BuildFault::from_add(fault)),
+        };
+        let one = match builder.constant(Value::Int(1)) {
+            Ok(id) => id,
+            Err(fault) => return Err(BuildFault::from_add(fault)),
+        };
+        let zero = match builder.constant(Value::Int(0)) {
+            Ok(id) => id,
+            Err(fault) => return Err(BuildFault::from_add(fault)),
+        };
+        added(builder.if_(Ty::Int, is_later, one, zero))
+    }
+
     /// One of the right sides.
     fn entry(
         &self,
+        alloc: Global,
         entry: Entry,
         captures: Captured,
         builder: &mut Builder,
     ) -> Result<NodeId, BuildFault>
         requires ready { IsReady builder.old captures }
-        ensures { BuildsTerm (table_uses self.now.neg self.now.add self.now.of_left) 3 builder.old builder.new
+        ensures { BuildsTerm (table_uses self.now.neg self.now.add self.now.of_left) 4 builder.old builder.new
             (captured captures) (table_term self.now.neg self.now.add self.now.of_left entry) result }
     {
         match entry {
@@ -169,6 +239,9 @@ impl Table {
             Entry::Choice => self.choice(captures, builder),
             Entry::Target => self.target(captures, builder),
             Entry::Nested => self.nested(captures, builder),
+            Entry::Clock => self.clock(captures, builder),
+            Entry::Stepped => self.stepped(alloc, captures, builder),
+            Entry::Switched => self.switched(captures, builder),
             Entry::Zero => self.zero(captures, builder),
         }
     }
@@ -195,7 +268,6 @@ impl RhsFn for Table {
         captures: &[NodeId],
         builder: &mut Builder,
     ) -> Result<NodeId, BuildFault> {
-        let _ = alloc;
         match captures {
             [x, c, h] => {
                 let captures = Captured {
@@ -203,7 +275,7 @@ impl RhsFn for Table {
                     c: *c,
                     h: *h,
                 };
-                self.entry(entry_of(left), captures, builder)
+                self.entry(alloc, entry_of(left), captures, builder)
             }
             _ => unreachable!(),
         }

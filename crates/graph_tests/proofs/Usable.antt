@@ -11,7 +11,7 @@ use Rattle.node_arena.specs.RightSide.{RightSide, no_side, HasNone, IsUsable, Ar
 use Rattle.script_functions.specs.Keeping.{Maker, by_kind, has_types, is_known, side_made, side_in}
 use Rattle.script_functions.specs.Lines.{line_uses, uses_of}
 use Rattle.script_functions.specs.declared.line.Line as lines
-use Rattle.script_functions.specs.declared.line.Line.TheVariants.{Const, Map, Fold, If, Join, Bind}
+use Rattle.script_functions.specs.declared.line.Line.TheVariants.{Const, Map, Fold, If, Join, Bind, At, Steps, Now}
 use Rattle.script_functions.specs.declared.line.TypedLine.{TypedLine}
 use Rattle.std_library.specs.Functions as library
 use Rattle.std_library.specs.FunctionLaws.{known_of_map}
@@ -71,6 +71,9 @@ module _ (known : FnRef → Bool) (right : FnRef → RightSide) (listed : List L
   usable_line (Const v) vs calls rest u among = rest u among
   usable_line (If c a b) vs calls rest u among = rest u among
   usable_line (Join p) vs calls rest u among = rest u among
+  usable_line (At time) vs calls rest u among = rest u among
+  usable_line (Steps v steps) vs calls rest u among = rest u among
+  usable_line Now vs calls rest u among = rest u among
 
   pub usable_lines : (xs : List TypedLine) → Every (λ (x : TypedLine). CallsKept within x.line) xs
       → (u : Use) → Among u (uses_of xs) → IsUsable known right listed u

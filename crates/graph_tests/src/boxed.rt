@@ -42,7 +42,32 @@ fn shown_at<F: Functions>(graph: &mut Graph<F>, bound: Bound, number: i64) -> Op
     }
 }
 
-/// Whether the bind shows what the table lists for the left numbers 1 to 6.
+/// What the table lists for its left numbers, and by the clock.
+const AT_FIRST: [(i64, i64); 9] = [
+    (1, 5),
+    (2, -7),
+    (3, 14),
+    (4, 7),
+    (5, 7),
+    (6, -7),
+    (7, 0),
+    (8, 1),
+    (9, 0),
+];
+
+const FROM_FIVE_SECONDS: [(i64, i64); 3] = [(9, 1), (7, 5_000_000_000), (8, 2)];
+
+/// Whether the bind shows the second number of each pair where its left variable holds the first.
+fn shows_each<F: Functions>(graph: &mut Graph<F>, bound: Bound, wanted: &[(i64, i64)]) -> bool {
+    for (left, number) in wanted {
+        if shown_at(graph, bound, *left) != Some(*number) {
+            return false;
+        }
+    }
+    true
+}
+
+/// Whether the bind shows what the table lists, at first and once the clock has come to five seconds.
 fn shows_all<F: Functions>(graph: &mut Graph<F>, table: FnRef) -> bool
     requires known { IsTrue (F.known graph.old.functions table) }
     requires none_listed { (F.right graph.old.functions table).ids ≡ [] }
@@ -50,13 +75,13 @@ fn shows_all<F: Functions>(graph: &mut Graph<F>, table: FnRef) -> bool
     let Some(bound) = make_bound(graph, table) else {
         return false;
     };
-    let wanted = [5, -7, 14, 7, 7, -7];
-    for place in 0..wanted.len() {
-        if shown_at(graph, bound, place as i64 + 1) != Some(wanted[place]) {
-            return false;
-        }
+    if !shows_each(graph, bound, &AT_FIRST) {
+        return false;
     }
-    true
+    match graph.advance(5_000_000_000) {
+        Ok(()) => shows_each(graph, bound, &FROM_FIVE_SECONDS),
+        Err(_) => false,
+    }
 }
 
 /// Whether a bind of the table over these functions shows what the table lists.

@@ -16,3 +16,5 @@ mod handing;
 mod tables;
 #[cfg(test)]
 mod tests;
+#[cfg(test)]
+mod timing;

@@ -32,6 +32,20 @@ pub(crate) enum Act {
     Fill(usize),
     /// Makes the negation of a node and the negation of that, and takes both back.
     TakeBack(usize),
+    /// Makes a node that shows whether a time has come, in nanoseconds.
+    At(i64),
+    /// Makes a node that shows the clock.
+    Now,
+    /// Makes a node that shows whether a span went by since it was made.
+    After(u64),
+    /// Makes a node that counts the whole spans that went by since it was made.
+    Every(u64),
+    /// Makes a node that shows a number, and then that of the last of two steps whose time has come: a time and a number each.
+    Steps(i64, i64, i64, i64, i64),
+    /// Moves the time on to one.
+    Advance(i64),
+    /// The time.
+    Time,
     /// Makes a bind on a node.
     Bind(usize, Side),
     /// Makes a bind on the first node, whose right sides are binds on the second, whose right sides are sums of both

@@ -3,6 +3,7 @@
 use crate::bind_tables::{BIND_TABLES, FULL_TABLES};
 use crate::binding::{NO_MEMORY, bind, bind_and_take_back, nested};
 use crate::tables::{Act, TABLES};
+use crate::timing::{TIME_TABLES, make_timed};
 use graph::{Cutoff, Graph, GraphFault, Kept, Refused, StabilizeFault};
 use inc_value::{Base, NodeId, ObsId, Outcome, Ty, Value};
 use script_functions::ScriptFns;
@@ -31,7 +32,10 @@ pub(crate) fn code(fault: GraphFault) -> i64 {
         GraphFault::Unknown => -102,
         GraphFault::NotVar => -103,
         GraphFault::WrongType => -104,
+        GraphFault::Back => -117,
+        GraphFault::Range => -118,
         GraphFault::Span => -116,
+        GraphFault::Order => -119,
         GraphFault::NotStabilized => -105,
         GraphFault::TooMany => -106,
         GraphFault::Full => -107,
@@ -66,10 +70,11 @@ fn told(answer: Result<(), GraphFault>) -> i64 {
     }
 }
 
-/// The number that is shown, or the fault's. Invalid has a number of its own.
+/// The number that is shown, 1 or 0 of a truth, or the fault's. Invalid has a number of its own.
 fn shown(graph: &Scripted, observer: u32) -> i64 {
     match graph.value(ObsId(observer)) {
         Ok(Outcome::Val(Value::Int(number))) => *number,
+        Ok(Outcome::Val(Value::Bool(holds))) => i64::from(*holds),
         Ok(_) => -109,
         Err(fault) => code(fault),
     }
@@ -234,7 +239,7 @@ fn fill(graph: &mut Scripted, nodes: &[NodeId], room: usize) -> i64 {
 }
 
 /// Does an act that makes nodes.
-fn make(graph: &mut Scripted, nodes: &mut Vec<NodeId>, act: Act) -> i64 {
+pub(crate) fn make(graph: &mut Scripted, nodes: &mut Vec<NodeId>, act: Act) -> i64 {
     match act {
         Act::Constant(value) => made(nodes, graph.constant(Value::Int(value))),
         Act::Var(value) => var(graph, nodes, value),
@@ -308,6 +313,7 @@ fn look(graph: &Scripted, nodes: &[NodeId], act: Act) -> i64 {
         Act::Builds => number(graph.functions().builds()),
         Act::Adds => number(graph.functions().adds()),
         Act::Points => points(graph),
+        Act::Time => graph.time(),
         _ => -113,
     }
 }
@@ -319,7 +325,7 @@ fn make_bind(alloc: Global, graph: &mut Scripted, nodes: &mut Vec<NodeId>, act: 
         Act::Nested(left, right) => nested(alloc, graph, nodes, left, right),
         Act::BindAndTakeBack(left) => bind_and_take_back(alloc, graph, nodes, left),
         Act::Grab(place) => grab(graph, nodes, nth(nodes, place)),
-        _ => make(graph, nodes, act),
+        _ => make_timed(alloc, graph, nodes, act),
     }
 }
 
@@ -334,12 +340,13 @@ fn perform(alloc: Global, graph: &mut Scripted, nodes: &mut Vec<NodeId>, act: Ac
         Act::Never(i) => told(graph.set_cutoff(nth(nodes, i), Cutoff::Never)),
         Act::Observe(i) => observed(graph, nth(nodes, i)),
         Act::Unobserve(observer) => told(graph.unobserve(ObsId(observer))),
+        Act::Advance(to) => told(graph.advance(to)),
         Act::Stabilize => stabilized(graph),
         Act::StabilizeOrBack => stabilized_or_back(graph),
         Act::Show(_) | Act::Live(_) | Act::Owner(_) | Act::Ran(_) | Act::First(_) => {
             look(graph, nodes, act)
         }
-        Act::Calls | Act::Builds | Act::Adds | Act::Points => look(graph, nodes, act),
+        Act::Calls | Act::Builds | Act::Adds | Act::Points | Act::Time => look(graph, nodes, act),
         _ => make_bind(alloc, graph, nodes, act),
     }
 }
@@ -394,6 +401,12 @@ fn acts_answer_their_numbers(rt: HostRuntime) {
 #[test]
 fn binds_answer_their_numbers(rt: HostRuntime) {
     let other = first_table(rt.alloc(), BIND_TABLES);
+    assert_eq!(rt; other, 0);
+}
+
+#[test]
+fn clocks_answer_their_numbers(rt: HostRuntime) {
+    let other = first_table(rt.alloc(), TIME_TABLES);
     assert_eq!(rt; other, 0);
 }
 

@@ -15,7 +15,7 @@ returns c =
     let zero = c.in-Ok.id in
     let a1 = c.in-Ok.ensures.added in
     let g1 = grown_more uses b0 b0 b1 0 (grown_none uses b0) zero _ _ a1 tt 1 (omega arith) in
-    rw c.added.ensures (one_added uses 3 b0 b1 b2 1 g1 _ _ _ _ refl 1 (tt, tt, tt) (omega arith) (omega arith)
+    rw c.added.ensures (one_added uses 4 b0 b1 b2 1 g1 _ _ _ _ refl 1 (tt, tt, tt) (omega arith) (omega arith)
     (λ id adds grows. (
       k.c,
       k.x,

@@ -13,7 +13,7 @@ returns c =
     let k = c.args.captures in
     let b = c.args.builder.now in
     let new = c.map.new.self in
-    rw c.added.ensures (one_added uses 3 b b new 0 (grown_none uses b) _ _ _ _
+    rw c.added.ensures (one_added uses 4 b b new 0 (grown_none uses b) _ _ _ _
     (ap (λ (t : Signature). t.gives) s.neg_types) 1
     (is_listed uses Map s.neg 0 (inl refl) s.neg_map, (tt, tt))
     (omega arith) (omega arith)

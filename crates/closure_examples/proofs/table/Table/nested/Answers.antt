@@ -13,7 +13,7 @@ returns c =
     let k = c.args.captures in
     let b = c.args.builder.now in
     let new = c.bind.new.self in
-    rw c.added.ensures (one_added uses 3 b b new 0 (grown_none uses b) _ _ _ _
+    rw c.added.ensures (one_added uses 4 b b new 0 (grown_none uses b) _ _ _ _
     (ap (λ (t : Signature). t.gives) s.of_left_types) 3
     (is_listed uses Rhs s.of_left 2 (inr (inr (inl refl))) s.of_left_rhs, tt, tt)
     (record { function = s.of_left; most = 2 }, inr (inr (inl refl)), refl, omega arith) (omega arith)

@@ -11,6 +11,6 @@ returns c =
     let k = c.args.captures in
     let b = c.args.builder.now in
     let new = c.join.new.self in
-    rw c.added.ensures (one_added uses 3 b b new 0 (grown_none uses b) _ _ _ _ refl 1 tt (omega arith) (omega arith)
+    rw c.added.ensures (one_added uses 4 b b new 0 (grown_none uses b) _ _ _ _ refl 1 tt (omega arith) (omega arith)
     (λ id adds grows. (k.h, in_added b new id _ _ adds, h_read uses b new 1 grows k c.requires.ready))
     c.join.result c.join.ensures.answer c.join.ensures.added c.join.ensures.err)

@@ -12,7 +12,7 @@ use Rattle.node_arena.specs.Building.{IsListed}
 use Rattle.node_arena.specs.Listing.{IsNamed}
 use Rattle.node_arena.specs.RightSide.{SideHas, TermHas, TermsHave}
 use Rattle.closure_examples.specs.declared.table.Entry.{Entry}
-use Rattle.closure_examples.specs.declared.table.Entry.TheVariants.{Five, Negation, Double, Choice, Target, Nested, Zero}
+use Rattle.closure_examples.specs.declared.table.Entry.TheVariants.{Five, Negation, Double, Choice, Target, Nested, Clock, Stepped, Switched, Zero}
 use Rattle.closure_examples.specs.Arithmetic.{int_to_int, ints_to_int}
 use Rattle.closure_examples.specs.Sides.{entry_of, table_term, table_uses}
 use Rattle.closure_examples.proofs.Making.{is_listed}
@@ -29,6 +29,9 @@ module _ (neg add of_left : FnRef) (v : Value) where
   names n a o Target = tt
   names n a o Nested =
       (is_listed (table_uses neg add of_left) kind.Rhs of_left 2 (inr (inr (inl refl))) o, tt, tt)
+  names n a o Clock = tt
+  names n a o Stepped = (tt, (tt, tt))
+  names n a o Switched = (tt, tt, tt)
   names n a o Zero = tt
 
   abbrev captures : List Ty
@@ -51,6 +54,9 @@ module _ (neg add of_left : FnRef) (v : Value) where
   types n a o Target = (base.Int, refl, refl)
   types n a o Nested =
       (ty.Int, [], ap (λ (s : Signature). s.gives) o, ap (λ (s : Signature). s.takes) o, refl, tt)
+  types n a o Clock = refl
+  types n a o Stepped = (record { type = refl; reference = tt }, (record { type = refl; reference = tt }, tt))
+  types n a o Switched = (refl, record { type = refl; reference = tt }, record { type = refl; reference = tt })
   types n a o Zero = record { type = refl; reference = tt }
 
 pub returns-clause-lawful : goal.returns-clause-lawful
