@@ -23,7 +23,7 @@ use Rattle.stabilize_round.specs.Counts.{RoseBy}
 use Rattle.script_model.specs.Check.{is_among, target_of_body}
 use Rattle.script_model.specs.Evaluate.{NameGives}
 use Rattle.script_model.specs.Formula as script
-use Rattle.script_model.specs.Formula.{State, Entry, Body, Formula, Observer, Meanings, meanings_of, body_at, built_at, built_of_body, entry_at, Name, Bind, Variable, Computed, Grab}
+use Rattle.script_model.specs.Formula.{State, Entry, Body, Formula, Observer, Meanings, meanings_of, body_at, built_at, built_of_body, entry_at, Name, Bind, Variable, Computed, After, Every, Grab}
 use Rattle.script_model.specs.Need.{Visit, IsVisit, Needed}
 use Rattle.script_model.specs.Settle.{BuildsFor, Settles, ShowAll}
 use Rattle.script_model.specs.Step.{Moment, settles}
@@ -280,6 +280,8 @@ module _ (named : List ℕ → Option FnRef) (value : FnRef → List GraphValue 
       shows_on F M N s then G' G' y.died none_died (λ n r row outside. row) (term.Ref (N n)) f h
   declares_some n (Grab b v true) is h = grab_then n b v is h
   declares_some n (Grab b v false) is h = (h.0, refl)
+  declares_some n (After time) is h = h
+  declares_some n (Every base span) is h = h
   declares_some n b is h = absurd (c.held.today.plain n b is).0
 
   declares_then : (n : ℕ) (b : Option Body) → body_at s n ≡ b → Declares z (N n) (body_at then n)
@@ -297,6 +299,8 @@ module _ (named : List ℕ → Option FnRef) (value : FnRef → List GraphValue 
   )
   plain_of n (Grab bind v is_live) fine =
       ((fine.0.0, own_at bind fine.0.1), reference_more (IsDeclaredTarget s) (IsDeclaredTarget then) declared_then v fine.1)
+  plain_of n (After time) fine = fine
+  plain_of n (Every base span) fine = fine
   plain_of n b fine = absurd fine.0
 
   plain_then : AllPlain then
@@ -309,6 +313,8 @@ module _ (named : List ℕ → Option FnRef) (value : FnRef → List GraphValue 
   aged_of n (Variable v) own = own
   aged_of n (Computed f kept) own = own
   aged_of n (Grab bind v is_live) own = own
+  aged_of n (After time) own = own
+  aged_of n (Every base span) own = own
   aged_of n b own = absurd own
 
   aged_then : (n : ℕ) (b : Body) → body_at then n ≡ Some b → OwnNodesOf G' (IsWithin k.nodes n) (IsPartWithin k.nodes n) (N n) b

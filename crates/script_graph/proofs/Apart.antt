@@ -15,7 +15,7 @@ use Rattle.inc_terms.specs.Same.{same_outcome}
 use Rattle.inc_terms.specs.Term as term
 use Rattle.inc_terms.specs.Term.{Term, Terms, Functions}
 use Rattle.script_model.specs.Formula as script
-use Rattle.script_model.specs.Formula.{State, Body, Formula, Formulas, Meanings, body_at, Literal, Name, Bound, Apply, Fold, If, Join, Bind, At, Steps, Now, End, More, Variable, Computed, Grab}
+use Rattle.script_model.specs.Formula.{State, Body, Formula, Formulas, Meanings, body_at, Literal, Name, Bound, Apply, Fold, If, Join, Bind, At, Steps, Now, End, More, Variable, Computed, After, Every, Grab}
 use Rattle.script_model.specs.Leaves.{EveryLeaf, EveryLeafOfAll}
 use Rattle.script_model.specs.Need.{Edge, Argument, Test, Then, Else, Child, Left, Inside, argument_at, environment, part_at, formula_at}
 use Rattle.script_model.specs.Valid.{ValueHasType, KeepToTypes, Valid}
@@ -490,6 +490,8 @@ module _ (F : Meanings) (s : State) (nodes : List NodeId) (H : Functions) (G : G
                       names_apart owner k (Computed g kept) b d_at (subst (λ (h : Formula). IsForm h) (sym same_form_is) is_form) there own (same_node ∙ sym same)
                   by_body (Variable v) d_at = absurd (let none : None ≡ Some f = rw (e, d_at) at is in cc)
                   by_body (Grab c v l) d_at = absurd (let none : None ≡ Some f = rw (e, d_at) at is in cc)
+                  by_body (After time) d_at = absurd (let none : None ≡ Some f = rw (e, d_at) at is in cc)
+                  by_body (Every base span) d_at = absurd (let none : None ≡ Some f = rw (e, d_at) at is in cc)
                   by_body d d_at = absurd (aged owner d d_at)
           by_path (edge ∷ rest) e out = absurd (part (own_part x (IsWithin nodes) (IsPartWithin nodes) aged owner edge rest f n out
               (subst (λ (p : List Edge). formula_at s owner p ≡ Some f) e is) is_form (subst (λ (p : List Edge). node_at x owner p ≡ Some n) e at)))
@@ -681,6 +683,8 @@ module _ (F : Meanings) (s : State) (nodes : List NodeId) (H : Functions) (G : G
           computed (Computed g kept) there has owners paths = (g, kept, refl)
           computed (Variable v) there has owners paths = absurd (let none : None ≡ Some f = rw (paths, owners, there) at is in cc)
           computed (Grab bind v is_live) there has owners paths = absurd has
+          computed (After time) there has owners paths = absurd (let none : None ≡ Some f = rw (paths, owners, there) at is in cc)
+          computed (Every base span) there has owners paths = absurd (let none : None ≡ Some f = rw (paths, owners, there) at is in cc)
           computed c there has owners paths = absurd (aged k c there)
 
   -- a place that is no bare name and has the node of an own name is the name's, or that of which a grab is

@@ -6,7 +6,7 @@ use Rattle.inc_value.specs.Choice.{and_then}
 use Rattle.inc_value.specs.declared.node.NodeId.{NodeId}
 use Rattle.inc_value.specs.declared.outcome.Outcome.{Outcome as GraphOutcome}
 use Rattle.script_model.specs.Check.{Declared, declared_of, kind_of_body, target_of_body}
-use Rattle.script_model.specs.Formula.{State, Entry, Body, Observer, Meanings, body_at, built_at, built_of_body, entry_at, places_of, places_of_body, Name, Bind, Variable, Computed, Grab}
+use Rattle.script_model.specs.Formula.{State, Entry, Body, Observer, Meanings, body_at, built_at, built_of_body, entry_at, places_of, places_of_body, Name, Bind, Variable, Computed, After, Every, Grab}
 use Rattle.script_model.specs.Settle.{Becomes, BecomeAll, BuildsFor}
 use Rattle.script_model.specs.Values.{Outcome, same_kept}
 use Rattle.script_graph.specs.Today.{IsPlainBody}
@@ -182,6 +182,8 @@ module _ (F : Meanings) (before s : State) (nodes : ℕ → NodeId) (at : ℕ �
     becomes P R n (Computed f kept) now fine h = (record { built = now }, refl, record { built = h })
     becomes P R n (Grab bind v is_live) now fine h =
         ap (λ (o : Option Outcome). Grab bind v (is_live && same_kept (built_at s bind) o)) (sym (built_then bind))
+    becomes P R n (After time) now fine h = refl
+    becomes P R n (Every base span) now fine h = refl
     becomes P R n b now fine h = absurd fine.0
 
     become_from : (P : ℕ → ℕ → Type 0) (R : ℕ → Type 0) (n : ℕ) (es : List Entry) (some : AllBuilt n es)

@@ -35,8 +35,8 @@ first_kept g = record {
 }
 
 module _ (g : GraphView (Unit {0})) (nodes : (n : NodeId) → row_at g.nodes n ≡ None) (observers : g.observers ≡ []) where
-  pub first_sound : IsUnbroken g → IsSoundSession (first_kept g)
-  first_sound unbroken = record {
+  pub first_sound : IsUnbroken g → g.nodes.time ≡ pos 0 → IsSoundSession (first_kept g)
+  first_sound unbroken time = record {
     one_node_each = refl;
     has_nodes = λ n d is. absurd (cc);
     few = record { tops = []; given = λ n among. absurd among; all = λ n r is scope. absurd (none-some r (sym (nodes n) ∙ is)); weight = omega arith };
@@ -44,6 +44,7 @@ module _ (g : GraphView (Unit {0})) (nodes : (n : NodeId) → row_at g.nodes n �
     looking = λ o among. absurd among;
     apart = tt;
     unbroken = λ e. unbroken;
+    clock = time;
   }
 
   module _ (named : List ℕ → Option FnRef) (value : FnRef → List GraphValue → GraphValue) (time : g.nodes.time ≡ pos 0) where

@@ -1,5 +1,5 @@
 -- How many functions a refused stabilize calls.
-use Rattle.std.proofs.Common.{◌≡◌, ◌⊎◌, inl, inr, ℕ, ◌+◌, ◌≤◌, true, List, [], ◌∷◌, map, length, Option, None, Some, refl, ap, sym, subst, ◌∙◌, arith}
+use Rattle.std.proofs.Common.{◌≡◌, ◌⊎◌, inl, inr, ℕ, pos, ◌+◌, ◌≤◌, true, List, [], ◌∷◌, map, length, Option, None, Some, refl, ap, sym, subst, ◌∙◌, arith}
 use Rattle.std.specs.List.{sum_by}
 use Rattle.std.proofs.lemmas.List.Sums.{sum_by-cons}
 use Rattle.inc_value.specs.Choice.{Among, NoRepeats, and_then}
@@ -18,7 +18,7 @@ use Rattle.inc_terms.specs.Term as term
 use Rattle.inc_terms.specs.Term.{Term, Terms, refs}
 use Rattle.inc_terms.specs.Work.{taken_by}
 use Rattle.node_outcomes.specs.Computing.{IsCallerAt}
-use Rattle.script_model.specs.Formula.{State, Body, Formula, Formulas, body_at, formula_of_body, Literal, Name, Bound, Apply, Fold, If, Join, Bind, End, More, Variable, Computed, Grab}
+use Rattle.script_model.specs.Formula.{State, Body, Formula, Formulas, body_at, formula_of_body, Literal, Name, Bound, Apply, Fold, If, Join, Bind, At, Steps, Now, End, More, Variable, Computed, After, Every, Grab}
 use Rattle.script_model.specs.Laws.{bare}
 use Rattle.script_model.specs.Need.{Edge, Inside, Item, part_of, formula_at}
 use Rattle.script_model.specs.Run.{count_in, most_calls}
@@ -204,7 +204,9 @@ module _ (x : Both) (fits : Fits x) (plain_state : AllPlain x.state) where
     formula_spot owner path S E (Join child) fine own h = absurd (reads_none S (term.Join h.0) h.1 (λ f ts e. cc) (λ f v ts e. cc))
     formula_spot owner path S E (Bind left body) fine own h = absurd (reads_none S (term.Bind h.0 h.1 h.2) h.3 (λ f ts e. cc) (λ f v ts e. cc))
     formula_spot owner path S E (Name t) fine own h = absurd own
-    formula_spot owner path S E f fine own h = absurd fine
+    formula_spot owner path S E (At time) fine own h = absurd (reads_none S (term.At (pos time)) h (λ f ts e. cc) (λ f v ts e. cc))
+    formula_spot owner path S E (Steps v steps) fine own h = absurd (reads_none S _ h (λ f ts e. cc) (λ f v ts e. cc))
+    formula_spot owner path S E Now fine own h = absurd (reads_none S term.Now h (λ f ts e. cc) (λ f v ts e. cc))
 
     place_spot : (owner : ℕ) (path : List Edge) (f : Formula) → formula_at s owner path ≡ Some f → IsForm f → node_at x owner path ≡ Some n → HasSpot n
     place_spot owner path f is own at =
@@ -227,6 +229,11 @@ module _ (x : Both) (fits : Fits x) (plain_state : AllPlain x.state) where
         top_none _ (subst (λ (q : NodeId). IsTop G q (graph.Var (graph_value x.nodes v))) node (rw is at (fits.declared k))) refl
     name_spot k (Computed f kept) is form node = form
     name_spot k (Grab b v is_live) is form node = form
+    name_spot k (After time) is form node =
+        top_none _ (subst (λ (q : NodeId). IsTop G q (graph.At (pos time))) node (rw is at (fits.declared k))) refl
+    name_spot k (Every base span) is form node =
+        let d = rw is at (fits.declared k) in
+        top_none _ (subst (λ (q : NodeId). IsTop G q (graph.Every (pos base) (pos span))) node d.0) refl
     name_spot k b is form node = (plain_state k b is).0
 
     grab_spot : (k b : ℕ) (v : Value) → body_at s k ≡ Some (Grab b v true) → x.nodes k ≡ n → HasSpot n

@@ -2,7 +2,7 @@
 use Rattle.std.proofs.Common.{◌≡◌, inl, inr, ℕ, ◌<◌, true, false, Bool, List, [], ◌∷◌, ◌++◌, Option, None, Some, is_some, option_map, refl, ap, sym, subst, ◌∙◌, arith, slice_get}
 use Rattle.std.proofs.lemmas.Option.{slice_get-map, slice_get_within}
 use Rattle.height_order.specs.Chains as chains
-use Rattle.inc_value.specs.Choice.{Among, Every, and_then}
+use Rattle.inc_value.specs.Choice.{Among, Every as Each, and_then}
 use Rattle.inc_value.specs.Walk.{IsWalk}
 use Rattle.inc_value.specs.declared.function.FnRef.{FnRef}
 use Rattle.inc_value.specs.declared.node.NodeId.{NodeId}
@@ -27,7 +27,7 @@ use Rattle.graph.specs.declared.fault.Kept.TheVariants as fault
 use Rattle.script_model.specs.Blocked.{IsCycle}
 use Rattle.script_model.specs.Check.{Declared, declared_of, target_of_body}
 use Rattle.script_model.specs.Formula as script
-use Rattle.script_model.specs.Formula.{State, Entry, Body, Formula, Meanings, meanings_of, body_at, entry_at, Name, Bind, Variable, Computed, Grab}
+use Rattle.script_model.specs.Formula.{State, Entry, Body, Formula, Meanings, meanings_of, body_at, entry_at, Name, Bind, Variable, Computed, After, Every, Grab}
 use Rattle.script_model.specs.Need.{Left, Named, Met}
 use Rattle.script_model.specs.Step as step
 use Rattle.script_model.specs.Step.{Moment, Stabilizes, by_cycle}
@@ -210,6 +210,8 @@ module _ (named : List ℕ → Option FnRef) (value : FnRef → List GraphValue 
     | inr other ↦ let row = other_row y None [] (node_in k.nodes n) f other (rw is at (fits.declared n)) in (row.0, row.2, row.3)
   ]
   name_outside n (Grab b v is_live) is mine = absurd mine
+  name_outside n (After time) is mine = let h = rw is at (fits.declared n) in (h.0, h.1, h.2)
+  name_outside n (Every base span) is mine = let h = (rw is at (fits.declared n)).0 in (h.0, h.1, h.2)
   name_outside n b is mine = absurd (c.held.today.plain n b is).0
 
   abbrev IsTold : Point → Point → ℕ → Type 0
@@ -309,7 +311,7 @@ module _ (named : List ℕ → Option FnRef) (value : FnRef → List GraphValue 
   passed_cycle : (p q : Point) (rest : List Point) (names : List ℕ)
       → IsListedIn M (left_by k.graph g) (died_by k.graph g) (look k.graph) (in_use k.graph.observers) (p ∷ q ∷ rest) → ComesBack (p ∷ q ∷ rest)
       → Passes y p (q ∷ rest) names → (first : ℕ) × (more : List ℕ) × (names ≡ first ∷ more) × IsCycle F s (first ∷ (more ++ first ∷ []))
-      × Every (λ n. Met F m.settled s (Named n)) names
+      × Each (λ n. Met F m.settled s (Named n)) names
   passed_cycle p q rest names listed back passes =
       let covered = meeting_is_covered named value m k g stands unbroken c whole p (listed.met p refl) in
       cycles_are_named y fits c.keep c.valid c.held.apart parts_are_apart m.settled (grabs_before named value m k g stands unbroken c whole)
@@ -328,7 +330,7 @@ module _ (named : List ℕ → Option FnRef) (value : FnRef → List GraphValue 
   circular (p ∷ []) targets listed back mains = absurd (let long = back.long in omega (arith, long))
   circular (p ∷ q ∷ rest) targets listed back mains =
       let r = passed_cycle p q rest targets listed back (mains_passed p (q ∷ rest) targets listed.walk mains) in
-      let met = subst (λ (ns : List ℕ). Every (λ n. Met F m.settled s (Named n)) ns) r.2 r.4 in
+      let met = subst (λ (ns : List ℕ). Each (λ n. Met F m.settled s (Named n)) ns) r.2 r.4 in
       (r.0, r.1, r.2, by_cycle (r.0 ∷ (r.1 ++ r.0 ∷ [])) r.0 r.3 (inl refl) met.0 refl refl)
 
   pub circular_met : (met : Option Refused) (r : Refused) (targets : List ℕ) → met ≡ Some r → kept_of r ≡ fault.Cycle

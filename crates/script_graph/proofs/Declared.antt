@@ -1,10 +1,10 @@
 -- A script after a declaration, after one that was taken back, and after an assignment, over a graph with its functions.
-use Rattle.std.proofs.Common.{◌≡◌, ◌⊎◌, inl, inr, ℕ, ◌+◌, ◌<◌, ◌≤◌, Bool, List, [], ◌∷◌, ◌++◌, length, Option, None, Some, IfSome, IsTrue, option_map, refl, ap, sym, subst, ◌∙◌, arith, slice_get}
+use Rattle.std.proofs.Common.{◌≡◌, ◌⊎◌, inl, inr, ℕ, pos, ◌+◌, ◌<◌, ◌≤◌, Bool, List, [], ◌∷◌, ◌++◌, length, Option, None, Some, IfSome, IsTrue, option_map, refl, ap, sym, subst, ◌∙◌, arith, slice_get}
 use Rattle.std.proofs.lemmas.List.{get_or_append_left, get_or_at}
 use Rattle.std.proofs.lemmas.Option.{none-some, slice_get-get_or, slice_get-map}
 use Rattle.formula_lang.specs.Fits.{AssignmentFits, BodyFits, DeclarationFits, NameFits, ReferenceFits}
 use Rattle.formula_elab.specs.Laying.{laid_body}
-use Rattle.formula_elab.specs.Made.{StandsIn}
+use Rattle.formula_elab.specs.Made.{CountsAlike, StandsIn}
 use Rattle.formula_elab.specs.Names.{EveryNameOf}
 use Rattle.formula_elab.specs.Opened.{filled, node_at, node_of}
 use Rattle.formula_elab.specs.Types.{type_at}
@@ -34,7 +34,7 @@ use Rattle.node_arena.specs.Typing.{Fits, FitsNode, HasType}
 use Rattle.script_functions.specs.Bodies as Bodies
 use Rattle.script_functions.specs.Keeping.{is_known, makers, side_in}
 use Rattle.script_model.specs.Check.{Assign, Declare, Declared, Kind, Names, Variable as VariableKind, Bind as BindKind, Grab as GrabKind, declared_of, is_variable, kind_of_body, target_of_body}
-use Rattle.script_model.specs.Formula.{State, Body, Formula, Kept as KeptOf, Meanings, meanings_of, places_of_body, Name, Bind, Variable, Computed}
+use Rattle.script_model.specs.Formula.{State, Body, Formula, Kept as KeptOf, Meanings, meanings_of, places_of_body, Name, Bind, Variable, Computed, After, Every}
 use Rattle.script_model.specs.Step.{Moment, declared_in, moved}
 use Rattle.script_model.specs.Values.{Value, Int, Bool as Truth, Text, Reference, type_of}
 use Rattle.script_graph.specs.Growing.{AllPlannedFit, AreServed, Extends, IsMaking, KeepsBodies, PartFits, functions_over}
@@ -45,7 +45,7 @@ use Rattle.script_graph.specs.Sound.{AreFew, HasLiveNode, HasTarget, HaveNodes, 
 use Rattle.script_graph.specs.State.{MatchesMoment}
 use Rattle.script_graph.proofs.Bodies.{AreKnown, IsKnownSide, terms_stay}
 use Rattle.script_graph.proofs.Declaring.{declaring_stands, with_declared}
-use Rattle.script_graph.proofs.Extending.{BodiesServe, NodesGiven, WereLive, beside_without, extends_without, stands_on, taken_back_extends}
+use Rattle.script_graph.proofs.Extending.{BodiesServe, NodesGiven, WereLive, beside_without, counts_at, extends_without, stands_on, taken_back_extends}
 use Rattle.script_graph.proofs.Few.{few_back, few_made}
 use Rattle.script_graph.proofs.Functions.{functions_are}
 use Rattle.script_graph.proofs.Laying.{body_laid_out, every_name_of, graph_type, laid_fits}
@@ -53,7 +53,7 @@ use Rattle.script_graph.proofs.Owned.{IsOfKind, made_declares, made_owned, made_
 use Rattle.script_graph.proofs.Owning.{HasOwnNode}
 use Rattle.script_graph.proofs.Setting.{setting_stands}
 use Rattle.script_graph.proofs.Sounding.{declared_at, declared_still, node_fits, node_given, sound_declared, sound_on, sound_set}
-use Rattle.transfer.specs.Both.{graph_value}
+use Rattle.transfer.specs.Both.{Both, graph_value}
 use Rattle.transfer.specs.Keeping.{TermsStay}
 use Rattle.transfer.proofs.Typed.{body_entry}
 
@@ -92,11 +92,19 @@ names_within known names nodes one_each body ty fits =
 
 -- ---- after a declaration
 
+-- what counts spans counts them from the present time on
+counts_alike : (known : FnRef → Bool) (names : Names) (x : Both) (body : Body) (ty : Ty) → BodyFits known names body ty → x.graph.now ≡ pos x.state.now
+    → names.now ≡ x.state.now → CountsAlike x body
+counts_alike known names x (Every base span) ty fits clock now = let is = fits.1 in counts_at x.graph.now x.state.now base span clock (omega (arith, is, now))
+counts_alike known names x body ty fits clock now = tt
+
 -- what is declared is no grab
 no_grab : (known : FnRef → Bool) (names : Names) (body : Body) (ty : Ty) → BodyFits known names body ty → kind_of_body body ≡ GrabKind → ⊥
 no_grab known names (Variable v) ty fits is = cc
 no_grab known names (Computed (Bind left body) kept) ty fits is = cc
 no_grab known names (Computed f kept) ty fits is = cc
+no_grab known names (After time) ty fits is = cc
+no_grab known names (Every base span) ty fits is = cc
 no_grab known names body ty fits is = fits
 
 -- what stands for itself has a node of its own
@@ -106,6 +114,8 @@ own_of_target known names (Variable v) ty fits itself = tt
 own_of_target known names (Computed (Name t) kept) ty fits itself =
     let low = fits.0.earlier in let same : t ≡ length names.declared = itself in absurd (omega (arith, low, same))
 own_of_target known names (Computed f kept) ty fits itself = tt
+own_of_target known names (After time) ty fits itself = tt
+own_of_target known names (Every base span) ty fits itself = tt
 own_of_target known names body ty fits itself = absurd fits
 
 variable_of : (body : Body) → kind_of_body body ≡ VariableKind → (v : Value) × (body ≡ Variable v)
@@ -216,7 +226,7 @@ module _ {F : Type 0} (first now : GraphView F) (names : Names) (nodes : List No
       declared_type = names_typed first.nodes names nodes h.has_nodes
 
       laid : AllPlannedFit maps first.nodes makes × PartFits first.nodes makes ty (laid_body (node_at nodes) (type_at names) 0 body).root
-      laid = laid_fits maps first.nodes (node_at nodes) (type_at names) names there declared_type body ty fits.body_fits
+      laid = laid_fits maps first.nodes (node_at nodes) (type_at names) names there declared_type h.clock body ty fits.body_fits
 
       -- over functions that are those of the library and these bodies
       module _ (named : List ℕ → Option FnRef) (value : FnRef → List GraphValue → GraphValue)
@@ -238,7 +248,9 @@ module _ {F : Type 0} (first now : GraphView F) (names : Names) (nodes : List No
             (made_owned maps names H first now (node_at nodes) (type_at names) made body ty fits.body_fits making whole)
             (λ own. made_unbuilt maps names H first now (node_at nodes) (type_at names) made body ty fits.body_fits making whole own)
             (made_declares maps names x (node_at nodes) (type_at names) made body ty fits.body_fits
-            (λ position t fine. node_same position fine.earlier) stands whole) unbroken matches
+            (λ position t fine. node_same position fine.earlier)
+            (counts_alike maps names x body ty fits.body_fits (making.extends.time ∙ (matches.represents unbroken).clock) matches.names.now) stands whole)
+            unbroken matches
 
         module _ (known' : FnRef → Bool) (served : AreServed known' (side_in (makers bodies')) makes made) where
           few : AreFew bodies' now.nodes less

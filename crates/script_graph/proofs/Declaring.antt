@@ -22,7 +22,7 @@ use Rattle.node_arena.specs.Arena.{row_at}
 use Rattle.node_arena.specs.Sound as arena
 use Rattle.script_model.specs.Check.{Declare, Declared, Names, declared_of, kind_of_body, names_of, target_of_body}
 use Rattle.script_functions.specs.Bodies as Bodies
-use Rattle.script_model.specs.Formula.{State, Body, Entry, Kept as KeptOf, Formula, Meanings, meanings_of, bind_of, body_at, built_at, built_of_body, entry_at, formula_of_body, places_of_body, Name, Bind, Variable, Computed, Grab}
+use Rattle.script_model.specs.Formula.{State, Body, Entry, Kept as KeptOf, Formula, Meanings, meanings_of, bind_of, body_at, built_at, built_of_body, entry_at, formula_of_body, places_of_body, Name, Bind, Variable, Computed, After, Every, Grab}
 use Rattle.script_model.specs.Need.{part_of}
 use Rattle.script_model.specs.Step.{Moment, declared_in, moved}
 use Rattle.script_model.specs.Values.{Value, Int, Bool as Truth, Text, Reference}
@@ -32,7 +32,7 @@ use Rattle.script_graph.specs.Represents.{AreNames, beside, BuiltAlike, BuiltRef
 use Rattle.script_graph.specs.Today.{RefersTo, IsPlainBody, IsEarlierTarget, IsDeclaredTarget, AllPlain, IsWithin, IsPartWithin, OwnNodesOf}
 use Rattle.script_graph.specs.State.{MatchesMoment}
 use Rattle.script_graph.proofs.Carrying.{watches_on, leaves_beside, settled_on}
-use Rattle.script_graph.proofs.Extending.{BodiesServe, KeepsGraph, NodesGiven, body_past, body_there, body_within, built_still, declares_still, entry_body, extends_beside, extends_built, extends_keeps, extends_lives, extends_scopes, live_stays, never_given, node_past}
+use Rattle.script_graph.proofs.Extending.{BodiesServe, KeepsGraph, NodesGiven, body_past, body_there, body_within, built_still, declares_still, entry_body, extends_beside, extends_built, extends_keeps, extends_lives, extends_scopes, live_stays, never_given, node_past, still_counts}
 use Rattle.script_graph.proofs.Owning.{HasOwnNode, own_body, own_node, own_nodes_of_on}
 use Rattle.script_graph.proofs.Referring.{outcome_refers_more, value_refers_more}
 use Rattle.transfer.specs.Both.{graph_outcome}
@@ -67,6 +67,12 @@ own_or_name s n e is plain (Variable v) body target =
     subst (λ (j : ℕ). IsOwn (body_at s j)) (sym target) (subst IsOwn (sym here) tt)
 own_or_name s n e is plain (Grab bind v is_live) body target =
     let here : body_at s n ≡ Some (Grab bind v is_live) = ap (λ (o : Option Entry). and_then o (λ (d : Entry). Some d.body)) is ∙ ap (λ b. Some b) body in
+    subst (λ (j : ℕ). IsOwn (body_at s j)) (sym target) (subst IsOwn (sym here) tt)
+own_or_name s n e is plain (After time) body target =
+    let here : body_at s n ≡ Some (After time) = ap (λ (o : Option Entry). and_then o (λ (d : Entry). Some d.body)) is ∙ ap (λ b. Some b) body in
+    subst (λ (j : ℕ). IsOwn (body_at s j)) (sym target) (subst IsOwn (sym here) tt)
+own_or_name s n e is plain (Every base span) body target =
+    let here : body_at s n ≡ Some (Every base span) = ap (λ (o : Option Entry). and_then o (λ (d : Entry). Some d.body)) is ∙ ap (λ b. Some b) body in
     subst (λ (j : ℕ). IsOwn (body_at s j)) (sym target) (subst IsOwn (sym here) tt)
 own_or_name s n e is plain b body target =
     let here : body_at s n ≡ Some b = ap (λ (o : Option Entry). and_then o (λ (d : Entry). Some d.body)) is ∙ ap (λ b. Some b) body in
@@ -172,18 +178,24 @@ pub own_declared : (known : FnRef → Bool) (names : Names) (body : Body) (ty : 
 own_declared known names (Variable v) ty fits own = tt
 own_declared known names (Computed (Name t) kept) ty fits own = absurd own
 own_declared known names (Computed f kept) ty fits own = tt
+own_declared known names (After time) ty fits own = tt
+own_declared known names (Every base span) ty fits own = tt
 own_declared known names body ty fits own = absurd fits
 
 -- nothing is kept of it
 unbuilt_yet : (known : FnRef → Bool) (names : Names) (body : Body) (ty : Ty) → BodyFits known names body ty → built_of_body body ≡ None
 unbuilt_yet known names (Variable v) ty fits = refl
 unbuilt_yet known names (Computed f kept) ty fits = ap (λ (r : KeptOf). r.built) fits.1
+unbuilt_yet known names (After time) ty fits = refl
+unbuilt_yet known names (Every base span) ty fits = refl
 unbuilt_yet known names body ty fits = absurd fits
 
 pub no_live_grab : (known : FnRef → Bool) (names : Names) (body : Body) (ty : Ty) → BodyFits known names body ty → (b : ℕ) (v : Value)
     → body ≡ Grab b v true → ⊥
 no_live_grab known names (Variable v) ty fits b w e = cc
 no_live_grab known names (Computed f kept) ty fits b w e = cc
+no_live_grab known names (After time) ty fits b w e = cc
+no_live_grab known names (Every base span) ty fits b w e = cc
 no_live_grab known names body ty fits b w e = absurd fits
 
 -- ---- what is kept
@@ -293,7 +305,7 @@ module _ (F : Meanings) (k : Kept) (g : GraphView (Unit {0})) (bodies : List Bod
             node_past new.nodes n (omega (arith, body_past s' n is, held.one_node_each, size, states))
     declares_each n (Some b) is = elim (body_of s name ty body n b is) [
       | inl h ↦ declares_still Of F s k held given s' new.nodes bodies Q serve g keeps node_old n b h.1
-          (λ v e r row. live_stays k.graph g sound more (node_in k.nodes n) r row)
+          (λ e r row. live_stays k.graph g sound more (node_in k.nodes n) r row) (λ base span e alike. still_counts k g s base span more.time alike)
       | inr h ↦ subst (λ (c : Body). Declares (beside F s' new) (node_in new.nodes n) (Some c)) (sym h.1)
           (subst (λ (q : NodeId). Declares (beside F s' new) q (Some body)) (sym (ap (node_in new.nodes) h.0 ∙ node_new)) shows)
     ]

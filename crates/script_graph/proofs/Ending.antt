@@ -316,6 +316,7 @@ module _ (k : Kept) (name d : List ℕ) (i : ℕ) (o : ObsId) (g : GraphView (Un
         let old = id_at j p at in let old' = id_at l p also in
         source_apart last i j l old.0 old'.0 (apart_once k.observers sound.apart (source last i j) (source last i l) p old.1 old'.1));
     unbroken = λ e. ends.top.refused ∙ sound.unbroken e;
+    clock = ap (λ (a : Arena). a.time) ends.nodes ∙ sound.clock;
   }
 
   module _ (F : Meanings) (m : Moment) (stands : MatchesMoment F k m) (unbroken : m.broken ≡ None) where

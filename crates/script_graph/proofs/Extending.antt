@@ -1,6 +1,8 @@
 -- A graph to which nodes were added, and what is kept of a script over it.
-use Rattle.std.proofs.Common.{◌≡◌, ◌⊎◌, inl, inr, ℕ, zero, suc, ◌<◌, ◌≤◌, true, false, List, [], ◌∷◌, length, Option, None, Some, IsSome, option_map, refl, ap, sym, subst, ◌∙◌, arith, slice_get}
+use Rattle.std.proofs.Common.{◌≡◌, ◌⊎◌, inl, inr, ℕ, ℤ, pos, zero, suc, ◌-◌, ◌/◌, ◌-ℤ◌, ◌<◌, ◌≤◌, true, false, List, [], ◌∷◌, length, Option, None, Some, IsSome, option_map, refl, ap, sym, subst, ◌∙◌, arith, slice_get}
+use Rattle.std.proofs.lemmas.Int.{ints}
 use Rattle.std.proofs.lemmas.Option.{slice_get_within, none-some}
+use Rattle.std.specs.Int.Signed.{quot_z}
 use Rattle.inc_value.specs.Choice.{and_then, Every as Each}
 use Rattle.inc_value.specs.declared.function.FnKind.{FnKind}
 use Rattle.inc_value.specs.declared.function.FnRef.{FnRef}
@@ -9,7 +11,7 @@ use Rattle.inc_value.specs.declared.outcome.Outcome.{Outcome as GraphOutcome}
 use Rattle.inc_value.specs.declared.outcome.Outcome.TheVariants as outcome
 use Rattle.inc_value.specs.declared.value.Value.{Value as GraphValue}
 use Rattle.inc_terms.specs.Graph as graph_def
-use Rattle.inc_terms.specs.Graph.{Row, Built as BuiltFor}
+use Rattle.inc_terms.specs.Graph.{Graph, Row, Built as BuiltFor}
 use Rattle.inc_terms.specs.Rebuilding.{outcome_of}
 use Rattle.inc_terms.specs.Term as term
 use Rattle.inc_terms.specs.Term.{Functions}
@@ -19,7 +21,7 @@ use Rattle.graph.specs.Standing.{GraphView, graph}
 use Rattle.node_arena.specs.Arena.{Arena, row_at}
 use Rattle.node_arena.specs.Sound as arena
 use Rattle.script_functions.specs.Bodies as Bodies
-use Rattle.script_model.specs.Formula.{State, Body, Entry, Formula, Formulas, TimedValue, Meanings, bind_at, body_at, built_at, Literal, Name, Bound, Apply, Fold, If, Join, Bind, At, Steps, Now, End, More, Variable, Computed, Grab}
+use Rattle.script_model.specs.Formula.{State, Body, Entry, Formula, Formulas, TimedValue, Meanings, bind_at, body_at, built_at, Literal, Name, Bound, Apply, Fold, If, Join, Bind, At, Steps, Now, End, More, Variable, Computed, After, Every, Grab}
 use Rattle.script_model.specs.Leaves.{EveryReference, EveryLeaf, EveryLeafOfAll}
 use Rattle.script_model.specs.Step.{Moment}
 use Rattle.script_model.specs.Values.{Value, Int, Bool as Truth, Text, Reference, Outcome}
@@ -36,7 +38,7 @@ use Rattle.script_graph.proofs.Owning.{own_nodes_of_on}
 use Rattle.script_graph.proofs.Referring.{value_agrees, outcome_agrees}
 use Rattle.transfer.specs.Both.{Both, graph_value, graph_outcome}
 use Rattle.transfer.specs.Keeping.{RowsStay, TermsStay}
-use Rattle.transfer.specs.Shows.{Built, Shows, IsTop, Declares}
+use Rattle.transfer.specs.Shows.{Built, Shows, IsTop, Declares, plain}
 use Rattle.transfer.proofs.Frame.{shows_on}
 use Rattle.transfer.proofs.Mentions.{ValueMentions, Mentions, AllMention}
 use Rattle.stabilize_round.proofs.Points.{node_or_other}
@@ -266,6 +268,26 @@ node_past (x ∷ ns) (suc i) high = node_past ns i (omega (arith, high))
 
 -- ---- what nodes show, and what binds are built for
 
+-- of spans from a base on the graph's clock counts as many as the script's
+abbrev pub CountsSpans : Graph → State → ℕ → ℕ → Type 0
+CountsSpans G s base span = quot_z (G.now -ℤ pos base) (pos span) ≡ pos ((s.now - base) / span)
+
+-- where its time is the script's, and has come to the base, it does
+pub counts_at : (time : ℤ) (now base span : ℕ) → time ≡ pos now → base ≤ now → quot_z (time -ℤ pos base) (pos span) ≡ pos ((now - base) / span)
+counts_at time now base span clock reached =
+    let past : time -ℤ pos base ≡ pos (now - base) = omega (arith, ints, clock, reached) in ap (λ (z : ℤ). quot_z z (pos span)) past
+
+-- and it does so while the time stands
+pub still_counts : (k : Kept) (g : GraphView (Unit {0})) (s : State) (base span : ℕ) → g.nodes.time ≡ (arena_of k).time
+    → CountsSpans (graph k.graph) s base span → CountsSpans (graph g) s base span
+still_counts k g s base span time alike = subst (λ (t : ℤ). quot_z (t -ℤ pos base) (pos span) ≡ pos ((s.now - base) / span)) (sym time) alike
+
+-- no row tells of what is declared as a formula does
+abbrev pub StandsAlone : Body → Type 0
+StandsAlone (Variable v) = Unit {0}
+StandsAlone (Every base span) = Unit {0}
+StandsAlone body = ⊥
+
 -- the nodes of declarations are among these
 abbrev pub NodesAre : (NodeId → Type 0) → State → Kept → Type 0
 NodesAre Of s k = (n : ℕ) (b : Body) → body_at s n ≡ Some b → Of (node_in k.nodes n)
@@ -314,7 +336,8 @@ module _ (Of : NodeId → Type 0) (F : Meanings) (s : State) (k : Kept) (held : 
 
   -- what was declared is shown still
   module _ (n : ℕ) (b : Body) (is : body_at s n ≡ Some b)
-      (top : (v : Value) → b ≡ Variable v → (r : Row) → row_at (arena_of k) (node_in k.nodes n) ≡ Some r → row_at g.nodes (node_in k.nodes n) ≡ Some r) where
+      (top : StandsAlone b → (r : Row) → row_at (arena_of k) (node_in k.nodes n) ≡ Some r → row_at g.nodes (node_in k.nodes n) ≡ Some r)
+      (counts : (base span : ℕ) → b ≡ Every base span → CountsSpans (graph k.graph) s base span → CountsSpans (graph g) s' base span) where
     node : node_in nodes n ≡ node_in k.nodes n
     node = same n (body_within s n b is)
 
@@ -322,7 +345,7 @@ module _ (Of : NodeId → Type 0) (F : Meanings) (s : State) (k : Kept) (held : 
         → Declares y (node_in nodes n) (Some c)
     by_body (Variable v) c fine (r, row, scope, def) =
         subst (λ (q : NodeId). IsTop y.graph q (graph_def.Var (graph_value y.nodes v))) (sym node)
-        (r, top v c r row, scope, def ∙ ap (λ w. graph_def.Var w) (value_still v fine.1))
+        (r, top (subst StandsAlone (sym c) tt) r row, scope, def ∙ ap (λ w. graph_def.Var w) (value_still v fine.1))
     by_body (Computed f kept) c fine h =
         subst (λ (q : NodeId). Shows y (Built None) [] (term.Ref q) f) (sym node)
         (shows_on x (graph_functions F bodies) Q (serve x refl refl) (graph g) s' (node_in nodes) Old same keeps.rows None [] tt (term.Ref (node_in k.nodes n)) f
@@ -337,6 +360,13 @@ module _ (Of : NodeId → Type 0) (F : Meanings) (s : State) (k : Kept) (held : 
           root ∙ ap (λ (q : NodeId). Some q) (sym node),
         )
     by_body (Grab bind v true) c fine (inr lost) = absurd (let died = lost.2 in cc)
+    by_body (After time) c fine (r, row, scope, def) =
+        subst (λ (q : NodeId). IsTop y.graph q (graph_def.At (pos time))) (sym node)
+        (r, keeps.rows (node_in k.nodes n) r (term.At (pos time)) row (ap plain def), scope, def)
+    by_body (Every base span) c fine ((r, row, scope, def), alike) = (
+      subst (λ (q : NodeId). IsTop y.graph q (graph_def.Every (pos base) (pos span))) (sym node) (r, top (subst StandsAlone (sym c) tt) r row, scope, def),
+      counts base span c alike,
+    )
     by_body c is fine h = absurd fine.0
 
     pub declares_still : Declares y (node_in nodes n) (Some b)
@@ -395,7 +425,7 @@ module _ (F : Meanings) (k : Kept) (g : GraphView (Unit {0})) (bodies : List Bod
         past = node_past k.nodes n (omega (arith, body_past m.present n is, held.one_node_each))
     declares_each n (Some b) is =
         declares_still (Given (arena_of k).given) F m.present k held given m.present k.nodes bodies Q serve g (extends_keeps k g sound more) (λ t low. refl) n b is
-        (λ v e r row. live_stays k.graph g sound more (node_in k.nodes n) r row)
+        (λ e r row. live_stays k.graph g sound more (node_in k.nodes n) r row) (λ base span e alike. still_counts k g m.present base span more.time alike)
 
     represents_on : Represents F m.present new
     represents_on = record {

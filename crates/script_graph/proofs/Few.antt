@@ -142,6 +142,10 @@ module _ {F : Type 0} (maps : FnRef → Bool) (bodies more : List Body) (H : Fun
   open_weight (open_def.Fold f v parts) i at low bound = omega arith
   open_weight (open_def.If ty test a b) i at low bound = omega arith
   open_weight (open_def.Join ty child) i at low bound = omega arith
+  open_weight (open_def.At time) i at low bound = omega arith
+  open_weight (open_def.Steps v steps) i at low bound = omega arith
+  open_weight open_def.Now i at low bound = omega arith
+  open_weight (open_def.Every base span) i at low bound = omega arith
 
   -- the functions of binds that were made were made before
   bind_bound : (i : ℕ) (x : Open) → slice_get makes i ≡ Some (planned.Node x) → i < length made

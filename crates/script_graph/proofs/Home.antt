@@ -10,7 +10,7 @@ use Rattle.inc_terms.specs.Rebuild.{Inside as StandsInside, direct, nested}
 use Rattle.inc_terms.specs.Term as term
 use Rattle.graph.specs.Standing.{GraphView, IsOwner, graph}
 use Rattle.script_model.specs.Blocked.{IsPrintedFor, own, of_bind}
-use Rattle.script_model.specs.Formula.{State, Body, Formula, body_at, meanings_of, formula_of_body, Name, Bound, Bind, Variable, Computed, Grab}
+use Rattle.script_model.specs.Formula.{State, Body, Formula, body_at, meanings_of, formula_of_body, Name, Bound, Bind, Variable, Computed, After, Every, Grab}
 use Rattle.script_model.specs.Need.{Edge, Argument, Test, Then, Else, Child, Left, Inside, Item, Named, Place, part_at, part_of, formula_at}
 use Rattle.script_model.specs.Values.{Value}
 use Rattle.script_graph.specs.Kept.{Kept, node_in}
@@ -80,6 +80,8 @@ module _ (named : List ℕ → Option FnRef) (value : FnRef → List GraphValue 
           (own_name y (IsWithin k.nodes) (IsPartWithin k.nodes) (aged_then named value s k g c) owner (Computed h kept) body (subst IsForm same form))
       go (Some (Variable v)) body = absurd (let e = rw body at at in cc)
       go (Some (Grab b v is_live)) body = absurd (let e = rw body at at in cc)
+      go (Some (After time)) body = absurd (let e = rw body at at in cc)
+      go (Some (Every base span)) body = absurd (let e = rw body at at in cc)
       go (Some b) body = absurd (c.held.today.plain owner b body).0
 
   -- ---- owners
@@ -208,6 +210,13 @@ module _ (named : List ℕ → Option FnRef) (value : FnRef → List GraphValue 
   named_tells m (Grab b v true) n is form (inr lost) node =
       of_dead m (Grab b v true) (ap G'.row (sym node) ∙ lost.1) is form node refl
   named_tells m (Grab b v false) n is form h node = of_dead m (Grab b v false) (ap G'.row (sym node) ∙ h.0) is form node refl
+  named_tells m (After time) n is form h node =
+      of_live m (body_low m (After time) is)
+      (subst (HasHome m) node (top_home m (node_in k.nodes m) h.0 h.1 h.2 (aged_name (meanings_of named value) s k c.held m (After time) is tt))) (own refl)
+  named_tells m (Every base span) n is form (h, alike) node =
+      of_live m (body_low m (Every base span) is)
+      (subst (HasHome m) node (top_home m (node_in k.nodes m) h.0 h.1 h.2 (aged_name (meanings_of named value) s k c.held m (Every base span) is tt)))
+      (own refl)
   named_tells m b n is form h node = absurd (c.held.today.plain m b is).0
 
   -- what an item tells of its node

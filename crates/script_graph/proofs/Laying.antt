@@ -1,18 +1,19 @@
 -- What is laid out for a body that fits: each of it fits.
-use Rattle.std.proofs.Common.{◌≡◌, ◌⊎◌, inl, inr, ℕ, zero, suc, ◌+◌, Bool, List, [], ◌∷◌, ◌++◌, length, take, None, Some, refl, ap, sym, subst, ◌∙◌, arith, slice_get, slice_index_or}
+use Rattle.std.proofs.Common.{◌≡◌, ◌⊎◌, inl, inr, ℕ, pos, zero, suc, ◌+◌, Bool, List, [], ◌∷◌, ◌++◌, length, map, take, None, Some, refl, ap, sym, subst, ◌∙◌, arith, slice_get, slice_index_or}
 use Rattle.std.specs.List.{AllZip}
+use Rattle.std.proofs.lemmas.Int.{ints}
 use Rattle.std.proofs.lemmas.Option.{slice_get_within}
-use Rattle.formula_lang.specs.Fits.{ArgumentsFit, BodyFits, ElementsFit, FormulaFits, NameFits, ReferenceFits}
+use Rattle.formula_lang.specs.Fits.{ArgumentsFit, BodyFits, ElementsFit, FormulaFits, NameFits, ReferenceFits, StepsFit}
 use Rattle.formula_elab.specs.Bodies.{OpenBody, Page, empty_page, size_of}
 use Rattle.formula_elab.specs.Laying.{laid, laid_each, laid_body}
 use Rattle.formula_elab.specs.Types.{formula_ty, joined_ty}
-use Rattle.formula_elab.specs.Writing.{body_of, variables, with_named, with_nodes_of, written, written_each}
+use Rattle.formula_elab.specs.Writing.{body_of, variables, with_each_named, with_named, with_nodes_of, written, written_each}
 use Rattle.formula_elab.specs.Names.{EveryNameOf}
 use Rattle.formula_elab.specs.Opened.{LineNeedsEarlier, NeedsEarlier}
 use Rattle.formula_elab.specs.Today.{IsLaidOut, IsLaidOutBody, AreLaidOut}
 use Rattle.formula_elab.specs.declared.body.OpenLine.{OpenLine}
 use Rattle.formula_elab.specs.declared.body.OpenLine.TheVariants as open_line
-use Rattle.formula_elab.specs.declared.opened.Open.TheVariants.{Const, Var, Map, Fold as OpenFold, If as OpenIf, Join as OpenJoin, Bind as OpenBind}
+use Rattle.formula_elab.specs.declared.opened.Open.TheVariants.{Const, Var, Map, Fold as OpenFold, If as OpenIf, Join as OpenJoin, Bind as OpenBind, At as OpenAt, Steps as OpenSteps, Now as OpenNow, Every as OpenEvery}
 use Rattle.formula_elab.specs.declared.opened.Part.{Part}
 use Rattle.formula_elab.specs.declared.plan.Planned.{Planned}
 use Rattle.formula_elab.specs.declared.plan.Planned.TheVariants as planned
@@ -25,6 +26,9 @@ use Rattle.inc_value.specs.declared.function.FnRef.{FnRef}
 use Rattle.inc_value.specs.declared.node.NodeId.{NodeId}
 use Rattle.inc_value.specs.declared.ty.Ty.{Ty}
 use Rattle.inc_value.specs.declared.ty.Ty.TheVariants as types
+use Rattle.inc_terms.specs.Clock.{IsTimed}
+use Rattle.inc_terms.specs.Graph as graph_def
+use Rattle.inc_terms.specs.Term.{Step}
 use Rattle.inc_terms.specs.Within.{Given}
 use Rattle.node_arena.specs.Arena.{Arena}
 use Rattle.node_arena.specs.Listing.{Listed}
@@ -32,12 +36,13 @@ use Rattle.node_arena.specs.RightSide.{AreFit}
 use Rattle.node_arena.specs.Typing.{Fits}
 use Rattle.script_functions.specs.declared.line.Line.TheVariants as line
 use Rattle.script_model.specs.Check.{Names}
-use Rattle.script_model.specs.Formula.{Formula, Formulas, Body, Literal, Name, Bound, Apply, Fold, If, Join, Bind, End, More, Variable, Computed}
+use Rattle.script_model.specs.Formula.{Formula, Formulas, TimedValue, Body, Literal, Name, Bound, Apply, Fold, If, Join, Bind, At, Steps, Now, End, More, Variable, Computed, After, Every as Counts}
 use Rattle.script_model.specs.Leaves.{EveryReference, EveryLeaf, EveryLeafOfAll}
 use Rattle.script_model.specs.Values.{Value, Int, Bool as Truth, Text, Reference, type_of}
 use Rattle.script_graph.specs.Growing.{AllPlannedFit, LineFits, OpenFits, PartFits, PlannedFits, RefersToFit}
 use Rattle.script_graph.specs.Today.{IsPlainBody}
 use Rattle.transfer.specs.Both.{graph_value}
+use Rattle.transfer.specs.Shows.{graph_step}
 
 -- ---- values
 
@@ -134,7 +139,9 @@ module _ (known : FnRef → Bool) (names : Names) where
         (fitting_laid_out bounds test types.Bool fits.0, fitting_laid_out bounds a ty fits.1, fitting_laid_out bounds b ty fits.2)
     fitting_laid_out bounds (Join child) ty fits = fitting_laid_out bounds child (types.Node fits.0) fits.1
     fitting_laid_out bounds (Bind left body) ty fits = (fitting_laid_out bounds left fits.0 fits.1, fitting_laid_out (fits.0 ∷ bounds) body ty fits.2)
-    fitting_laid_out bounds f ty fits = absurd fits
+    fitting_laid_out bounds (At time) ty fits = tt
+    fitting_laid_out bounds (Steps first steps) ty fits = tt
+    fitting_laid_out bounds Now ty fits = tt
 
     all_laid_out : (bounds : List Ty) (fs : Formulas) (tys : List Ty) → ArgumentsFit known names bounds fs tys → AreLaidOut (length bounds) fs
     all_laid_out bounds End [] fits = tt
@@ -149,11 +156,17 @@ module _ (known : FnRef → Bool) (names : Names) where
   pub body_laid_out : (b : Body) (ty : Ty) → BodyFits known names b ty → IsLaidOutBody b
   body_laid_out (Variable v) ty fits = tt
   body_laid_out (Computed f kept) ty fits = fitting_laid_out [] f ty fits.0
+  body_laid_out (After time) ty fits = tt
+  body_laid_out (Counts base span) ty fits = tt
   body_laid_out b ty fits = absurd fits
 
 -- its names have what names that fit have, and so has what its values refer to
 module _ (known : FnRef → Bool) (names : Names) (P R : ℕ → Type 0) (named : (position : ℕ) (ty : Ty) → NameFits names position ty → P position)
     (refers : (v : Value) → ReferenceFits names v → EveryReference R v) where
+  steps_leaves : (ty : Ty) (steps : List TimedValue) → StepsFit names steps ty → Every (λ (s : TimedValue). EveryReference R s.value) steps
+  steps_leaves ty [] fits = tt
+  steps_leaves ty (s ∷ steps) fits = (refers s.value fits.0.1, steps_leaves ty steps fits.1)
+
   mutual
     fitting_leaves : (bounds : List Ty) (f : Formula) (ty : Ty) → FormulaFits known names bounds f ty → EveryLeaf P R f
     fitting_leaves bounds (Literal v) ty fits = refers v fits.1
@@ -165,7 +178,9 @@ module _ (known : FnRef → Bool) (names : Names) (P R : ℕ → Type 0) (named 
         (fitting_leaves bounds test types.Bool fits.0, fitting_leaves bounds a ty fits.1, fitting_leaves bounds b ty fits.2)
     fitting_leaves bounds (Join child) ty fits = fitting_leaves bounds child (types.Node fits.0) fits.1
     fitting_leaves bounds (Bind left body) ty fits = (fitting_leaves bounds left fits.0 fits.1, fitting_leaves (fits.0 ∷ bounds) body ty fits.2)
-    fitting_leaves bounds f ty fits = absurd fits
+    fitting_leaves bounds (At time) ty fits = tt
+    fitting_leaves bounds (Steps first steps) ty fits = (refers first fits.0.1, steps_leaves ty steps fits.1)
+    fitting_leaves bounds Now ty fits = tt
 
     all_leaves : (bounds : List Ty) (fs : Formulas) (tys : List Ty) → ArgumentsFit known names bounds fs tys → EveryLeafOfAll P R fs
     all_leaves bounds End [] fits = tt
@@ -181,6 +196,8 @@ module _ (known : FnRef → Bool) (names : Names) (P R : ℕ → Type 0) (named 
   pub body_plain : (b : Body) (ty : Ty) → BodyFits known names b ty → IsPlainBody P R b
   body_plain (Variable v) ty fits = (tt, refers v fits.1)
   body_plain (Computed f kept) ty fits = (fitting_laid_out known names [] f ty fits.0, fitting_leaves [] f ty fits.0)
+  body_plain (After time) ty fits = (tt, tt)
+  body_plain (Counts base span) ty fits = (tt, tt)
   body_plain b ty fits = absurd fits
 
 -- the names of what fits have what names that fit have
@@ -189,6 +206,8 @@ pub every_name_of : (known : FnRef → Bool) (names : Names) (P : ℕ → Type 0
 every_name_of known names P named (Variable v) ty fits = (tt, refers_fitting names P named v fits.1)
 every_name_of known names P named (Computed f kept) ty fits =
     (fitting_laid_out known names [] f ty fits.0, fitting_leaves known names P P named (refers_fitting names P named) [] f ty fits.0)
+every_name_of known names P named (After time) ty fits = (tt, tt)
+every_name_of known names P named (Counts base span) ty fits = (tt, tt)
 every_name_of known names P named body ty fits = absurd fits
 
 -- ---- what is laid out fits
@@ -211,7 +230,9 @@ module _ (known : FnRef → Bool) (tys : ℕ → Ty) (names : Names)
   formula_type bounds (Join child) ty fits = ap joined_ty (formula_type bounds child (types.Node fits.0) fits.1) ∙ fits.2
   formula_type bounds (Bind left body) ty fits =
       ap (λ (t : Ty). formula_ty tys (t ∷ bounds) body) (formula_type bounds left fits.0 fits.1) ∙ formula_type (fits.0 ∷ bounds) body ty fits.2
-  formula_type bounds f ty fits = absurd fits
+  formula_type bounds (At time) ty fits = fits
+  formula_type bounds (Steps first steps) ty fits = fits.0.0
+  formula_type bounds Now ty fits = fits
 
 among_left : (x : Listed) (xs ys : List Listed) → Among x xs → Among x (xs ++ ys)
 among_left x (y ∷ xs) ys (inl is) = inl is
@@ -284,6 +305,11 @@ module _ (known : FnRef → Bool) (a : Arena) (all : List Planned) (nodes : ℕ 
   named_page p (Reference target b) fits h =
       more_listed p (record { node = nodes target; ty = type_of_base b } ∷ []) h (one_listed (nodes target) (type_of_base b) (there target (type_of_base b) fits))
 
+  -- so with the nodes that the values of steps name
+  named_each : (ty : Ty) (p : Page) (steps : List TimedValue) → StepsFit names steps ty → PageFits p → PageFits (with_each_named nodes p steps)
+  named_each ty p [] fits h = h
+  named_each ty p (s ∷ steps) fits h = named_each ty (with_named nodes p s.value) steps fits.1 (named_page p s.value fits.0.1 h)
+
   -- with one line more
   more_line : (p : Page) (l : OpenLine) → PageFits p → LineFits known all p.listed l → PageFits (record p { lines = p.lines ++ l ∷ [] })
   more_line p l h fits = record { lines = lines_both p.listed p.lines (l ∷ []) h.lines (fits, tt); listed = h.listed }
@@ -346,7 +372,14 @@ module _ (known : FnRef → Bool) (a : Arena) (all : List Planned) (nodes : ℕ 
           more_line (with_nodes_of one.page inner.page) (open_line.Bind one.root number (size_of inner.page) (variables (length bounds))) wide
               (o, at, refl, λ x among. among_right x one.page.listed inner.page.listed among),
         )
-    formula_written bounds start p f ty fits h sits = absurd fits
+    formula_written bounds start p (At time) ty fits h sits = (tt, more_line p (open_line.Ready (line.At (pos time))) h tt)
+    formula_written bounds start p (Steps first steps) ty fits h sits = (
+      tt,
+      more_line (with_each_named nodes (with_named nodes p first) steps)
+          (open_line.Ready (line.Steps (graph_value nodes first) (map (graph_step nodes) steps)))
+          (named_each ty (with_named nodes p first) steps fits.1 (named_page p first fits.0.1 h)) tt,
+    )
+    formula_written bounds start p Now ty fits h sits = (tt, more_line p (open_line.Ready line.Now) h tt)
 
     arguments_written : (bounds : List Ty) (start : ℕ) (p : Page) (fs : Formulas) (takes : List Ty) → ArgumentsFit known names bounds fs takes → PageFits p
         → SitsAt all start (written_each nodes tys bounds start p fs).makes
@@ -381,6 +414,15 @@ module _ (known : FnRef → Bool) (a : Arena) (all : List Planned) (nodes : ℕ 
   value_fits (Truth b) fits = tt
   value_fits (Text bytes) fits = tt
   value_fits (Reference target b) fits = there target (type_of_base b) fits
+
+  -- the values of steps are of the first one's type
+  steps_fit : (first : Value) (ty : Ty) → type_of first ≡ ty → (steps : List TimedValue) → StepsFit names steps ty
+      → Every (λ (s : Step). (engine.type_of s.value ≡ engine.type_of (graph_value nodes first)) × RefersToFit a s.value) (map (graph_step nodes) steps)
+  steps_fit first ty is [] fits = tt
+  steps_fit first ty is (s ∷ steps) fits = (
+    (graph_type nodes s.value ∙ (fits.0.0 ∙ sym (graph_type nodes first ∙ is)), value_fits s.value fits.0.1),
+    steps_fit first ty is steps fits.1,
+  )
 
   mutual
     formula_fits : (start : ℕ) (f : Formula) (ty : Ty) → FormulaFits known names [] f ty → SitsAt all start (laid nodes tys start f).makes
@@ -466,7 +508,12 @@ module _ (known : FnRef → Bool) (a : Arena) (all : List Planned) (nodes : ℕ 
           (OpenBind of one.root number, at_bind, formula_type known tys names typed (u ∷ []) body ty body_fits),
         )
     formula_fits start (Bound k) ty fits sits = absurd (let none : None ≡ Some ty = fits in cc)
-    formula_fits start f ty fits sits = absurd fits
+    formula_fits start (At time) ty fits sits = ((tt, tt), (OpenAt (pos time), sits.0, fits))
+    formula_fits start (Steps first steps) ty fits sits = (
+      ((value_fits first fits.0.1, steps_fit first ty fits.0.0 steps fits.1), tt),
+      (OpenSteps (graph_value nodes first) (map (graph_step nodes) steps), sits.0, graph_type nodes first ∙ fits.0.0),
+    )
+    formula_fits start Now ty fits sits = ((tt, tt), (OpenNow, sits.0, fits))
 
     arguments_fit : (start : ℕ) (fs : Formulas) (takes : List Ty) → ArgumentsFit known names [] fs takes → SitsAt all start (laid_each nodes tys start fs).makes
         → Every PlannedIn (laid_each nodes tys start fs).makes × AllZip (λ (p : Part) (t : Ty). PartFits a all t p) (laid_each nodes tys start fs).roots takes
@@ -492,11 +539,18 @@ module _ (known : FnRef → Bool) (a : Arena) (all : List Planned) (nodes : ℕ 
         let others = elements_fit next rest ty fits.1 parts.1 in
         (every_append PlannedIn here.makes (laid_each nodes tys next rest).makes one.0 others.0, (one.1, others.1))
 
-  body_fits : (body : Body) (ty : Ty) → BodyFits known names body ty → SitsAt all 0 (laid_body nodes tys 0 body).makes
+  body_fits : a.time ≡ pos names.now → (body : Body) (ty : Ty) → BodyFits known names body ty → SitsAt all 0 (laid_body nodes tys 0 body).makes
       → Every PlannedIn (laid_body nodes tys 0 body).makes × PartFits a all ty (laid_body nodes tys 0 body).root
-  body_fits (Variable v) ty fits sits = ((value_fits v fits.1, tt), (Var (graph_value nodes v), sits.0, graph_type nodes v ∙ fits.0))
-  body_fits (Computed f kept) ty fits sits = formula_fits 0 f ty fits.0 sits
-  body_fits body ty fits sits = absurd fits
+  body_fits clock (Variable v) ty fits sits = ((value_fits v fits.1, tt), (Var (graph_value nodes v), sits.0, graph_type nodes v ∙ fits.0))
+  body_fits clock (Computed f kept) ty fits sits = formula_fits 0 f ty fits.0 sits
+  body_fits clock (After time) ty fits sits = ((tt, tt), (OpenAt (pos time), sits.0, fits.0))
+  body_fits clock (Counts base span) ty fits sits =
+      let is = fits.1 in
+      let more = fits.2 in
+      let timed : IsTimed a.time (graph_def.Every (pos base) (pos span)) =
+      (omega (arith, ints), omega (arith, ints, clock, is), omega (arith, ints, more)) in
+      ((timed, tt), (OpenEvery (pos base) span, sits.0, fits.0))
+  body_fits clock body ty fits sits = absurd fits
 
 -- with what is to be made before it, a body fits as it does with all
 earlier_line : (known : FnRef → Bool) (all : List Planned) (i : ℕ) (listed : List Listed) (l : OpenLine) → LineNeedsEarlier (take i all) l
@@ -519,15 +573,15 @@ earlier_lines known all i listed [] needs fits = tt
 earlier_lines known all i listed (l ∷ ls) needs fits =
     (earlier_line known all i listed l needs.0 fits.0, earlier_lines known all i listed ls needs.1 fits.1)
 
--- what is laid out for a body that fits the names fits the arena, where the names have their nodes
+-- what is laid out for a body that fits the names fits the arena, where the names have their nodes, and one time
 pub laid_fits : (known : FnRef → Bool) (a : Arena) (nodes : ℕ → NodeId) (tys : ℕ → Ty) (names : Names)
     → ((position : ℕ) (t : Ty) → NameFits names position t → Given a.given (nodes position) × Fits a (nodes position) t)
     → ((position : ℕ) (t : Ty) → NameFits names position t → tys position ≡ t)
-    → (body : Body) (ty : Ty) → BodyFits known names body ty
+    → a.time ≡ pos names.now → (body : Body) (ty : Ty) → BodyFits known names body ty
     → AllPlannedFit known a (laid_body nodes tys 0 body).makes × PartFits a (laid_body nodes tys 0 body).makes ty (laid_body nodes tys 0 body).root
-laid_fits known a nodes tys names there typed body ty fits =
+laid_fits known a nodes tys names there typed clock body ty fits =
     let all = (laid_body nodes tys 0 body).makes in
-    let h = body_fits known a all nodes tys names there typed body ty fits (sits_itself all) in
+    let h = body_fits known a all nodes tys names there typed clock body ty fits (sits_itself all) in
     let order = laid_in_order nodes tys body (body_laid_out known names body ty fits) in
     (λ i x at. by_planned all i x (order_of all i x order at) (every_at (PlannedIn known a all nodes tys names there typed) all h.0 i x at), h.1)
   where

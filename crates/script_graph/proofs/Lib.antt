@@ -1,5 +1,6 @@
 pub mod Accepting
 pub mod Adding
+pub mod Advancing
 pub mod Apart
 pub mod Beginning
 pub mod Becoming

@@ -5,7 +5,7 @@ use Rattle.inc_value.specs.declared.node.NodeId.{NodeId}
 use Rattle.graph.specs.Standing.{in_use, looked_at}
 use Rattle.graph.specs.declared.observer.Observer.{Observer as Looking}
 use Rattle.inc_terms.proofs.Plan.{among_map}
-use Rattle.script_model.specs.Formula.{State, Entry, Body, Observer, Variable, Computed, Grab}
+use Rattle.script_model.specs.Formula.{State, Entry, Body, Observer, Variable, Computed, After, Every, Grab}
 use Rattle.script_model.specs.Need.{Item, Named, own_root, own_roots, roots}
 use Rattle.script_graph.specs.Today.{AllPlain, IsPlainBody, IsEarlierTarget, IsDeclaredTarget}
 use Rattle.script_graph.specs.Represents.{there_in}
@@ -43,6 +43,8 @@ no_own_root : (P R : ℕ → Type 0) (s : State) (n : ℕ) (b : Body) → IsPlai
 no_own_root P R s n (Variable v) fine = refl
 no_own_root P R s n (Computed f kept) fine = refl
 no_own_root P R s n (Grab bind v is_live) fine = refl
+no_own_root P R s n (After time) fine = refl
+no_own_root P R s n (Every base span) fine = refl
 no_own_root P R s n b fine = absurd fine.0
 
 no_own_roots : (s : State) (n : ℕ) (es : List Entry) → ((j : ℕ) (e : Entry) → slice_get es j ≡ Some e → (m : ℕ) → own_root s m e.body ≡ [])

@@ -1,5 +1,5 @@
 -- What is made for a plan, one after the other.
-use Rattle.std.proofs.Common.{◌≡◌, ◌⊎◌, inl, inr, ℕ, zero, suc, ◌+◌, ◌<◌, ◌≤◌, Bool, List, [], ◌∷◌, ◌++◌, map, length, take, Option, None, Some, IfSome, IsTrue, refl, ap, sym, subst, ◌∙◌, arith, slice_get}
+use Rattle.std.proofs.Common.{◌≡◌, ◌⊎◌, inl, inr, ℕ, ℤ, pos, zero, suc, ◌+◌, ◌<◌, ◌≤◌, Bool, List, [], ◌∷◌, ◌++◌, map, length, take, Option, None, Some, IfSome, IsTrue, refl, ap, sym, subst, ◌∙◌, arith, slice_get}
 use Rattle.std.specs.List.{All, AllZip, sum_by}
 use Rattle.std.proofs.lemmas.List.Sums.{sum_by-cons}
 use Rattle.std.proofs.lemmas.List.{length-append, get_or_append_left, get_or_at}
@@ -17,7 +17,7 @@ use Rattle.formula_elab.specs.declared.body.OpenLine.TheVariants as open_line
 use Rattle.formula_elab.specs.declared.make.Made.{Made}
 use Rattle.formula_elab.specs.declared.make.Made.TheVariants as was
 use Rattle.formula_elab.specs.declared.opened.Open.{Open}
-use Rattle.formula_elab.specs.declared.opened.Open.TheVariants.{Const, Var, Map, Fold, If, Join, Bind}
+use Rattle.formula_elab.specs.declared.opened.Open.TheVariants.{Const, Var, Map, Fold, If, Join, Bind, At, Steps, Now, Every as Counts}
 use Rattle.formula_elab.specs.declared.opened.Part.{Part}
 use Rattle.formula_elab.specs.declared.opened.Part.TheVariants.{Given as Named, Made as Numbered}
 use Rattle.formula_elab.specs.declared.plan.Planned.TheVariants as planned
@@ -40,8 +40,10 @@ use Rattle.inc_value.specs.declared.ty.Ty.{Ty}
 use Rattle.inc_value.specs.declared.ty.Ty.TheVariants as types
 use Rattle.inc_value.specs.declared.value.Value.{Value}
 use Rattle.inc_value.specs.declared.value.Value.TheVariants as value
+use Rattle.inc_terms.specs.Clock.{IsTimed}
+use Rattle.inc_terms.specs.Graph as graph_def
 use Rattle.inc_terms.specs.Graph.{Row}
-use Rattle.inc_terms.specs.Term.{Functions}
+use Rattle.inc_terms.specs.Term.{Functions, Step}
 use Rattle.inc_terms.specs.Within.{Given, ValueWithin}
 use Rattle.node_arena.specs.Arena.{Arena, live, row_at}
 use Rattle.node_arena.specs.Building.{Use}
@@ -49,7 +51,7 @@ use Rattle.node_arena.specs.Listing.{Listed}
 use Rattle.node_arena.specs.RightSide.{AreFit, AreUsable, IsUsable, RightSide, SidesHold}
 use Rattle.node_arena.specs.Sound as arena
 use Rattle.node_arena.specs.RightSideLaws.{meaning}
-use Rattle.node_arena.specs.Typing.{BindTakes, Fits, FoldTakes, ReferenceFits}
+use Rattle.node_arena.specs.Typing.{BindTakes, Fits, FoldTakes, HasType, ReferenceFits}
 use Rattle.script_functions.specs.Bodies as Bodies
 use Rattle.script_functions.specs.Bodies.{side_of}
 use Rattle.script_functions.specs.Lines.{line_size, line_uses, sizes, uses_of}
@@ -180,6 +182,20 @@ module _ {F : Type 0} (H : Functions) (first now : GraphView F) (makes : List Pl
   each_given (p ∷ ps) t fits early =
       ((part_fits p t fits.0 (All-head (IsEarlier Done) p ps early)).0, each_given ps t fits.1 (All-tail (IsEarlier Done) p ps early))
 
+  -- the values of steps refer to what was given, and are of the first one's type
+  steps_given : (v : Value) (steps : List Step) → Every (λ (s : Step). (type_of s.value ≡ type_of v) × RefersToFit first.nodes s.value) steps
+      → Every (λ (s : Step). ValueWithin (Given now.nodes.given) s.value) steps
+  steps_given v [] fits = tt
+  steps_given v (s ∷ steps) fits = (refers_given now.nodes s.value (refers_still first now h.extends s.value fits.0.1), steps_given v steps fits.1)
+
+  steps_make : (v : Value) (steps : List Step) → Every (λ (s : Step). (type_of s.value ≡ type_of v) × RefersToFit first.nodes s.value) steps
+      → Every (λ (s : Step). HasType now.nodes s.value (type_of v)) steps
+  steps_make v [] fits = tt
+  steps_make v (s ∷ steps) fits = (
+    record { type = fits.0.0; reference = refers_fits now.nodes s.value (refers_still first now h.extends s.value fits.0.1) },
+    steps_make v steps fits.1,
+  )
+
   -- ---- what the graph takes
 
   module _ (maps known : FnRef → Bool) (right : FnRef → RightSide) (more_known : (f : FnRef) → IsTrue (maps f) → f.id.kind ≡ kind.Map → IsTrue (known f))
@@ -245,6 +261,21 @@ module _ {F : Type 0} (H : Functions) (first now : GraphView F) (makes : List Pl
                 (all_fit_still first now h.extends o.page.listed (fit body (planned.Body o) at).listed),
           );
         }
+    open_welcome (At time) fits early = record { named = tt; makes = refl; timed = tt; calls = tt }
+    open_welcome (Steps v steps) fits early =
+        let still = refers_still first now h.extends v fits.0 in record {
+          named = (refers_given now.nodes v still, steps_given v steps fits.1);
+          makes = (record { type = refl; reference = refers_fits now.nodes v still }, steps_make v steps fits.1);
+          timed = tt;
+          calls = tt;
+        }
+    open_welcome Now fits early = record { named = tt; makes = refl; timed = tt; calls = tt }
+    open_welcome (Counts base span) fits early = record {
+      named = tt;
+      makes = refl;
+      timed = subst (λ (t : ℤ). IsTimed t (graph_def.Every base (pos span))) (sym h.extends.time) fits;
+      calls = tt;
+    }
 
     -- ---- bodies
 

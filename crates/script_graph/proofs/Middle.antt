@@ -1,5 +1,6 @@
 -- A state of a script beside the graph that a stabilize leaves, accepted or refused: the two fit, but for grabs that died in it.
-use Rattle.std.proofs.Common.{◌≡◌, ◌⊎◌, inl, inr, ℕ, true, false, List, [], ◌∷◌, Option, None, Some, is_some, refl, sym, ap, subst, ◌∙◌, arith}
+use Rattle.std.proofs.Common.{◌≡◌, ◌⊎◌, inl, inr, ℕ, ℤ, pos, ◌-◌, ◌/◌, ◌-ℤ◌, true, false, List, [], ◌∷◌, Option, None, Some, is_some, refl, sym, ap, subst, ◌∙◌, arith}
+use Rattle.std.specs.Int.Signed.{quot_z}
 use Rattle.inc_value.specs.Choice.{and_then}
 use Rattle.inc_value.specs.declared.function.FnRef.{FnRef}
 use Rattle.inc_value.specs.declared.node.NodeId.{NodeId}
@@ -25,7 +26,7 @@ use Rattle.stabilize_round.specs.Runs.{LeftDiffers}
 use Rattle.wiring.specs.Stands.{Counts}
 use Rattle.script_model.specs.Evaluate.{Gives}
 use Rattle.script_model.specs.Formula as script
-use Rattle.script_model.specs.Formula.{State, Body, Formula, Meanings, body_at, formula_of_body, Bind, Variable, Computed, Grab}
+use Rattle.script_model.specs.Formula.{State, Body, Formula, Meanings, body_at, formula_of_body, Bind, Variable, Computed, After, Every, Grab}
 use Rattle.script_model.specs.Need.{Left, part_of, formula_at}
 use Rattle.script_model.specs.Valid.{KeepToTypes, Valid}
 use Rattle.script_model.specs.Values.{Value, Outcome, Val}
@@ -228,6 +229,11 @@ module _ (named : List ℕ → Option FnRef) (value : FnRef → List GraphValue 
   )
   declares_then n (Some (Grab bind v true)) is (inl live) = grab_then n bind v is live.0 live.1 live.2 live.3
   declares_then n (Some (Grab bind v true)) is (inr lost) = absurd (let died = lost.2 in cc)
+  declares_then n (Some (After time)) is h = top_on F M (node_in k.nodes) s s G G' x.died y.died tops (node_in k.nodes n) _ h
+  declares_then n (Some (Every base span)) is (h, alike) = (
+    top_on F M (node_in k.nodes) s s G G' x.died y.died tops (node_in k.nodes n) _ h,
+    subst (λ (t : ℤ). quot_z (t -ℤ pos base) (pos span) ≡ pos ((s.now - base) / span)) (sym c.stays.clock) alike,
+  )
   declares_then n (Some b) is h = absurd (c.held.today.plain n b is).0
 
   pub fits_then : Fits y

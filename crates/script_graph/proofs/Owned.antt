@@ -1,18 +1,18 @@
 -- The nodes that were made for a body: they were made one after the other, and the root is the last.
-use Rattle.std.proofs.Common.{◌≡◌, ◌⊎◌, inl, inr, ℕ, suc, ◌+◌, ◌-◌, ◌<◌, ◌≤◌, Bool, List, [], ◌∷◌, ◌++◌, map, length, None, Some, refl, ap, sym, subst, ◌∙◌, arith, slice_get}
+use Rattle.std.proofs.Common.{◌≡◌, ◌⊎◌, inl, inr, ℕ, pos, suc, ◌+◌, ◌-◌, ◌<◌, ◌≤◌, Bool, List, [], ◌∷◌, ◌++◌, map, length, None, Some, refl, ap, sym, subst, ◌∙◌, arith, slice_get}
 use Rattle.std.proofs.lemmas.List.{length-append}
 use Rattle.std.proofs.lemmas.Option.{slice_get_within}
 use Rattle.formula_lang.specs.Fits.{ArgumentsFit, BodyFits, ElementsFit, FormulaFits, NameFits}
 use Rattle.formula_elab.specs.Bodies.{empty_page}
 use Rattle.formula_elab.specs.Laying.{laid, laid_each, laid_body}
-use Rattle.formula_elab.specs.Made.{StandsIn}
+use Rattle.formula_elab.specs.Made.{CountsAlike, StandsIn}
 use Rattle.formula_elab.specs.Make.{function_made, made_at}
 use Rattle.formula_elab.specs.Opened.{filled, made_node, node_of, open_ty}
 use Rattle.formula_elab.specs.Types.{formula_ty, joined_ty}
 use Rattle.formula_elab.specs.Writing.{body_of, written}
 use Rattle.formula_elab.specs.declared.make.Made.{Made}
 use Rattle.formula_elab.specs.declared.opened.Open.{Open}
-use Rattle.formula_elab.specs.declared.opened.Open.TheVariants.{Const, Var, Map, Fold as OpenFold, If as OpenIf, Join as OpenJoin, Bind as OpenBind}
+use Rattle.formula_elab.specs.declared.opened.Open.TheVariants.{Const, Var, Map, Fold as OpenFold, If as OpenIf, Join as OpenJoin, Bind as OpenBind, At as OpenAt, Steps as OpenSteps, Now as OpenNow, Every as OpenEvery}
 use Rattle.formula_elab.specs.declared.opened.Part.{Part}
 use Rattle.formula_elab.specs.declared.opened.Part.TheVariants.{Made as Numbered}
 use Rattle.formula_elab.specs.declared.plan.Planned.{Planned}
@@ -27,14 +27,14 @@ use Rattle.inc_terms.specs.Graph.{Graph, Row}
 use Rattle.inc_terms.specs.Term.{Functions}
 use Rattle.node_arena.specs.Arena.{row_at}
 use Rattle.script_model.specs.Check.{Names}
-use Rattle.script_model.specs.Formula.{Formula, Formulas, Body, Literal, Name, Bound, Apply, Fold, If, Join, Bind, End, More, Variable, Computed}
+use Rattle.script_model.specs.Formula.{Formula, Formulas, Body, Literal, Name, Bound, Apply, Fold, If, Join, Bind, At, Steps, Now, End, More, Variable, Computed, After, Every}
 use Rattle.script_graph.specs.Growing.{IsMaking, PartFits}
 use Rattle.script_graph.specs.Today.{OwnNodes, OwnNodesOfAll, WholeNodes, OwnNodesOf}
 use Rattle.script_graph.proofs.Declaring.{IsPartSince, IsSince}
 use Rattle.script_graph.proofs.Laying.{SitsAt, every_name_of, if_sits, sits_itself, sits_split}
 use Rattle.script_graph.proofs.Owning.{HasOwnNode, own_nodes_of_on}
 use Rattle.transfer.specs.Both.{Both, graph_value}
-use Rattle.transfer.specs.Shows.{Declares}
+use Rattle.transfer.specs.Shows.{Declares, graph_step}
 
 -- the node was made, as one of the first so many
 abbrev IsMade : List Planned → List Made → ℕ → NodeId → Type 0
@@ -152,7 +152,10 @@ module _ (known : FnRef → Bool) (H : Functions) (G : Graph) (all : List Planne
           formula_owns start bound left fits.0 fits.1 first.0 (omega (arith, low, size)),
         )
     formula_owns start bound (Bound k) ty fits sits low = absurd (let none : None ≡ Some ty = fits in cc)
-    formula_owns start bound f ty fits sits low = absurd fits
+    formula_owns start bound (At time) ty fits sits low = (start, OpenAt (pos time), sits.0, omega (arith, low), refl)
+    formula_owns start bound (Steps first steps) ty fits sits low =
+        (start, OpenSteps (graph_value nodes first) (map (graph_step nodes) steps), sits.0, omega (arith, low), refl)
+    formula_owns start bound Now ty fits sits low = (start, OpenNow, sits.0, omega (arith, low), refl)
 
     arguments_own : (start bound : ℕ) (fs : Formulas) (takes : List Ty) → ArgumentsFit known names [] fs takes
         → SitsAt all start (laid_each nodes tys start fs).makes → start + length (laid_each nodes tys start fs).makes ≤ bound
@@ -270,13 +273,17 @@ module _ (known : FnRef → Bool) (H : Functions) (G : Graph) (all : List Planne
         formula_owns 0 (length (laid nodes tys 0 (Bind left body)).makes - 1) left fits.0 fits.1 first.0 (omega (arith, size)),
       )
   whole_owns (Bound k) ty fits sits = absurd (let none : None ≡ Some ty = fits in cc)
-  whole_owns f ty fits sits = absurd fits
+  whole_owns (At time) ty fits sits = (0, OpenAt (pos time), sits.0, omega arith, refl)
+  whole_owns (Steps first steps) ty fits sits = (0, OpenSteps (graph_value nodes first) (map (graph_step nodes) steps), sits.0, omega arith, refl)
+  whole_owns Now ty fits sits = (0, OpenNow, sits.0, omega arith, refl)
 
   body_owns : (body : Body) (ty : Ty) → BodyFits known names body ty → SitsAt all 0 (laid_body nodes tys 0 body).makes
       → OwnNodesOf G (IsMade all made (length (laid_body nodes tys 0 body).makes)) (IsMade all made (length (laid_body nodes tys 0 body).makes - 1))
       (node_of made (laid_body nodes tys 0 body).root) body
   body_owns (Variable v) ty fits sits = (0, Var (graph_value nodes v), sits.0, omega arith, refl)
   body_owns (Computed f kept) ty fits sits = whole_owns f ty fits.0 sits
+  body_owns (After time) ty fits sits = (0, OpenAt (pos time), sits.0, omega arith, refl)
+  body_owns (Every base span) ty fits sits = (0, OpenEvery (pos base) span, sits.0, omega arith, refl)
   body_owns body ty fits sits = absurd fits
 
 -- the nodes of a body were made from the first on, and none after the root
@@ -387,7 +394,12 @@ module _ (known : FnRef → Bool) (names : Names) {F : Type 0} (H : Functions) (
       let size = bind_size one.makes inner.makes o (planned.Node node_open) in
       (number + 1, node_open, subst (λ (i : ℕ). slice_get all i ≡ Some (planned.Node node_open)) after second.1.1.0, omega (arith, size), refl, (of, one.root, number, refl))
   last_made (Computed (Bound k) kept) ty fits own = absurd (let none : None ≡ Some ty = fits.0 in cc)
-  last_made (Computed f kept) ty fits own = absurd fits.0
+  last_made (Computed (At time) kept) ty fits own = (0, OpenAt (pos time), refl, omega arith, refl, tt)
+  last_made (Computed (Steps v steps) kept) ty fits own =
+      (0, OpenSteps (graph_value nodes v) (map (graph_step nodes) steps), refl, omega arith, refl, tt)
+  last_made (Computed Now kept) ty fits own = (0, OpenNow, refl, omega arith, refl, tt)
+  last_made (After time) ty fits own = (0, OpenAt (pos time), refl, omega arith, refl, tt)
+  last_made (Every base span) ty fits own = (0, OpenEvery (pos base) span, refl, omega arith, refl, tt)
   last_made body ty fits own = absurd fits
 
   owned_own : (body : Body) (ty : Ty) → BodyFits known names body ty → IsMaking H first now (makes_for body) made → length made ≡ length (makes_for body)
@@ -401,6 +413,8 @@ module _ (known : FnRef → Bool) (names : Names) {F : Type 0} (H : Functions) (
   made_owned (Computed (Name n) kept) ty fits h whole = tt
   made_owned (Variable v) ty fits h whole = owned_own (Variable v) ty fits h whole tt
   made_owned (Computed f kept) ty fits h whole = owned_own (Computed f kept) ty fits h whole tt
+  made_owned (After time) ty fits h whole = owned_own (After time) ty fits h whole tt
+  made_owned (Every base span) ty fits h whole = owned_own (Every base span) ty fits h whole tt
   made_owned body ty fits h whole = absurd fits
 
   -- a root of its own is built for nothing yet
@@ -433,8 +447,8 @@ module _ (known : FnRef → Bool) (names : Names) {F : Type 0} (H : Functions) (
 -- and shows what is declared
 pub made_declares : (known : FnRef → Bool) (names : Names) (x : Both) (nodes : ℕ → NodeId) (tys : ℕ → Ty) (made : List Made) (body : Body) (ty : Ty)
     → BodyFits known names body ty → ((position : ℕ) (t : Ty) → NameFits names position t → nodes position ≡ x.nodes position)
-    → StandsIn x.functions x.graph (laid_body nodes tys 0 body).makes made → length made ≡ length (laid_body nodes tys 0 body).makes
+    → CountsAlike x body → StandsIn x.functions x.graph (laid_body nodes tys 0 body).makes made → length made ≡ length (laid_body nodes tys 0 body).makes
     → Declares x (node_of made (laid_body nodes tys 0 body).root) (Some body)
-made_declares known names x nodes tys made body ty fits same stands whole =
+made_declares known names x nodes tys made body ty fits same counts stands whole =
     root_declares nodes tys body x made
-    (every_name_of known names (λ n. nodes n ≡ x.nodes n) same body ty fits) stands (omega (arith, whole))
+    (every_name_of known names (λ n. nodes n ≡ x.nodes n) same body ty fits) counts stands (omega (arith, whole))

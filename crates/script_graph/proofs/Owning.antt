@@ -8,7 +8,7 @@ use Rattle.inc_terms.specs.Graph as graph
 use Rattle.inc_terms.specs.Graph.{Graph, Row, Def}
 use Rattle.script_model.specs.Check.{target_of_body}
 use Rattle.script_model.specs.Formula as script
-use Rattle.script_model.specs.Formula.{State, Body, Formula, Formulas, Meanings, body_at, formula_of_body, Literal, Name, Apply, Fold, If, Join, Bind, End, More, Variable, Computed, Grab}
+use Rattle.script_model.specs.Formula.{State, Body, Formula, Formulas, Meanings, body_at, formula_of_body, Literal, Name, Apply, Fold, If, Join, Bind, At, Steps, Now, End, More, Variable, Computed, After, Every, Grab}
 use Rattle.script_model.specs.Need.{Edge, Argument, Test, Then, Else, Child, Left, Inside, argument_at, part_at, part_of, formula_at}
 use Rattle.script_graph.specs.Kept.{Kept, node_in}
 use Rattle.script_model.specs.Values.{Value}
@@ -49,6 +49,9 @@ module _ (G G' : Graph) (P Q : NodeId → Type 0) (more : (n : NodeId) → P n �
         (more n own.0, own.1, own.2, kept n own.1 _ own.3 (ap plain own.4), own.4, own_nodes_on own.2 child own.5)
     own_nodes_on n (Bind left body) own =
         (more n own.0, own.1, own.2, own.3, own.4, kept n own.1 _ own.5 (ap plain own.6), own.6, own_nodes_on own.2 left own.7)
+    own_nodes_on n (At time) own = more n own
+    own_nodes_on n (Steps v steps) own = more n own
+    own_nodes_on n Now own = more n own
     own_nodes_on n f own = absurd own
 
     pub own_nodes_of_all_on : (ns : List NodeId) (fs : Formulas) → OwnNodesOfAll G P ns fs → OwnNodesOfAll G' Q ns fs
@@ -103,6 +106,9 @@ module _ (G G' : Graph) (P P' Q Q' : NodeId → Type 0) (more : (n : NodeId) →
     own.6,
     own_nodes_on G G' Q Q' parts kept own.2 left own.7,
   )
+  whole_nodes_on n (At time) own = more n own
+  whole_nodes_on n (Steps v steps) own = more n own
+  whole_nodes_on n Now own = more n own
   whole_nodes_on n f own = absurd own
 
   -- where nodes that call functions stay, and what they have implies more, what is declared has more
@@ -110,6 +116,8 @@ module _ (G G' : Graph) (P P' Q Q' : NodeId → Type 0) (more : (n : NodeId) →
   own_nodes_of_on n (Variable v) own = more n own
   own_nodes_of_on n (Computed f kept) own = whole_nodes_on n f own
   own_nodes_of_on n (Grab bind v is_live) own = tt
+  own_nodes_of_on n (After time) own = more n own
+  own_nodes_of_on n (Every base span) own = more n own
   own_nodes_of_on n b own = absurd own
 
 -- ---- by items
@@ -129,6 +137,9 @@ PartNodes G P n (Bind left body) =
     (r : Row) × (l : NodeId) × (f : FnRef) × (captures : List NodeId) × (G.row n ≡ Some r) × (r.def ≡ graph.Bind l f captures) × OwnNodes G P l left
 PartNodes G P n (Literal v) = Unit {0}
 PartNodes G P n (Name k) = Unit {0}
+PartNodes G P n (At time) = Unit {0}
+PartNodes G P n (Steps v steps) = Unit {0}
+PartNodes G P n Now = Unit {0}
 PartNodes G P n f = ⊥
 
 own_parts : (G : Graph) (P : NodeId → Type 0) (n : NodeId) (f : Formula) → OwnNodes G P n f → PartNodes G P n f
@@ -139,6 +150,9 @@ own_parts G P n (Fold f first elements) own = (own.1, own.2, own.3, own.4, own.5
 own_parts G P n (If test a b) own = (own.1, own.2, own.3, own.4, own.5, own.6, own.7, own.8, own.9)
 own_parts G P n (Join child) own = (own.1, own.2, own.3, own.4, own.5)
 own_parts G P n (Bind left body) own = (own.1, own.2, own.3, own.4, own.5, own.6, own.7)
+own_parts G P n (At time) own = tt
+own_parts G P n (Steps v steps) own = tt
+own_parts G P n Now own = tt
 own_parts G P n f own = absurd own
 
 whole_parts : (G : Graph) (P Q : NodeId → Type 0) (n : NodeId) (f : Formula) → WholeNodes G P Q n f → PartNodes G Q n f
@@ -149,6 +163,9 @@ whole_parts G P Q n (Fold f first elements) own = (own.1, own.2, own.3, own.4, o
 whole_parts G P Q n (If test a b) own = (own.1, own.2, own.3, own.4, own.5, own.6, own.7, own.8, own.9)
 whole_parts G P Q n (Join child) own = (own.1, own.2, own.3, own.4, own.5)
 whole_parts G P Q n (Bind left body) own = (own.1, own.2, own.3, own.4, own.5, own.6, own.7)
+whole_parts G P Q n (At time) own = tt
+whole_parts G P Q n (Steps v steps) own = tt
+whole_parts G P Q n Now own = tt
 whole_parts G P Q n f own = absurd own
 
 argument_own : (G : Graph) (P : NodeId → Type 0) (ns : List NodeId) (fs : Formulas) → OwnNodesOfAll G P ns fs → (k : ℕ) (m : NodeId) (g : Formula)
@@ -267,6 +284,9 @@ module _ (x : Both) (P : NodeId → Type 0) (owner : ℕ) where
   part_own edge path (Bind left body) g n out part above at = absurd (cc)
   part_own edge path (Literal v) g n out part above at = absurd (cc)
   part_own edge path (Name k) g n out part above at = absurd (cc)
+  part_own edge path (At time) g n out part above at = absurd (cc)
+  part_own edge path (Steps v steps) g n out part above at = absurd (cc)
+  part_own edge path Now g n out part above at = absurd (cc)
   part_own edge path h g n out part above at = let m = node_above edge path n at in absurd (above m.0 m.1)
 
 module _ (x : Both) (P Q : NodeId → Type 0) (owner : ℕ) (f : Formula)
@@ -290,6 +310,9 @@ own_has G P n (Fold f first elements) is own = own.0
 own_has G P n (If test a b) is own = own.0
 own_has G P n (Join child) is own = own.0
 own_has G P n (Bind left body) is own = own.0
+own_has G P n (At time) is own = own
+own_has G P n (Steps v steps) is own = own
+own_has G P n Now is own = own
 own_has G P n f is own = absurd own
 
 whole_has : (G : Graph) (P Q : NodeId → Type 0) (n : NodeId) (f : Formula) → IsForm f → WholeNodes G P Q n f → P n
@@ -300,6 +323,9 @@ whole_has G P Q n (Fold f first elements) is own = own.0
 whole_has G P Q n (If test a b) is own = own.0
 whole_has G P Q n (Join child) is own = own.0
 whole_has G P Q n (Bind left body) is own = own.0
+whole_has G P Q n (At time) is own = own
+whole_has G P Q n (Steps v steps) is own = own
+whole_has G P Q n Now is own = own
 whole_has G P Q n f is own = absurd own
 
 -- what is declared has nodes of its own: it is no other name, and no grab
@@ -313,6 +339,8 @@ pub own_node : (G : Graph) (P Q : NodeId → Type 0) (n : NodeId) (b : Body) →
 own_node G P Q n (Variable v) is own = own
 own_node G P Q n (Computed f kept) is own = whole_has G P Q n f is own
 own_node G P Q n (Grab bind v is_live) is own = absurd is
+own_node G P Q n (After time) is own = own
+own_node G P Q n (Every base span) is own = own
 own_node G P Q n b is own = absurd own
 
 -- what is no other name has a node of its own, or is a grab
@@ -355,6 +383,8 @@ module _ (x : Both) (P Q : ℕ → NodeId → Type 0)
           own_has x.graph (Q owner) n g own (part_of_whole x (P owner) (Q owner) owner f (whole_own owner f kept body) edge path g n out is at)
       go (Some (Variable v)) body is = absurd (cc)
       go (Some (Grab bind v is_live)) body is = absurd (cc)
+      go (Some (After time)) body is = absurd (cc)
+      go (Some (Every base span)) body is = absurd (cc)
       go (Some b) body is = absurd (aged owner b body)
 
 module _ (F : Meanings) (s : State) (k : Kept) (held : Represents F s k) where

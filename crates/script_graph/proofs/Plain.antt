@@ -3,7 +3,7 @@ use Rattle.std.proofs.Common.{◌≡◌, ℕ, zero, suc, List, [], ◌∷◌, Op
 use Rattle.inc_value.specs.Choice.{and_then}
 use Rattle.formula_elab.specs.Today.{IsLaidOut, AreLaidOut}
 use Rattle.script_model.proofs.Leaves.{leaves_within}
-use Rattle.script_model.specs.Formula.{State, Body, Formula, Formulas, body_at, formula_of_body, Literal, Name, Bound, Apply, Fold, If, Join, Bind, End, More, Variable, Computed, Grab}
+use Rattle.script_model.specs.Formula.{State, Body, Formula, Formulas, body_at, formula_of_body, Literal, Name, Bound, Apply, Fold, If, Join, Bind, At, Steps, Now, End, More, Variable, Computed, After, Every, Grab}
 use Rattle.script_model.specs.Leaves.{EveryLeaf}
 use Rattle.script_model.specs.Need.{Edge, Argument, Test, Then, Else, Child, Left, Inside, argument_at, part_at, part_of, formula_at}
 use Rattle.script_graph.specs.Today.{IsPlainBody, IsEarlierTarget, IsDeclaredTarget, AllPlain}
@@ -43,7 +43,9 @@ module _ (binds : ℕ) where
   laid_part (Literal v) is_laid edge g e = absurd (cc)
   laid_part (Name n) is_laid edge g e = absurd (cc)
   laid_part (Bound k) is_laid edge g e = absurd (cc)
-  laid_part f is_laid edge g e = absurd is_laid
+  laid_part (At time) is_laid edge g e = absurd (cc)
+  laid_part (Steps v steps) is_laid edge g e = absurd (cc)
+  laid_part Now is_laid edge g e = absurd (cc)
 
 pub laid_within : (f : Formula) → IsLaidOut 0 f → (path : List Edge) (g : Formula) → part_of f path ≡ Some g → IsLaidOut (binds_round path) g
 laid_within f is_laid [] g e = let same : f ≡ g = cc in subst (IsLaidOut 0) same is_laid
@@ -68,4 +70,6 @@ plain_place s plain owner path f e = by_body (body_at s owner) (λ b is. plain o
         (laid_within g is_plain.0 path f e, leaves_within (IsEarlierTarget s owner) (IsDeclaredTarget s) g is_plain.1 path f e)
     by_body (Some (Variable v)) fine e = absurd (cc)
     by_body (Some (Grab bind v is_live)) fine e = absurd (cc)
+    by_body (Some (After time)) fine e = absurd (cc)
+    by_body (Some (Every base span)) fine e = absurd (cc)
     by_body (Some body) fine e = absurd (fine body refl).0

@@ -1,6 +1,6 @@
 -- What a session keeps of the last accepted stabilize is what the laws of calls ask for.
 use Rattle.std.proofs.Common.{◌≡◌, ◌⊎◌, inl, inr, ℕ, zero, suc, ◌≤◌, true, List, [], ◌∷◌, map, length, Option, None, Some, IsSome, refl, ap, sym, subst, ◌∙◌, arith, slice_get}
-use Rattle.inc_value.specs.Choice.{Among, Every, and_then}
+use Rattle.inc_value.specs.Choice.{Among, Every as Each, and_then}
 use Rattle.inc_value.specs.declared.function.FnRef.{FnRef}
 use Rattle.inc_value.specs.declared.node.NodeId.{NodeId}
 use Rattle.inc_value.specs.declared.node.ObsId.{ObsId}
@@ -20,7 +20,7 @@ use Rattle.map_nodes.specs.declared.cutoff.Cutoff.{Cutoff}
 use Rattle.map_nodes.specs.declared.cutoff.Cutoff.TheVariants.{Equal, Never}
 use Rattle.node_arena.specs.Arena.{row_at}
 use Rattle.node_outcomes.specs.Row.{is_never}
-use Rattle.script_model.specs.Formula.{State, Entry, Body, Formula, Observer, Meanings, meanings_of, body_at, entry_at, formula_of_body, Variable, Computed, Grab}
+use Rattle.script_model.specs.Formula.{State, Entry, Body, Formula, Observer, Meanings, meanings_of, body_at, entry_at, formula_of_body, Variable, Computed, After, Every, Grab}
 use Rattle.script_model.specs.Need.{Named, Met, WithinWork, formula_at, part_of, own_roots, roots}
 use Rattle.script_model.specs.Step.{Moment}
 use Rattle.script_model.specs.Valid.{Valid, ValidObserver}
@@ -71,7 +71,7 @@ made_there s k w o n looks = go (slice_get w.made o.0) refl
     go (Some None) is = absurd (let none = w.ended o is in cc)
     go (Some (Some z)) is = (z, is)
 
-every_one : {A : Type 0} (P : A → Type 0) (x : A) (xs : List A) → Every P xs → Among x xs → P x
+every_one : {A : Type 0} (P : A → Type 0) (x : A) (xs : List A) → Each P xs → Among x xs → P x
 every_one P x [] all among = absurd among
 every_one P x (y ∷ ys) all (inl e) = subst P (sym e) all.0
 every_one P x (y ∷ ys) all (inr among) = every_one P x ys all.1 among
@@ -138,6 +138,8 @@ module _ (named : List ℕ → Option FnRef) (value : FnRef → List GraphValue 
   by_body owner n (Some (Variable v)) is fine node f e = absurd (cc)
   by_body owner n (Some (Computed h kept)) is fine node f e = rw is (ap (λ (q : NodeId). Some q) node)
   by_body owner n (Some (Grab bind v is_live)) is fine node f e = absurd (cc)
+  by_body owner n (Some (After time)) is fine node f e = absurd (cc)
+  by_body owner n (Some (Every base span)) is fine node f e = absurd (cc)
   by_body owner n (Some b) is fine node f e = absurd (fine b refl).0
 
   whole_on : (owner : ℕ) (n : NodeId) → place_node left owner [] ≡ Some n → place_node y owner [] ≡ Some n
@@ -156,6 +158,8 @@ module _ (named : List ℕ → Option FnRef) (value : FnRef → List GraphValue 
           ap (λ (b : Option Body). and_then b (λ d. and_then (formula_of_body d) (λ h. part_of h []))) is in
           by_body owner n (body_at s owner) refl (λ d at. c.held.today.plain owner d at)
           (st.still.names owner entry.0 entry.1 ∙ (cc)) f (st.still.formulas owner [] f formula)
+      go (Some (After time)) is fine at = absurd (let e = rw is at at in cc)
+      go (Some (Every base span)) is fine at = absurd (let e = rw is at at in cc)
       go (Some b) is fine at = absurd (fine b refl).0
 
   names_on : (n : ℕ) (o : Option Entry) → entry_at before n ≡ o

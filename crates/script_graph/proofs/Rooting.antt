@@ -5,7 +5,7 @@ use Rattle.inc_value.specs.declared.outcome.Outcome.TheVariants as outcome
 use Rattle.inc_terms.proofs.Same.{outcome_decides}
 use Rattle.inc_terms.specs.Graph.{Row, Built as BuiltFor}
 use Rattle.inc_terms.specs.Term as term
-use Rattle.script_model.specs.Formula.{Body, Formula, Kept as KeptOf, body_at, Name, Bound, Bind, Variable, Computed, Grab}
+use Rattle.script_model.specs.Formula.{Body, Formula, Kept as KeptOf, body_at, Name, Bound, Bind, Variable, Computed, After, Every, Grab}
 use Rattle.script_model.specs.Need.{Inside}
 use Rattle.script_model.specs.Values.{Value}
 use Rattle.script_graph.specs.Today.{AllPlain, IsDeclaredTarget, IsEarlierTarget, IsPlainBody}
@@ -71,4 +71,6 @@ module _ (x : Both) (fits : Fits x) where
       by_body (Computed (Bound j) of) own fine d = absurd (let low = fine.0 in omega (arith, low))
       by_body (Computed f of) own fine d = let row = other_row x None [] (x.nodes n) f tt d in (row.0, row.2, row.3)
       by_body (Grab b v l) own fine d = absurd own
+      by_body (After time) own fine d = (d.0, d.1, d.2)
+      by_body (Every base span) own fine (d, alike) = (d.0, d.1, d.2)
       by_body c own fine d = absurd fine.0

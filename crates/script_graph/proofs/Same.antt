@@ -9,7 +9,7 @@ use Rattle.script_graph.specs.Kept.{Kept, arena_of, node_in}
 use Rattle.script_graph.specs.Represents.{beside, besides, Represents}
 use Rattle.script_graph.specs.Today.{IsWithin, IsPartWithin, OwnNodesOf}
 use Rattle.inc_terms.proofs.Unfolding.{AnyFunction}
-use Rattle.script_graph.proofs.Extending.{KeepsGraph, body_within, built_still, declares_still, same_serve}
+use Rattle.script_graph.proofs.Extending.{KeepsGraph, body_within, built_still, declares_still, same_serve, still_counts}
 use Rattle.script_graph.proofs.Owning.{own_nodes_of_on}
 use Rattle.transfer.specs.Keeping.{AnyNode, NodesApart}
 use Rattle.transfer.specs.Shows.{Declares}
@@ -43,7 +43,8 @@ module _ (F : Meanings) (s : State) (observers : List Observer) (accepted : ℕ)
   declares_each n (Some b) is =
       subst (λ (bs : List Bodies.Body). Declares (besides F then new.nodes bs (graph new.graph)) (node_in new.nodes n) (Some b)) (sym bodies)
       (declares_still AnyNode F s k held (λ j c at. tt) then new.nodes k.bodies AnyFunction (same_serve F k) new.graph keeps (λ t low. node t) n b is
-      (λ v e r row. ap (λ (a : Arena). row_at a (node_in k.nodes n)) arena ∙ row))
+      (λ e r row. ap (λ (a : Arena). row_at a (node_in k.nodes n)) arena ∙ row)
+      (λ base span e alike. still_counts k new.graph s base span (ap (λ (a : Arena). a.time) arena) alike))
 
   bind_within : (n : ℕ) (left body : Formula) → bind_at s n ≡ Some (left, body) → n < length s.entries
   bind_within n left body is = let b = bind_body s n left body is in body_within s n (Computed (Bind left body) b.0) b.1

@@ -16,7 +16,7 @@ use Rattle.graph.specs.Standing.{GraphView, graph as graph_of}
 use Rattle.node_arena.specs.Arena.{row_at, with_value}
 use Rattle.node_arena.specs.Sound as arena
 use Rattle.script_model.specs.Check.{Assign, Declared, Names, declared_of, kind_of_body, is_variable, names_of, target_of_body}
-use Rattle.script_model.specs.Formula.{State, Body, Entry, Formula, Meanings, meanings_of, bind_at, bind_of, body_at, built_at, built_of_body, entry_at, formula_of_body, places_of_body, Name, Bind, Variable, Computed, Grab}
+use Rattle.script_model.specs.Formula.{State, Body, Entry, Formula, Meanings, meanings_of, bind_at, bind_of, body_at, built_at, built_of_body, entry_at, formula_of_body, places_of_body, Name, Bind, Variable, Computed, Every, Grab}
 use Rattle.script_model.specs.Need.{Edge, part_of, formula_at}
 use Rattle.script_model.specs.Step.{Moment, changed_at, with_body, moved}
 use Rattle.script_model.specs.Values.{Value}
@@ -28,7 +28,7 @@ use Rattle.script_graph.specs.State.{MatchesMoment}
 use Rattle.inc_terms.proofs.Unfolding.{AnyFunction}
 use Rattle.script_graph.proofs.Carrying.{watches_on, leaves_beside, settled_on}
 use Rattle.script_graph.proofs.Declaring.{plain_body_more, fitting_refers}
-use Rattle.script_graph.proofs.Extending.{KeepsGraph, NodesGiven, body_past, body_within, built_still, declares_still, never_given, node_past, same_serve}
+use Rattle.script_graph.proofs.Extending.{KeepsGraph, NodesGiven, StandsAlone, body_past, body_within, built_still, declares_still, never_given, node_past, same_serve, still_counts}
 use Rattle.script_graph.proofs.Owning.{own_nodes_of_on}
 use Rattle.script_graph.proofs.Referring.{outcome_refers_more, value_refers_more}
 use Rattle.transfer.specs.Both.{graph_outcome, graph_value}
@@ -102,6 +102,12 @@ variable_entry names s same target value fits = go (slice_get s.entries target) 
             → (e : Entry) × (u : Value) × (entry_at s target ≡ Some e) × (e.body ≡ Variable u)
         by_entry None at is = absurd (cc)
         by_entry (Some e) at is = let v = variable_kind e.body is in (e, v.0, at, v.1)
+
+-- what stands alone is its own target
+alone_target : (n : ℕ) (b : Body) → StandsAlone b → target_of_body n b ≡ n
+alone_target n (Variable v) alone = refl
+alone_target n (Every base span) alone = refl
+alone_target n b alone = absurd alone
 
 -- ---- what is kept
 
@@ -219,10 +225,10 @@ module _ (named : List ℕ → Option FnRef) (value : FnRef → List GraphValue 
             subst (λ (x : Option BuiltFor). IsSome x) (sym (sets.beside.of_nodes.built b (sound.scopes n r b was scope))) (built n r b was scope)
       ]
 
-      apart : (n : ℕ) (q : Value) → body_at s n ≡ Some (Variable q) → (n ≡ target → ⊥) → node_in k.nodes n ≡ node_in k.nodes target → ⊥
-      apart n q is other same =
-          let d = body_entry s n (Variable q) is in
-          other (held.apart n target d.0 e d.1 there (held.targets n d.0 d.1 ∙ ap (target_of_body n) d.2)
+      apart : (n : ℕ) (b : Body) → body_at s n ≡ Some b → target_of_body n b ≡ n → (n ≡ target → ⊥) → node_in k.nodes n ≡ node_in k.nodes target → ⊥
+      apart n b is own other same =
+          let d = body_entry s n b is in
+          other (held.apart n target d.0 e d.1 there (held.targets n d.0 d.1 ∙ (ap (target_of_body n) d.2 ∙ own))
           (held.targets target e there ∙ ap (target_of_body target) variable) same)
 
       set_shows : Declares (beside F s' new) (node_in k.nodes target) (Some (Variable v))
@@ -248,7 +254,8 @@ module _ (named : List ℕ → Option FnRef) (value : FnRef → List GraphValue 
         | inr other ↦
             let here : body_at s n ≡ Some b = sym (others n other) ∙ is in
             declares_still Of F s k held given s' k.nodes k.bodies AnyFunction (same_serve F k) g keeps (λ t low. refl) n b here
-            (λ q e r row. row_other (node_in k.nodes n) r (apart n q (here ∙ ap (λ c. Some c) e) other) row)
+            (λ alone r row. row_other (node_in k.nodes n) r (apart n b here (alone_target n b alone) other) row)
+            (λ base span e alike. still_counts k g s base span sets.set.changes.time alike)
       ]
 
       plain_each : AreNames k.names s → AllPlain s'

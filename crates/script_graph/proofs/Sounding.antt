@@ -36,10 +36,10 @@ pub declared_still : (ds : List Declared) (last : Declared) (n : ℕ) (d : Decla
 declared_still ds last n d is = let low = slice_get_within ds n d is in get_append_other ds last n (λ e. absurd (omega (arith, low, e))) ∙ is
 
 -- a variable is one still, where rows stay
-variable_on : (a a' : Arena) (n : NodeId) → ((r : Row) → row_at a n ≡ Some r → row_at a' n ≡ Some r) → IsVariable a n → IsVariable a' n
+pub variable_on : (a a' : Arena) (n : NodeId) → ((r : Row) → row_at a n ≡ Some r → row_at a' n ≡ Some r) → IsVariable a n → IsVariable a' n
 variable_on a a' n stay v = record { row = v.row; value = v.value; there = stay v.row v.there; variable = v.variable }
 
-bind_on : (a a' : Arena) (n : NodeId) → ((r : Row) → row_at a n ≡ Some r → row_at a' n ≡ Some r) → IsLiveBind a n → IsLiveBind a' n
+pub bind_on : (a a' : Arena) (n : NodeId) → ((r : Row) → row_at a n ≡ Some r → row_at a' n ≡ Some r) → IsLiveBind a n → IsLiveBind a' n
 bind_on a a' n stay (r, left, f, captures, is, def) = (r, left, f, captures, stay r is, def)
 
 kind_or : (k : Kind) → (k ≡ GrabKind) ⊎ (k ≡ GrabKind → ⊥)
@@ -108,6 +108,7 @@ module _ (k : Kept) (h : IsSoundSession k) (sound : arena.IsSoundArena (arena_of
       looking = λ o among. looks_on o (h.looking o among);
       apart = h.apart;
       unbroken = unbroken_on;
+      clock = more.time ∙ h.clock;
     }
 
     module _ (name : List ℕ) (ty : Ty) (body : Body) (root : NodeId) (room : ℕ) (bodies : List Bodies.Body)
@@ -195,6 +196,7 @@ module _ (k : Kept) (h : IsSoundSession k) (sound : arena.IsSoundArena (arena_of
         looking = λ o among. looks_on o (h.looking o among);
         apart = h.apart;
         unbroken = unbroken_on;
+        clock = more.time ∙ h.clock;
       }
 
   -- where a variable was set
@@ -311,4 +313,5 @@ module _ (k : Kept) (h : IsSoundSession k) (sound : arena.IsSoundArena (arena_of
       looking = λ o among. subst (λ (os : List Looking). IsSome (standing.node_at os o)) (sym sets.beside.observers) (h.looking o among);
       apart = h.apart;
       unbroken = λ whole. sets.beside.top.refused ∙ h.unbroken whole;
+      clock = sets.set.changes.time ∙ h.clock;
     }

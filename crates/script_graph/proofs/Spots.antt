@@ -4,7 +4,7 @@ use Rattle.std.specs.List.{sum_by}
 use Rattle.std.proofs.lemmas.List.Sums.{sum_by-append, sum_by-cons}
 use Rattle.inc_terms.proofs.Plan.{among_left, among_right}
 use Rattle.inc_value.specs.Choice.{Among, and_then}
-use Rattle.script_model.specs.Formula.{State, Entry, Body, Formula, Formulas, body_at, formula_of_body, Literal, Name, Bound, Apply, Fold, If, Join, Bind, End, More, Variable, Computed, Grab}
+use Rattle.script_model.specs.Formula.{State, Entry, Body, Formula, Formulas, body_at, formula_of_body, Literal, Name, Bound, Apply, Fold, If, Join, Bind, At, Steps, Now, End, More, Variable, Computed, After, Every, Grab}
 use Rattle.script_model.specs.Need.{Edge, Argument, Test, Then, Else, Child, Left, Inside, argument_at, part_at, part_of, formula_at}
 use Rattle.script_model.specs.Laws.{bare}
 use Rattle.script_model.specs.Values as value
@@ -131,7 +131,9 @@ module _ (owner : ℕ) (y : Spot) where
   among_part binds path (Literal v) edge g at fine among = absurd (cc)
   among_part binds path (Name n) edge g at fine among = absurd (cc)
   among_part binds path (Bound k) edge g at fine among = absurd (cc)
-  among_part binds path h edge g at fine among = absurd fine
+  among_part binds path (At time) edge g at fine among = absurd (cc)
+  among_part binds path (Steps v steps) edge g at fine among = absurd (cc)
+  among_part binds path Now edge g at fine among = absurd (cc)
 
   -- and so those of a part further in
   among_whole : (f : Formula) → IsLaidOut 0 f → (path : List Edge) (g : Formula) → part_of f path ≡ Some g
@@ -200,4 +202,6 @@ place_among s plain y owner path g at among =
     by_body (Computed f kept) is part = among_whole owner y f (plain owner (Computed f kept) is).0 path g part among
     by_body (Variable v) is part = absurd (cc)
     by_body (Grab bind v is_live) is part = absurd (cc)
+    by_body (After time) is part = absurd (cc)
+    by_body (Every base span) is part = absurd (cc)
     by_body b is part = absurd (plain owner b is).0

@@ -7,7 +7,7 @@ use Rattle.inc_terms.specs.Graph as graph
 use Rattle.inc_terms.specs.Graph.{Graph, Row, Def}
 use Rattle.inc_terms.specs.Term as term
 use Rattle.inc_terms.specs.Term.{Functions, Term, Terms, refs}
-use Rattle.script_model.specs.Formula.{State, Body, Formula, Formulas, Meanings, Literal, Name, Bound, Apply, Fold, If, Join, Bind, At, Steps, Now, End, More, Variable, Computed, Grab}
+use Rattle.script_model.specs.Formula.{State, Body, Formula, Formulas, Meanings, Literal, Name, Bound, Apply, Fold, If, Join, Bind, At, Steps, Now, End, More, Variable, Computed, After, Every, Grab}
 use Rattle.script_graph.specs.Today.{OwnNodes, OwnNodesOfAll, WholeNodes, OwnNodesOf}
 use Rattle.transfer.specs.Both.{Both}
 use Rattle.transfer.specs.Shows.{Built, Spot, Own, taken, Writes, WritesAll, Opens, Fills, Shows, ShowsAll, IsTop}
@@ -203,6 +203,9 @@ module _ (F : Meanings) (M : Functions) (nodes : ℕ → NodeId) (s s' : State) 
       own_on n (Bind left body) h own =
           let e = bind_left n own.1 own.2 own.3 own.4 h.0 h.1 h.2 h.3 own.5 own.6 in
           (own.0, own.1, own.2, own.3, own.4, row_on n own.1 _ h.3 own.5, own.6, own_on own.2 left (shown_as _ _ _ e h.4) own.7)
+      own_on n (At time) h own = own
+      own_on n (Steps v steps) h own = own
+      own_on n Now h own = own
       own_on n f h own = absurd own
 
       all_own_on : (ns : List NodeId) (fs : Formulas) → AllShown ns fs → OwnNodesOfAll G P ns fs → OwnNodesOfAll G' P ns fs
@@ -251,6 +254,9 @@ module _ (F : Meanings) (M : Functions) (nodes : ℕ → NodeId) (s s' : State) 
     whole_on n (Bind left body) h own =
         let e = bind_left Q n own.1 own.2 own.3 own.4 h.0 h.1 h.2 h.3 own.5 own.6 in
         (own.0, own.1, own.2, own.3, own.4, row_on n own.1 _ h.3 own.5, own.6, own_on Q own.2 left (shown_as _ _ _ e h.4) own.7)
+    whole_on n (At time) h own = own
+    whole_on n (Steps v steps) h own = own
+    whole_on n Now h own = own
     whole_on n f h own = absurd own
 
     pub own_nodes_then : (n : NodeId) (b : Body) → ((f : Formula) (kept : _) → b ≡ Computed f kept → Shows x (Built None) [] (term.Ref n) f)
@@ -258,4 +264,6 @@ module _ (F : Meanings) (M : Functions) (nodes : ℕ → NodeId) (s s' : State) 
     own_nodes_then n (Variable v) shows own = own
     own_nodes_then n (Computed f kept) shows own = whole_on n f (shows f kept refl) own
     own_nodes_then n (Grab bind v is_live) shows own = own
+    own_nodes_then n (After time) shows own = own
+    own_nodes_then n (Every base span) shows own = own
     own_nodes_then n b shows own = absurd own

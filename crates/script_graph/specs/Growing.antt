@@ -1,5 +1,5 @@
 -- A graph to which nodes were added, and the nodes that are made for a plan.
-use Rattle.std.specs.Prelude.{◌≡◌, ◌⊎◌, ◌+◌, ◌<◌, ◌≤◌, ℕ, Bool, List, [], ◌∷◌, length, take, None, Some, IsTrue, slice_get}
+use Rattle.std.specs.Prelude.{◌≡◌, ◌⊎◌, ◌+◌, ◌<◌, ◌≤◌, ℕ, Bool, List, [], ◌∷◌, length, pos, take, None, Some, IsTrue, slice_get}
 use Rattle.std.specs.List.{AllZip}
 use Rattle.inc_value.specs.Choice.{Among, Every}
 use Rattle.inc_value.specs.Ty.{IsBase, type_of_base}
@@ -13,8 +13,9 @@ use Rattle.inc_value.specs.declared.ty.Ty.TheVariants as types
 use Rattle.inc_value.specs.declared.value.Value.{Value}
 use Rattle.inc_value.specs.declared.value.Value.TheVariants as value
 use Rattle.inc_terms.specs.Clock.{IsTimed}
+use Rattle.inc_terms.specs.Graph as graph_def
 use Rattle.inc_terms.specs.Graph.{Row, Def}
-use Rattle.inc_terms.specs.Term.{Functions}
+use Rattle.inc_terms.specs.Term.{Functions, Step}
 use Rattle.inc_terms.specs.Within.{Given}
 use Rattle.formula_elab.specs.Made.{StandsIn}
 use Rattle.formula_elab.specs.Make as make
@@ -76,7 +77,8 @@ IsBodyOf makes i variable ty =
     (o : OpenBody) × (slice_get makes i ≡ Some (planned.Body o)) × (o.sig ≡ record { takes = variable ∷ []; gives = ty })
 
 -- a node that is to be made fits: values refer to nodes of their types, functions are known maps whose arguments have the types that they take, an if has
--- a test and branches of its type, a join a child whose references lead to its type, and a bind a left of the type that its function takes
+-- a test and branches of its type, a join a child whose references lead to its type, and a bind a left of the type that its function takes,
+-- steps values of one type, and a count of spans a base that the clock has come to
 abbrev pub OpenFits : (FnRef → Bool) → Arena → List Planned → Open → Type 0
 OpenFits known a makes (open_def.Const v) = RefersToFit a v
 OpenFits known a makes (open_def.Var v) = RefersToFit a v
@@ -87,6 +89,11 @@ OpenFits known a makes (open_def.If ty test left right) =
     PartFits a makes types.Bool test × PartFits a makes ty left × PartFits a makes ty right
 OpenFits known a makes (open_def.Join ty child) = (base : Base) × PartFits a makes (types.Node base) child × (type_of_base base ≡ ty)
 OpenFits known a makes (open_def.Bind ty left body) = (u : Ty) × PartFits a makes u left × IsBodyOf makes body u ty
+OpenFits known a makes (open_def.At time) = Unit {0}
+OpenFits known a makes (open_def.Steps v steps) =
+    RefersToFit a v × Every (λ (s : Step). (type_of s.value ≡ type_of v) × RefersToFit a s.value) steps
+OpenFits known a makes open_def.Now = Unit {0}
+OpenFits known a makes (open_def.Every base span) = IsTimed a.time (graph_def.Every base (pos span))
 
 -- a line calls a known map, or a function that is to be made before, which takes no more nodes and lists no others
 abbrev pub LineFits : (FnRef → Bool) → List Planned → List Listed → OpenLine → Type 0

@@ -1,5 +1,5 @@
 -- That what a session keeps of a script fits together.
-use Rattle.std.specs.Prelude.{◌≡◌, ◌+◌, ◌≤◌, ℕ, List, length, sum_by, None, Some, IsSome, slice_get}
+use Rattle.std.specs.Prelude.{◌≡◌, ◌+◌, ◌≤◌, ℕ, pos, List, length, sum_by, None, Some, IsSome, slice_get}
 use Rattle.inc_value.specs.Choice.{Among, NoRepeats}
 use Rattle.inc_value.specs.declared.function.FnRef.{FnRef}
 use Rattle.inc_value.specs.declared.node.NodeId.{NodeId}
@@ -62,7 +62,7 @@ pub record AreFew (bodies : List Body) (a : Arena) (room : ℕ) : Type 0 where
   pub all : (n : NodeId) (r : Row) → row_at a n ≡ Some r → r.scope ≡ None → Among n tops
   pub weight : sum_by (weight_at bodies a) tops + room ≤ 1048575
 
--- what is kept fits together
+-- what is kept fits together, and its names and its graph have one time
 pub record IsSoundSession (k : Kept) : Type 0 where
   pub one_node_each : length k.nodes ≡ length k.names.declared
   pub has_nodes : HaveNodes (arena_of k) k.names.declared k.nodes
@@ -71,3 +71,4 @@ pub record IsSoundSession (k : Kept) : Type 0 where
   pub looking : (o : ObsId) → Among o k.observers → IsSome (node_at k.graph.observers o)
   pub apart : NoRepeats k.observers
   pub unbroken : k.broken ≡ None → IsUnbroken k.graph
+  pub clock : (arena_of k).time ≡ pos k.names.now

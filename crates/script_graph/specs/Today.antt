@@ -8,14 +8,14 @@ use Rattle.inc_terms.specs.Graph.{Graph, Row}
 use Rattle.formula_elab.specs.Today.{IsLaidOutBody}
 use Rattle.graph.specs.Standing.{cutoff_of, graph as graph_of_standing}
 use Rattle.map_nodes.specs.declared.cutoff.Cutoff.TheVariants.{Equal}
-use Rattle.script_model.specs.Formula.{Formula, Formulas, Body, State, Observer, body_at, Literal, Name, Apply, Fold, If, Join, Bind, End, More, Variable, Computed, Grab, Unwatched}
+use Rattle.script_model.specs.Formula.{Formula, Formulas, Body, State, Observer, body_at, Literal, Name, Apply, Fold, If, Join, Bind, At, Steps, Now, End, More, Variable, Computed, After, Every, Grab, Unwatched}
 use Rattle.script_model.specs.Leaves.{EveryReference, EveryLeafOf}
 use Rattle.script_model.specs.Settle.{Notice}
 use Rattle.script_model.specs.Values.{Outcome, Val, Invalid}
 use Rattle.script_graph.specs.Kept.{Kept, node_in}
 use Rattle.transfer.specs.Shows.{IsOwn}
 
--- ---- formulas: no clock; names that are read are of earlier declarations
+-- ---- formulas: names that are read are of earlier declarations
 
 -- a declaration that is there, and is no other name
 abbrev pub IsDeclaredTarget : State → ℕ → Type 0
@@ -78,6 +78,9 @@ abbrev mutual
   OwnNodes G P n (Bind left body) =
       P n × (r : Row) × (l : NodeId) × (f : FnRef) × (captures : List NodeId) × (G.row n ≡ Some r) × (r.def ≡ graph.Bind l f captures)
       × OwnNodes G P l left
+  OwnNodes G P n (At time) = P n
+  OwnNodes G P n (Steps first steps) = P n
+  OwnNodes G P n Now = P n
   OwnNodes G P n f = ⊥
 
   -- so have those of all of the formulas
@@ -103,12 +106,17 @@ WholeNodes G P Q n (Join child) = P n × (r : Row) × (c : NodeId) × (G.row n �
 WholeNodes G P Q n (Bind left body) =
     P n × (r : Row) × (l : NodeId) × (f : FnRef) × (captures : List NodeId) × (G.row n ≡ Some r) × (r.def ≡ graph.Bind l f captures)
     × OwnNodes G Q l left
+WholeNodes G P Q n (At time) = P n
+WholeNodes G P Q n (Steps first steps) = P n
+WholeNodes G P Q n Now = P n
 WholeNodes G P Q n f = ⊥
 
 -- so have those of what is declared
 abbrev pub OwnNodesOf : Graph → (NodeId → Type 0) → (NodeId → Type 0) → NodeId → Body → Type 0
 OwnNodesOf G P Q n (Variable v) = P n
 OwnNodesOf G P Q n (Computed f kept) = WholeNodes G P Q n f
+OwnNodesOf G P Q n (After time) = P n
+OwnNodesOf G P Q n (Every base span) = P n
 OwnNodesOf G P Q n (Grab bind v is_live) = Unit {0}
 OwnNodesOf G P Q n body = ⊥
 

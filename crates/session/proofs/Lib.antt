@@ -1,4 +1,5 @@
 pub mod Answering
+mod Advanced
 mod Assigned
 mod Carried
 mod CarriageReturns

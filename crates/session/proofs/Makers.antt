@@ -174,4 +174,5 @@ module _ (k : Kept) (bodies : List Body) (same : makers bodies ≡ makers k.bodi
     looking = sound.looking;
     apart = sound.apart;
     unbroken = sound.unbroken;
+    clock = sound.clock;
   }

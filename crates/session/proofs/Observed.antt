@@ -221,6 +221,7 @@ module _ (k : Kept) (name : List ℕ) (target : ℕ) (o : ObsId) (g : GraphView 
     looking = λ p among. looks p (among_push k.observers o p among);
     apart = apart_push k.observers o sound.apart new_id;
     unbroken = λ e. ap (λ (h : GraphView (Unit {0})). h.refused) observes.rest ∙ sound.unbroken e;
+    clock = ap (λ (a : Arena). a.time) arena_same ∙ sound.clock;
   }
     where
       looks : (p : ObsId) → Among p k.observers ⊎ (p ≡ o) → IsSome (node_at g.observers p)

@@ -163,6 +163,7 @@ module _ {A : Type 0} (M : Functions) (old new : GraphView A) (before after : Co
         looking = λ o among. subst (λ (os : List Looking). IsSome (node_at os o)) watching (sound.looking o among);
         apart = sound.apart;
         unbroken = unbroken;
+        clock = stays.clock ∙ (sym (ap (λ (a : Arena). a.time) nodes) ∙ sound.clock);
       }
 
 -- a count that stands still at its last value has not fallen

@@ -1,9 +1,9 @@
 //! What a line is answered with, and what it does.
 ghost use Rattle.std.specs.Prelude.{IsTrue, true, ◌≡◌, ◌<◌, ◌≤◌, ◌+◌, ◌-◌, ◌++◌, ◌^◌, ℕ, List, None, Some, length, IfOk, OnOk, OnErr};
 ghost use Rattle.formula_lang.specs.CommandView.{body_view, constant_view};
-ghost use Rattle.formula_lang.specs.Fits.{AssignmentFits, DeclarationFits, GrabFits, ObserverFits};
+ghost use Rattle.formula_lang.specs.Fits.{AssignmentFits, DeclarationFits, GrabFits, ObserverFits, TimeFits};
 ghost use Rattle.line_parser.specs.TreeView.{line_view};
-ghost use Rattle.script_model.specs.Check.{Assign, Declare, Observe, Show, Stabilize, Take, Unobserve, is_among};
+ghost use Rattle.script_model.specs.Check.{Advance, Assign, Declare, Observe, Show, Stabilize, Take, Unobserve, is_among};
 ghost use Rattle.script_model.specs.Formula.{binds_of_body, meanings_of};
 ghost use Rattle.script_model.specs.Grammar.{IsLine};
 ghost use Rattle.script_model.specs.Here.{is_here};
@@ -110,6 +110,7 @@ fn carry_out<L: Library>(
         Command::Assign { target, value } => set(script, *target, value, out),
         Command::Observe { observer, target } => observe(script, observer.bytes(), *target, out),
         Command::Unobserve { observer } => unobserve(script, observer.bytes(), out),
+        Command::Advance { time } => advance(script, *time, out),
         Command::Stabilize => stabilize(alloc, script, out),
         Command::Show { observer } => show(alloc, script, observer.bytes(), out),
     };
@@ -185,6 +186,26 @@ fn set<L: Library>(
 {
     match write_done(out) {
         Ok(()) => match script.set(target, value) {
+            Ok(()) => Ok(Did::Accepted),
+            Err(fault) => Err(fault),
+        },
+        Err(fault) => Err(fault),
+    }
+}
+
+/// Moves the clock on.
+fn advance<L: Library>(
+    script: &mut Script<L>,
+    time: u64,
+    out: &mut Vec<u8>,
+) -> Result<Did, AllocError>
+    requires unbroken { script.old.kept.broken ≡ None }
+    requires fits { TimeFits script.old.kept.names time }
+    ensures { Performs (λ l. meanings_of (L.named l) (L.value l)) L.known L.calls (Advance time)
+        script.old script.new out.old.items out.new.items result }
+{
+    match write_done(out) {
+        Ok(()) => match script.advance(time) {
             Ok(()) => Ok(Did::Accepted),
             Err(fault) => Err(fault),
         },

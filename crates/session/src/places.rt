@@ -11,7 +11,9 @@ pub(crate) fn room_behind(formula: &Formula, room: usize) -> Option<usize>
     ensures { MatchOption result (room < places_in (formula_view formula.now)) (λ left. left + places_in (formula_view formula.now) ≡ room) }
 {
     match formula {
-        Formula::Literal(_) => room.checked_sub(1),
+        Formula::Literal(_) | Formula::At(_) | Formula::Steps { .. } | Formula::Now => {
+            room.checked_sub(1)
+        }
         Formula::Name(_) | Formula::Bound(_) => Some(room),
         Formula::Apply { arguments, .. } => room_behind_each(arguments, room)?.checked_sub(1),
         Formula::Fold { elements, .. } => room_behind_each(elements, room)?.checked_sub(1),
@@ -45,7 +47,9 @@ pub(crate) fn room_behind_body(body: &Declaration, room: usize) -> Option<usize>
     ensures { MatchOption result (room < places_of_body (body_view body.now)) (λ left. left + places_of_body (body_view body.now) ≡ room) }
 {
     match body {
-        Declaration::Variable(_) => room.checked_sub(1),
+        Declaration::Variable(_) | Declaration::After(_) | Declaration::Every { .. } => {
+            room.checked_sub(1)
+        }
         Declaration::Computed(formula) => room_behind(formula, room),
     }
 }

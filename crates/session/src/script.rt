@@ -6,6 +6,7 @@ ghost use Rattle.script_graph.specs.Kept.{arena_of};
 ghost use Rattle.script_graph.specs.State.{Stands};
 ghost use Rattle.session.specs.Replies.{name_in};
 
+mod advancing;
 mod declaring;
 mod grabbing;
 mod naming;

@@ -1,5 +1,5 @@
 //! Declarations in a script.
-ghost use Rattle.std.specs.Prelude.{◌≡◌, ◌<◌, ◌≤◌, ◌+◌, ◌-◌, ◌^◌, ◌++◌, ◌∷◌, [], ℕ, List, length, slice_get, Some, None, IfOk, OnOk, OnErr, Ok, false};
+ghost use Rattle.std.specs.Prelude.{◌≡◌, ◌<◌, ◌≤◌, ◌+◌, ◌-◌, ◌^◌, ◌++◌, ◌∷◌, [], ℕ, pos, List, length, slice_get, Some, None, IfOk, OnOk, OnErr, Ok, false};
 ghost use Rattle.formula_elab.specs.Laying.{laid_body};
 ghost use Rattle.formula_elab.specs.Types.{type_at};
 ghost use Rattle.formula_elab.specs.Functions.{bodies_in, bodies_made};
@@ -97,6 +97,7 @@ fn add_declared<L: Library>(
     requires unbroken { IsUnbroken graph.old }
     requires one_each { length nodes.old.items ≡ length names.old.declared }
     requires has_nodes { HaveNodes graph.old.nodes names.old.declared nodes.old.items }
+    requires clock { graph.old.nodes.time ≡ pos names.old.now }
     requires binds { binds_of_body (body_view body.now) ≤ 64 }
     requires bodies { length graph.old.functions.bodies.items + 64 < 1099511627776 }
     requires room { live graph.old.nodes + places_of_body (body_view body.now) ≤ 1048575 }
@@ -148,6 +149,7 @@ fn make_declared<L: Library>(
     requires unbroken { IsUnbroken graph.old }
     requires one_each { length nodes.now ≡ length names.now.declared }
     requires has_nodes { HaveNodes graph.old.nodes names.now.declared nodes.now }
+    requires clock { graph.old.nodes.time ≡ pos names.now.now }
     requires binds { binds_of_body (body_view body.now) ≤ 64 }
     requires bodies { length graph.old.functions.bodies.items + 64 < 1099511627776 }
     requires room { live graph.old.nodes + places_of_body (body_view body.now) ≤ 1048575 }
@@ -275,8 +277,13 @@ fn kind_of(body: &Declaration) -> Kind
             | Formula::Apply { .. }
             | Formula::Fold { .. }
             | Formula::If { .. }
-            | Formula::Join(_),
-        ) => Kind::Let,
+            | Formula::Join(_)
+            | Formula::At(_)
+            | Formula::Steps { .. }
+            | Formula::Now,
+        )
+        | Declaration::After(_)
+        | Declaration::Every { .. } => Kind::Let,
         Declaration::Computed(Formula::Bind { .. }) => Kind::Bind,
     }
 }

@@ -28,4 +28,4 @@ invariant_of-result g c =
     let bodies : c.new-2.result.functions.bodies.items ≡ [] = ap (λ fs. fs.bodies.items) c.new-2.ensures.functions
     ∙ none_there _ (ap (λ (t : Tally). t.taken) c.new.ensures.tally) in
     rw (c.new-3.ensures, c.new-4.ensures.items, c.new-5.ensures.items, bodies)
-    (first_sound (without_functions c.new-2.result) c.new-2.ensures.nodes c.new-2.ensures.observers c.new-2.ensures.unbroken)
+    (first_sound (without_functions c.new-2.result) c.new-2.ensures.nodes c.new-2.ensures.observers c.new-2.ensures.unbroken c.new-2.ensures.time)

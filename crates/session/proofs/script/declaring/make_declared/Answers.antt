@@ -26,7 +26,7 @@ make_all-made-requires g c =
     let e = c.in-Ok.ensures in
     let laid = laid_fits _ c.args.graph.now.nodes (node_at c.args.nodes.now) (type_at c.args.names.now) c.args.names.now
     (names_there c.args.graph.now.nodes c.keeps_sound.ensures.sound.nodes c.args.names.now c.args.nodes.now c.requires.one_each c.requires.has_nodes)
-    (names_typed c.args.graph.now.nodes c.args.names.now c.args.nodes.now c.requires.has_nodes)
+    (names_typed c.args.graph.now.nodes c.args.names.now c.args.nodes.now c.requires.has_nodes) c.requires.clock
     (body_view c.args.body.now) c.requires.fits.0 c.requires.fits.1 in
     let bodies = few_bodies (node_at c.args.nodes.now) (type_at c.args.names.now) (body_view c.args.body.now)
     (body_laid_out _ c.args.names.now (body_view c.args.body.now) c.requires.fits.0 c.requires.fits.1) in
