@@ -162,7 +162,7 @@ fn makes_total(plan: &mut Plan, add: &FnRef, neg: &FnRef) -> bool
 }
 
 /// One declared name, of an Int.
-fn names(alloc: Global) -> Option<Names>
+pub(crate) fn names(alloc: Global) -> Option<Names>
     ensures { IfSome result (λ names. names ≡ one_name) }
 {
     let mut names = Names::new(alloc);

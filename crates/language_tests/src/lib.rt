@@ -5,6 +5,8 @@
 #[cfg(test)]
 mod bodies;
 #[cfg(test)]
+mod clock;
+#[cfg(test)]
 mod elaboration;
 #[cfg(test)]
 mod lines;

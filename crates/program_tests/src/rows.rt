@@ -488,6 +488,10 @@ pub(super) const LANGUAGE: &[Row] = &[
                 "ok\nrefused 3\nrefused 4\nrefused 5\nrefused 6\nrefused 6\nrefused 1\nok\nrefused 7\n\
                  refused 8\nok\nrefused 12\n",
             ),
+            Lines::Once(
+                "let z add(after 1s, 1)\nlet z every 0s\nlet z at 9223372037s\nlet z at 9223372036s\n",
+                "refused 14\nrefused 18\nrefused 16\nok\n",
+            ),
             Lines::Each(
                 (0, 1),
                 ("neg(", 64),
@@ -500,10 +504,71 @@ pub(super) const LANGUAGE: &[Row] = &[
                 "let v *x)))))))))))))))))))))))))))))))))))))))))))))))))))))))))))))))))\n",
                 "refused 25\n",
             ),
+            Lines::Once(
+                "advance 9223372036854775807ns\nadvance 1ns\n",
+                "ok\nrefused 16\n",
+            ),
             Lines::Once("# note\n\nshow o\nshow q\n", "refused 13\nrefused 11\n"),
         ],
         outside: USUAL,
         status: 1,
+    },
+];
+
+/// Formulas that read the clock, which scripts move.
+pub(super) const CLOCK: &[Row] = &[
+    Row {
+        name: "a time that comes",
+        script: &[Lines::Once(
+            "let a at 5s\nobserve o a\nstabilize\nshow o\nadvance 4999999999ns\nstabilize\nshow o\n\
+                 advance 1ns\nstabilize\nshow o\nadvance 0ns\n",
+            "ok\nok\nstable 1\ncalls 0\no = false\nok\nstable 2\ncalls 0\no = false\nok\nstable 3\n\
+                 calls 0\no = true\nok\n",
+        )],
+        outside: USUAL,
+        status: 0,
+    },
+    Row {
+        name: "spans that went by",
+        script: &[Lines::Once(
+            "advance 3s\nlet t every 10s\nobserve o t\nstabilize\nshow o\nadvance-to 12s\nstabilize\nshow o\n\
+                 advance-to 13s\nstabilize\nshow o\nadvance-to 43s\nstabilize\nshow o\nadvance-to 42s\n",
+            "ok\nok\nok\nstable 1\ncalls 0\no = 0\nok\nstable 2\ncalls 0\no = 0\nok\nstable 3\ncalls 0\n\
+                 o = 1\nok\nstable 4\ncalls 0\no = 4\nrefused 15\n",
+        )],
+        outside: USUAL,
+        status: 1,
+    },
+    Row {
+        name: "steps that began",
+        script: &[Lines::Once(
+            "advance 9s\nlet s steps 0 [5s: 1, 9s: 2]\nobserve o s\nstabilize\nshow o\n\
+                 let w steps 0 [5s: 1, 5s: 2]\n",
+            "ok\nok\nok\nstable 1\ncalls 0\no = 2\nrefused 17\n",
+        )],
+        outside: USUAL,
+        status: 1,
+    },
+    Row {
+        name: "the clock itself",
+        script: &[Lines::Once(
+            "let n now\nobserve o n\nstabilize\nshow o\nadvance 5s\nshow o\nstabilize\nshow o\n",
+            "ok\nok\nstable 1\ncalls 0\no = 0\nok\no = 0\nstable 2\ncalls 0\no = 5000000000\n",
+        )],
+        outside: USUAL,
+        status: 0,
+    },
+    Row {
+        name: "a bind over a count of spans, whose right side reads the clock",
+        script: &[Lines::Once(
+            "let t every 10s\nlet b bind v = t in if at 15s then add(v, 100) else v\nobserve o b\nstabilize\n\
+                 show o\nadvance 10s\nstabilize\nshow o\nadvance 5s\nstabilize\nshow o\nadvance 5s\nstabilize\n\
+                 show o\n",
+            "ok\nok\nok\nstable 1\ncalls 0\nbuilds 1\no = 0\nok\nstable 2\ncalls 0\nbuilds 1\no = 1\nok\n\
+                 stable 3\ncalls 1\no = 101\nok\nstable 4\ncalls 1\nbuilds 1\no = 102\n",
+        )],
+        outside: USUAL,
+        status: 0,
     },
 ];
 

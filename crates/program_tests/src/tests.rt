@@ -1,7 +1,7 @@
 //! Whether the rows are answered as they say.
 
 use crate::driver::is_answered;
-use crate::rows::{BINDS, CHOICES, LANGUAGE, LIMITS, Row, STREAMS, SUMS};
+use crate::rows::{BINDS, CHOICES, CLOCK, LANGUAGE, LIMITS, Row, STREAMS, SUMS};
 use std::alloc::Global;
 use std::test::Fail;
 
@@ -46,6 +46,11 @@ fn limits_are_answered(rt: HostRuntime) -> Result<(), Fail> {
 #[test]
 fn language_is_answered(rt: HostRuntime) -> Result<(), Fail> {
     are_answered(rt.alloc(), LANGUAGE)
+}
+
+#[test]
+fn clock_is_answered(rt: HostRuntime) -> Result<(), Fail> {
+    are_answered(rt.alloc(), CLOCK)
 }
 
 #[test]
