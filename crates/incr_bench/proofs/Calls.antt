@@ -1,5 +1,5 @@
 -- What lines call can be called, where that is so line by line.
-use Rattle.std.proofs.Common.{◌≡◌, ◌++◌, Bool, List, [], ◌∷◌, inl, inr, sym, subst}
+use Rattle.std.proofs.Common.{◌++◌, Bool, List, [], ◌∷◌, inl, inr, sym, subst}
 use Rattle.inc_value.specs.Choice.{Among, Every}
 use Rattle.inc_value.specs.declared.function.FnRef.{FnRef}
 use Rattle.node_arena.specs.Building.{Use}

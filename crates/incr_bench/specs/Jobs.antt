@@ -4,7 +4,7 @@ use Rattle.std.specs.Str.{bytes_eq}
 use Rattle.std.specs.Str.Parse.{IsNumeral, digits_value, without_leading_plus}
 use Rattle.incr_bench.specs.declared.job.Job.{Job}
 use Rattle.incr_bench.specs.declared.job.Shape.{Shape}
-use Rattle.incr_bench.specs.declared.job.Shape.TheVariants.{Chain, Fan, Tree, Fold, Cut, Never, Idle, Flip, Flipx, Aside, Switch, Bind, Nested, Boxed}
+use Rattle.incr_bench.specs.declared.job.Shape.TheVariants.{Chain, Fan, Tree, Fold, Cut, Never, Idle, Flip, Flipx, Aside, Switch, Bind, Nested, Boxed, Ticks}
 
 -- the shape that a word names
 abbrev pub shape_of : List ℕ → Option Shape
@@ -23,7 +23,8 @@ shape_of name =
     else (if bytes_eq name (codes "bind") then Some Bind
     else (if bytes_eq name (codes "nested") then Some Nested
     else (if bytes_eq name (codes "boxed") then Some Boxed
-    else None)))))))))))))
+    else (if bytes_eq name (codes "ticks") then Some Ticks
+    else None))))))))))))))
 
 -- the largest size of a shape: as long as a chain may be, and as many nodes as a graph may have
 abbrev pub most_of : Shape → ℕ

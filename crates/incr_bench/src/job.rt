@@ -50,6 +50,9 @@ pub enum Shape {
 
     /// As the fan, where the negation is a function in a box.
     Boxed,
+
+    /// Timers of one span, of which one is due in each round.
+    Ticks,
 }
 
 /// What the words ask for.
@@ -76,7 +79,8 @@ fn most(shape: Shape) -> usize
         | Shape::Idle
         | Shape::Aside
         | Shape::Switch
-        | Shape::Boxed => 1_000_000,
+        | Shape::Boxed
+        | Shape::Ticks => 1_000_000,
     }
 }
 
@@ -99,6 +103,7 @@ fn shape_named(name: &str) -> Option<Shape>
         "bind" => Some(Shape::Bind),
         "nested" => Some(Shape::Nested),
         "boxed" => Some(Shape::Boxed),
+        "ticks" => Some(Shape::Ticks),
         _ => None,
     }
 }

@@ -186,6 +186,29 @@ impl<F: Functions> Live<F> {
         append(&mut self.nodes, made)
     }
 
+    /// Makes a node that counts the spans, in nanoseconds, that went by since it was made.
+    pub fn every(&mut self, span: u64) -> Result<(), Fault>
+        ensures grows { OnOk result (length self.new.nodes.items ≡ length self.old.nodes.items + 1) }
+        ensures uncalled { self.new.graph.functions ≡ self.old.graph.functions }
+    {
+        let made = self.graph.every(span);
+        append(&mut self.nodes, made)
+    }
+
+    /// Moves the time on by so many nanoseconds. It is refused where that is past the greatest.
+    pub fn advance(&mut self, span: u64) -> Result<(), Fault>
+        ensures uncalled { self.new.graph.functions ≡ self.old.graph.functions }
+        ensures same_nodes { self.new.nodes.items ≡ self.old.nodes.items }
+    {
+        let Some(time) = self.graph.time().checked_add_unsigned(span) else {
+            return Err(Fault::Refused);
+        };
+        match self.graph.advance(time) {
+            Ok(()) => Ok(()),
+            Err(fault) => Err(of_graph(fault)),
+        }
+    }
+
     /// Observes a node.
     pub fn observe(&mut self, place: usize) -> Result<(), Fault>
         ensures uncalled { self.new.graph.functions ≡ self.old.graph.functions }

@@ -8,6 +8,7 @@ use crate::counted::Counted;
 use crate::fault::Fault;
 use crate::job::{Job, Shape};
 use crate::live::Live;
+use crate::shapes::TICK;
 use inc_value::{Base, Value};
 use node_arena::Functions;
 use std::time::Clock;
@@ -53,6 +54,7 @@ fn change<F: Functions>(live: &mut Live<F>, job: Job, round: u64) -> Result<(), 
             let target = live.node(turn(round, job.size));
             live.set(job.size, Value::Node(target, Base::Int))
         }
+        Shape::Ticks => live.advance(TICK),
         _ => live.set(0, fresh(round)),
     }
 }

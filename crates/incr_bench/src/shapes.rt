@@ -11,6 +11,9 @@ use std_library::Function;
 /// How many negations a chain has that changes beside nodes at rest.
 const REST_CHAIN: usize = 10;
 
+/// How long one timer is made before the next, and how far a round moves the time on, in nanoseconds.
+pub const TICK: u64 = 1_000_000;
+
 /// One variable under a chain of negations, of which the last is observed.
 fn chain<F: Functions>(live: &mut Live<F>, size: usize) -> Result<(), Fault>
     ensures uncalled { live.new.graph.functions ≡ live.old.graph.functions }
@@ -147,6 +150,20 @@ fn switch<F: Functions>(live: &mut Live<F>, size: usize) -> Result<(), Fault>
     live.observe(size + 1)
 }
 
+/// Timers of one span, all observed. Each is made a tick before the next, and the span has as many ticks as there are timers: so
+/// one of them is due at each tick from then on.
+fn ticks<F: Functions>(live: &mut Live<F>, size: usize) -> Result<(), Fault>
+    requires { size ≤ 1000000 }
+    ensures uncalled { live.new.graph.functions ≡ live.old.graph.functions }
+{
+    let span = size as u64 * TICK;
+    for _ in 0..size {
+        live.every(span)?;
+        live.advance(TICK)?;
+    }
+    observe_all(live, 0, size)
+}
+
 /// A variable and a bind on it, which is observed, of right sides that a function makes.
 pub fn bind<F: Functions>(live: &mut Live<F>, side: FnRef) -> Result<(), Fault>
     requires known { IsTrue (F.known live.old.graph.functions side) }
@@ -197,6 +214,7 @@ pub fn fill<F: Functions>(live: &mut Live<F>, shape: Shape, size: usize) -> Resu
         }
         Shape::Switch => switch(live, size),
         Shape::Fan | Shape::Boxed => fan(live, size),
+        Shape::Ticks => ticks(live, size),
         Shape::Bind | Shape::Nested => Err(Fault::Refused),
     }
 }

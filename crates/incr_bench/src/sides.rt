@@ -133,7 +133,12 @@ fn can_call_line(functions: &ScriptFns<StdLib>, line: &TypedLine) -> bool
     match &line.line {
         Line::Map(function, _) | Line::Fold(function, _, _) => can_call(functions, function, 0),
         Line::Bind { function, most, .. } => can_call(functions, function, *most),
-        Line::Const(_) | Line::If { .. } | Line::Join(_) => true,
+        Line::Const(_)
+        | Line::If { .. }
+        | Line::Join(_)
+        | Line::At(_)
+        | Line::Steps(_, _)
+        | Line::Now => true,
     }
 }
 
