@@ -22,12 +22,17 @@ LONGEST_LINE = 4096          # bytes, without the newline
 CHAINS = (120, 128, 129, 129, 130, 130, 130, 131, 135)      # points, each read by the next; 130 are too many
 EDGES = (-(2**63), 2**63 - 1)
 
-NAMES = (b"a b c x y o x1 _ A Z_9 add var let set show ok stable refused observe stabilize run sub gather sum9 cat"
+NAMES = (b"a b c x y o x1 _ A Z_9 add var let set show ok stable refused observe stabilize run sub gather sum9 cat advance"
          b" xx xy x10 aaaaaaaaaaaaaaaaaaaaaaaaaaaaaaab aaaaaaaaaaaaaaaaaaaaaaaaaaaaaaac").split()
 RESERVED = (b"if then else bind in join fold from at steps now freeze when after every true false"
             b" int bool text node").split()
 NUMBERS = b"0 1 -1 2 7 -0 007 -000 4294967296 -4294967297".split() + [b"%d" % edge for edge in EDGES] * 2
 TEXTS = [b'""', b'"a"', b'"a \\"b\\" \\\\"', b'"# ~ ( )"', b'"' + b"t" * 300 + b'"']
+UNITS = ((b"", 1), (b"ns", 1), (b"us", 10**3), (b"ms", 10**6), (b"s", 10**9))
+SPANS = (0, 1, 1, 2, 10, 255, 256, 257, 65_535, 65_536, 65_537, 5 * 10**9, 10**10, 2**40)
+BORDERS = tuple([256**level for level in (1, 1, 1, 2, 2, 3, 4, 7)])     # where a wheel of 256 slots to a level turns
+NO_TIMES = (b"-1 -0 5h 5S 1sx 5 s 1e3 now x 0x5s 9223372036854775808 9223372036855s 00099999999999999999999us"
+            b" 1ns2 4ms: 1_s s").split() + [b"9223372036854775808ns"]
 NO_LITERALS = (b'+1 --1 - 1x 0x10 1_000 1.5 1e3 & &1 3ns -3s 99999999999999999999999 "open "\\n" "\x7f" true1'
                b" \xd9\xa3").split() + [b"%d" % (EDGES[0] - 1), b"%d" % (EDGES[1] + 1)]
 BYTES = b" ,()-_019azAZ\n\r\t\x00#\"\\=&[]{}:@\x7f\x80\xff"
@@ -45,8 +50,9 @@ REFERENCES = {base: b"node " + base for base in BASES}
 TYPES = (*BASES, *REFERENCES.values())
 LEVELS = ((b"neg(", b")"), (b"add(1, ", b")"), (b"add(", b", d0)"), (b"pick(true, ", b", 2)"), (b"clamp(-9, ", b", 9)"),
           (b"rem(", b", 5)"), (b"sum9(1, 2, 3, 4, ", b", 6, 7, 8, d0)"), (b"fold sub from 1 [2, ", b", d0]"), (b"fold max from -9 [", b"]"),
-          (b"if true then ", b" else d0"), (b"if lt(d0, d0) then 4 else ", b""))
-BODIES = (b"join(&%s)", b"join(if true then &%s else &d0)", b"bind v = d0 in %s", b"bind v = %s in 4", b"bind v = d0 in bind w = v in %s")
+          (b"if true then ", b" else d0"), (b"if lt(d0, d0) then 4 else ", b""), (b"if at 0 then ", b" else d0"),
+          (b"if steps false [0: true, 9223372036854775807: false] then ", b" else d0"))
+BODIES = (b"join(&%s)", b"join(steps &%s [9223372036854775807ns: &d0])", b"join(if true then &%s else &d0)", b"bind v = d0 in %s", b"bind v = %s in 4", b"bind v = d0 in bind w = v in %s")
 
 
 class Disagreement(Exception):
@@ -64,6 +70,7 @@ class Generator:
         self.binds = []                             # the names of binds
         self.bound = []                             # the variables of the binds round a formula, with their types
         self.observers, self.ended = [], []
+        self.now, self.turns = 0, []                # about what the clock is, and the times that something waits for
 
     def name(self, known):
         """Mostly one of the known names."""
@@ -85,8 +92,62 @@ class Generator:
             return b"&" + self.name([name for name, (of, _) in self.nodes.items() if REFERENCES.get(of) == ty])
         return self.chance.choice({b"int": NUMBERS, b"bool": (b"true", b"false"), b"text": TEXTS}[ty])
 
+    def about(self, time):
+        """A time, mostly the same and at times the one before or behind it."""
+        return min(max(time + self.chance.choice((-1, 0, 0, 0, 1)), 0), EDGES[1])
+
+    def later(self):
+        """A time that mostly comes soon, or about where a level of a wheel turns."""
+        chance, border = self.chance, self.chance.choice(BORDERS)
+        return self.about(chance.choices((
+            self.now + chance.randint(0, 9), self.now + chance.choice(SPANS), (self.now // border + chance.randint(1, 2)) * border,
+            self.now // 2, chance.randint(0, EDGES[1]), EDGES[1]), (6, 6, 6, 1, 1, 1))[0])
+
+    def spelled(self, time):
+        """A time as a script may have it."""
+        if self.chance.random() < 0.05:
+            return self.chance.choice(NO_TIMES)
+        unit, many = self.chance.choice([it for it in UNITS if time % it[1] == 0])
+        return self.chance.choice((b"", b"", b"", b"0", b"000")) + b"%d" % (time // many) + unit
+
+    def timed(self, ty):
+        """The words of a formula that reads the clock, mostly of the type."""
+        chance = self.chance
+        times = sorted({self.later() for _ in range(chance.randint(0, 4))})
+        if ty == INT and chance.random() < 0.25:
+            return [b"now"]
+        if ty == BOOL and chance.random() < 0.7 and times:
+            self.turns.append(times[0])
+            return [b"at", self.spelled(times[0])]
+        self.turns += times
+        if chance.random() < 0.1:
+            times = [chance.choice(times) for _ in times]
+        words = [b"steps", self.literal(ty), b"["]
+        for number, time in enumerate(times):
+            words += ([b","] if number else []) + [self.spelled(time), b":", self.literal(ty)]
+        return words + [b"]"]
+
+    def beat(self, ty):
+        """The words of a formula that stands alone in its line."""
+        span = self.chance.choice(SPANS)
+        self.turns += [self.now + span, self.now + 2 * span]
+        return [b"every" if ty == INT or self.chance.random() < 0.1 else b"after", self.spelled(span)]
+
+    def move(self):
+        """The words of a line that moves the clock: mostly about to where something turns, at times far."""
+        chance = self.chance
+        turns = [time for time in self.turns if self.now <= time < self.now + 2**41]
+        time = self.about(chance.choice(turns)) if turns and chance.random() < 0.6 else self.later()
+        if time > self.now + 2**44 and chance.random() < 0.8:
+            time = self.now
+        span = max(time - self.now, 0)
+        self.now = max(time, self.now)
+        return [b"advance", self.spelled(span)] if chance.random() < 0.5 else [b"advance-to", self.spelled(time)]
+
     def formula(self, ty, room):
         """The words of a formula, mostly of the type."""
+        if self.chance.random() < 0.13:
+            return self.timed(ty) if self.chance.random() < 0.96 else self.beat(ty)
         known = [name for name, (of, _) in self.nodes.items() if of == ty]
         known += [name for name, of in self.bound if of == ty] * 3
         functions = [name for name, (gives, _) in FUNCTIONS.items() if gives == ty]
@@ -186,9 +247,9 @@ class Generator:
         return b"observe " + name + b" " + node
 
     def words(self):
-        """The words and signs of a line of one of the eight forms."""
-        forms = ("var", "set", "let", "grab", "observe", "unobserve", "stabilize", "show")
-        form = self.chance.choices(forms, (3, 4, 5, 1, 3, 1, 4, 5))[0]
+        """The words and signs of a line of one of the ten forms."""
+        forms = ("var", "set", "let", "grab", "observe", "unobserve", "stabilize", "show", "advance")
+        form = self.chance.choices(forms, (3, 4, 5, 1, 3, 1, 4, 5, 3))[0]
         if form == "var":
             ty, name = self.chance.choice(TYPES), self.new_name(self.nodes)
             self.nodes.setdefault(name, (ty, True))
@@ -202,6 +263,8 @@ class Generator:
             words = self.deep() if self.chance.random() < 0.02 else self.formula(ty, self.chance.randint(0, 4))
             if self.chance.random() < 0.2:
                 words = self.bind(ty, 3)
+            elif ty in (INT, BOOL) and self.chance.random() < 0.2:
+                words = self.beat(ty)
             if words[0] == b"bind" and name not in self.nodes:
                 self.binds.append(name)
             self.nodes.setdefault(name, (ty, False))
@@ -217,6 +280,8 @@ class Generator:
             self.observers = [other for other in self.observers if other != name]
             self.ended.append(name)
             return [b"unobserve", name]
+        if form == "advance":
+            return self.move()
         if form == "stabilize":
             return [b"stabilize"]
         return [b"show", self.name(self.observers if self.chance.random() < 0.9 else self.ended)]
@@ -368,7 +433,7 @@ def main():
     parser.add_argument("--program", default=REPOSITORY / "crates/incr/out/incr", help="default: incr of this repository")
     parser.add_argument("--profile", default=REPOSITORY / "crates/incr_profile/out/incr_profile",
                         help="default: incr_profile of this repository; an empty word for none")
-    parser.add_argument("--through", type=int, default=5, help="the model's stage of the language (default 5)")
+    parser.add_argument("--through", type=int, default=6, help="the model's stage of the language (default 6)")
     parser.add_argument("--written", type=int, help="the stage that the model's own scripts are written for (default: that of --through): "
                         "lines of forms that come behind --through are to be refused with 1")
     parser.add_argument("--chain", type=int, help="how many points each chain has (default: 120 to 135, of which 129 may be needed)")

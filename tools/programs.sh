@@ -151,7 +151,7 @@ python3 tools/deep_lines.py >"$room/written" || { cat "$room/written"; false; }
 judge "incr run: the deepest lines under 256 KB of stack" $? 0
 
 if [ -x crates/incr_bench/out/incr_bench ]; then
-    echo 'usage: incr_bench chain|fan|tree|fold|cut|never|idle|flip|flipx|aside|switch|bind|nested|boxed SIZE ROUNDS' >"$room/bench.usage"
+    echo 'usage: incr_bench chain|fan|tree|fold|cut|never|idle|flip|flipx|aside|switch|bind|nested|boxed|ticks SIZE ROUNDS' >"$room/bench.usage"
     measures 0 crates/incr_bench/stdout nested 9 100
     measures 2 "$room/bench.usage" boxed 220
     measures 2 "$room/bench.usage" chain 129 1

@@ -1,8 +1,10 @@
-//! What stands for the kit's memory, `Vec`, `Slab` and `SmallVec` in crates that were translated to plain Rust, as far
-//! as they use these.
+//! What stands for the kit's memory, `Vec`, `Slab`, `SmallVec`, `IndexMap` and texts in crates that were translated to
+//! plain Rust, as far as they use these.
 
 use std::cell::Cell;
-use std::ops::{Deref, DerefMut};
+use std::collections::HashMap;
+use std::fmt::Display;
+use std::ops::{Deref, DerefMut, Index};
 
 #[derive(Clone, Copy, Debug, PartialEq, Eq)]
 pub struct Global;
@@ -42,10 +44,88 @@ pub fn filled<T: Clone>(alloc: Global, value: T, count: usize) -> Result<Vec<T>,
     Ok(all)
 }
 
-#[derive(Debug)]
+/// A value in a box.
+pub fn boxed<T>(_: Global, value: T) -> Result<Box<T>, AllocError> {
+    take_memory()?;
+    Ok(Box::new(value))
+}
+
+/// The values of an iterator, in order.
+pub trait CollectIn: Iterator + Sized {
+    fn collect_in(self, alloc: Global) -> Result<Vec<Self::Item>, AllocError> {
+        let mut all = Vec::new(alloc);
+        for value in self {
+            all.push(value)?;
+        }
+        Ok(all)
+    }
+}
+
+impl<I: Iterator> CollectIn for I {}
+
+/// The same values again.
+pub trait ToVecIn<T> {
+    fn to_vec_in(&self, alloc: Global) -> Result<Vec<T>, AllocError>;
+}
+
+impl<T: Clone> ToVecIn<T> for [T] {
+    fn to_vec_in(&self, alloc: Global) -> Result<Vec<T>, AllocError> {
+        Vec::from_slice(alloc, self)
+    }
+}
+
+/// A text that was put together.
+pub struct Said(String);
+
+impl Said {
+    pub fn new(text: String) -> Result<Said, AllocError> {
+        take_memory()?;
+        Ok(Said(text))
+    }
+
+    pub fn as_bytes(&self) -> &[u8] {
+        self.0.as_bytes()
+    }
+
+    pub fn into_bytes(self) -> Vec<u8> {
+        Vec(self.0.into_bytes())
+    }
+}
+
+#[macro_export]
+macro_rules! said {
+    ($($part:tt)*) => { $crate::Said::new(format!($($part)*)) };
+}
+
+/// A number in digits.
+#[derive(Default)]
+pub struct Buffer(String);
+
+impl Buffer {
+    pub fn new() -> Buffer {
+        Buffer::default()
+    }
+
+    pub fn format<T: Display>(&mut self, number: T) -> &str {
+        self.0 = number.to_string();
+        &self.0
+    }
+}
+
+#[derive(Debug, PartialEq, Eq, Hash)]
 pub struct Vec<T>(std::vec::Vec<T>);
 
 impl<T> Vec<T> {
+    pub fn from_slice(alloc: Global, values: &[T]) -> Result<Vec<T>, AllocError>
+    where
+        T: Clone,
+    {
+        let mut all = Vec::new(alloc);
+        all.extend_from_slice(values)?;
+        Ok(all)
+    }
+
+
     pub fn new(_: Global) -> Vec<T> {
         Vec(std::vec::Vec::new())
     }
@@ -113,6 +193,10 @@ impl<T> Vec<T> {
         self.0.clear();
     }
 
+    pub fn retain(&mut self, keeps: impl FnMut(&T) -> bool) {
+        self.0.retain(keeps);
+    }
+
     pub fn as_slice(&self) -> &[T] {
         &self.0
     }
@@ -142,6 +226,105 @@ impl<'a, T> IntoIterator for &'a Vec<T> {
 
     fn into_iter(self) -> std::slice::Iter<'a, T> {
         self.0.iter()
+    }
+}
+
+impl<T> IntoIterator for Vec<T> {
+    type Item = T;
+    type IntoIter = std::vec::IntoIter<T>;
+
+    fn into_iter(self) -> std::vec::IntoIter<T> {
+        self.0.into_iter()
+    }
+}
+
+/// Values by keys of bytes, in the order in which these came; the last key takes the place of one that is taken off.
+pub struct IndexMap<K, V> {
+    entries: std::vec::Vec<(K, V)>,
+    places: HashMap<std::vec::Vec<u8>, usize>,
+}
+
+impl<V> IndexMap<Vec<u8>, V> {
+    pub fn new(_: Global) -> IndexMap<Vec<u8>, V> {
+        IndexMap { entries: std::vec::Vec::new(), places: HashMap::new() }
+    }
+
+    pub fn len(&self) -> usize {
+        self.entries.len()
+    }
+
+    pub fn get_index_of(&self, key: &[u8]) -> Option<usize> {
+        self.places.get(key).copied()
+    }
+
+    pub fn get_index(&self, place: usize) -> Option<(&Vec<u8>, &V)> {
+        self.entries.get(place).map(|entry| (&entry.0, &entry.1))
+    }
+
+    pub fn insert(&mut self, key: Vec<u8>, value: V) -> Result<Option<V>, AllocError> {
+        if let Some(place) = self.get_index_of(&key) {
+            return Ok(Some(std::mem::replace(&mut self.entries[place].1, value)));
+        }
+        take_memory()?;
+        self.places.insert(key.0.clone(), self.entries.len());
+        self.entries.push((key, value));
+        Ok(None)
+    }
+
+    pub fn swap_remove(&mut self, key: &[u8]) -> Option<V> {
+        let place = self.places.remove(key)?;
+        let (_, value) = self.entries.swap_remove(place);
+        if let Some((moved, _)) = self.entries.get(place) {
+            self.places.insert(moved.0.clone(), place);
+        }
+        Some(value)
+    }
+
+    pub fn pop(&mut self) -> Option<(Vec<u8>, V)> {
+        let (key, value) = self.entries.pop()?;
+        self.places.remove(&key.0);
+        Some((key, value))
+    }
+}
+
+impl<V> Index<usize> for IndexMap<Vec<u8>, V> {
+    type Output = V;
+
+    fn index(&self, place: usize) -> &V {
+        &self.entries[place].1
+    }
+}
+
+/// Keys of bytes, in order as in a map of them.
+pub struct IndexSet<K>(IndexMap<K, ()>);
+
+impl IndexSet<Vec<u8>> {
+    pub fn new(alloc: Global) -> IndexSet<Vec<u8>> {
+        IndexSet(IndexMap::new(alloc))
+    }
+
+    pub fn len(&self) -> usize {
+        self.0.len()
+    }
+
+    pub fn get_index_of(&self, key: &[u8]) -> Option<usize> {
+        self.0.get_index_of(key)
+    }
+
+    pub fn contains(&self, key: &[u8]) -> bool {
+        self.get_index_of(key).is_some()
+    }
+
+    pub fn get_index(&self, place: usize) -> Option<&Vec<u8>> {
+        self.0.get_index(place).map(|entry| entry.0)
+    }
+
+    pub fn insert(&mut self, key: Vec<u8>) -> Result<bool, AllocError> {
+        Ok(self.0.insert(key, ())?.is_none())
+    }
+
+    pub fn swap_remove(&mut self, key: &[u8]) -> bool {
+        self.0.swap_remove(key).is_some()
     }
 }
 
@@ -181,6 +364,10 @@ impl<T> Slab<T> {
 
     pub fn contains(&self, place: usize) -> bool {
         self.get(place).is_some()
+    }
+
+    pub fn vacant_key(&self) -> usize {
+        self.left.last().copied().unwrap_or(self.places.len())
     }
 
     pub fn get(&self, place: usize) -> Option<&T> {
@@ -227,6 +414,37 @@ pub struct SmallVec<T, const N: usize> {
 impl<T, const N: usize> SmallVec<T, N> {
     pub fn new(_: Global) -> SmallVec<T, N> {
         SmallVec { values: std::vec::Vec::new(), room: N }
+    }
+
+    pub fn from_slice(alloc: Global, values: &[T]) -> Result<SmallVec<T, N>, AllocError>
+    where
+        T: Clone,
+    {
+        let mut all = SmallVec::new(alloc);
+        all.reserve_exact(values.len())?;
+        all.values.extend_from_slice(values);
+        Ok(all)
+    }
+
+    pub fn reserve_exact(&mut self, more: usize) -> Result<(), AllocError> {
+        let room = self.values.len() + more;
+        if room > self.room {
+            take_memory()?;
+            self.room = room;
+        }
+        Ok(())
+    }
+
+    pub fn capacity(&self) -> usize {
+        self.room
+    }
+
+    pub fn allocator(&self) -> &Global {
+        &Global
+    }
+
+    pub fn truncate(&mut self, count: usize) {
+        self.values.truncate(count);
     }
 
     pub fn push(&mut self, value: T) -> Result<(), AllocError> {

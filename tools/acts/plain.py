@@ -15,20 +15,23 @@ from pathlib import Path
 HERE = Path(__file__).parent
 RUSTC = os.environ.get("RUSTC", "rustc")
 FLAGS = ["--edition", "2021", "-O", "-C", "overflow-checks=on", "-A", "warnings", "--crate-type", "rlib"]
-# A crate of which one file is taken, as its library.
-TAKEN = {"inc_value": "node.rt"}
 CLAUSE = re.compile(r"(ghost|requires|ensures)\b")
 # Implementations that say nothing in plain Rust.
 LEFT_OUT = re.compile(r"impl\b.* (Model|Drop) for ")
 CHANGES = [
-    (r"#!\[tactic\(\w+\)\]", ""),
-    (r"use std::marker::Model;", ""),
-    (r"use (std::alloc|slab|smallvec)::", "use kit::"),
-    (r"(derive\(.*), Drop\)", r"\1)"),
+    (r"#!?\[(tactic|cycle|error)\(.*\)\]", ""),
+    (r"use (std::marker::Model|std::convert::AsStr|thiserror::Error);", ""),
+    (r"use (std::alloc|slab|smallvec|indexmap|itoa)::", "use kit::"),
+    (r"(derive\([^)]*), (Drop|Error)\)", r"\1)"),
     (r"#\[derive\(Drop\)\]", ""),
     (r"<R: Drop>", "<R>"),
     (r" +where\n +R: Drop,\n", "\n\n"),
+    (r"(trait \w+|type \w+): Drop( \{|;)", r"\1\2"),
+    (r"impl AsStr for (\w+) \{(\s+)fn", r"impl \1 {\2pub fn"),
     (r"vec!\[in (\w+); (\w+); (\w+)\]", r"kit::filled(\1, \2, \3)"),
+    (r"format!\(in alloc; ", "kit::said!("),
+    (r"\.(collect|to_vec)\(((self\.)?alloc)\)", r".\1_in(\2)"),
+    (r"\bBox::new\(((self\.)?alloc), ", r"kit::boxed(\1, "),
 ]
 
 
@@ -59,7 +62,7 @@ def plain(source):
     text = "\n".join(lines)
     for old, new in CHANGES:
         text = re.sub(old, new, text)
-    return text + "\nuse kit::Vec;\n"
+    return text + "\nuse kit::{CollectIn, ToVecIn, Vec};\n"
 
 
 def crates_below(folder, crate):
@@ -68,7 +71,7 @@ def crates_below(folder, crate):
     for line in (folder.parent / "crates.txt").read_text().splitlines():
         name, colon, below = line.partition(":")
         if colon and not line.startswith("#"):
-            needs[name] = [other for other in below.split() if other in needs]
+            needs[name.split()[0]] = [other for other in below.split() if other in needs]
     found = {crate}
     for name in reversed(needs):
         if name in found:
@@ -88,11 +91,11 @@ def main(folder, crate, out):
     build("kit", HERE / "kit.rs", out, [])
     for name in crates_below(folder, crate):
         sources = folder / name / "src"
-        for source in [sources / TAKEN[name]] if name in TAKEN else sources.rglob("*.rt"):
+        for source in sources.rglob("*.rt"):
             to = out / name / source.relative_to(sources).with_suffix(".rs")
             to.parent.mkdir(parents=True, exist_ok=True)
             to.write_text(plain(source.read_text()))
-        build(name, out / name / Path(TAKEN.get(name, "lib.rt")).with_suffix(".rs"), out, built)
+        build(name, out / name / "lib.rs", out, built)
         built.append(name)
 
 

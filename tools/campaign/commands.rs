@@ -1,7 +1,7 @@
 //! Which commands are accepted: the refusals in their one order, the types, and what an accepted command does.
 
 use crate::state::{Body, Declared, Kind, Observer, Place, State};
-use crate::syntax::{Command, Formula, Literal};
+use crate::syntax::{Command, Formula, Literal, Time};
 use crate::values::{BOOL, INT, Outcome, TEXT, Type, Value, function};
 use std::collections::BTreeSet;
 use std::rc::Rc;
@@ -56,6 +56,8 @@ fn check(state: &State, command: &Command) -> Result<(), u8> {
     }
     if let Command::Let(_, formula) = command {
         refuse_if(!functions_are_known(formula), 5)?;
+        let is_top_form = |it: &Formula| matches!(it, Formula::After(_) | Formula::Every(_));
+        refuse_if(formula.kids().iter().any(|kid| kid.holds(is_top_form)), 14)?;
     }
     let body = |name| &state.declared[state.target(found(state, name))].body;
     if let Command::Set(name, _) = command {
@@ -85,7 +87,8 @@ fn names_read<'a>(command: &'a Command, read: &mut Vec<&'a str>) {
         }
         Command::Let(_, formula) => free_names(formula, &mut Vec::new(), read),
         Command::Grab(_, name) | Command::Observe(_, name) => read.push(name),
-        Command::Unobserve(_) | Command::Show(_) | Command::Stabilize => {}
+        Command::Unobserve(_) | Command::Show(_) | Command::Advance(_) | Command::AdvanceTo(_) | Command::Stabilize => {
+        }
     }
 }
 
@@ -100,32 +103,28 @@ fn free_names<'a>(formula: &'a Formula, variables: &mut Vec<&'a str>, read: &mut
         Formula::Literal(literal) => reference_read(literal, read),
         Formula::Name(name) if variables.contains(&name.as_str()) => {}
         Formula::Name(name) => read.push(name),
-        Formula::Call(_, kids) => kids.iter().for_each(|kid| free_names(kid, variables, read)),
-        Formula::If(kids) => kids.iter().for_each(|kid| free_names(kid, variables, read)),
         Formula::Bind(variable, parts) => {
             free_names(&parts[0], variables, read);
             variables.push(variable);
             free_names(&parts[1], variables, read);
             variables.pop();
         }
-        Formula::Join(kid) => free_names(kid, variables, read),
         Formula::Fold(_, first, kids) => {
             reference_read(first, read);
             kids.iter().for_each(|kid| free_names(kid, variables, read));
         }
+        Formula::Steps(first, steps) => {
+            reference_read(first, read);
+            steps.iter().for_each(|step| reference_read(&step.1, read));
+        }
+        _ => formula.kids().iter().for_each(|kid| free_names(kid, variables, read)),
     }
 }
 
 fn functions_are_known(formula: &Formula) -> bool {
-    match formula {
-        Formula::Literal(_) | Formula::Name(_) => true,
-        Formula::Call(name, kids) | Formula::Fold(name, _, kids) => {
-            function(name).is_some() && kids.iter().all(functions_are_known)
-        }
-        Formula::If(kids) => kids.iter().all(functions_are_known),
-        Formula::Bind(_, parts) => parts.iter().all(functions_are_known),
-        Formula::Join(kid) => functions_are_known(kid),
-    }
+    let calls_another =
+        |it: &Formula| matches!(it, Formula::Call(name, _) | Formula::Fold(name, ..) if function(name).is_none());
+    !formula.holds(calls_another)
 }
 
 /// The refusals from the types on, and what an accepted command does.
@@ -145,6 +144,11 @@ fn carry_out(mut state: State, command: &Command) -> Vec<Answer> {
             None
         }
         Command::Show(observer) => return vec![show(state, observer)],
+        Command::Advance(span) => {
+            let to = behind(state.now, *span);
+            advance(&mut state, to).err()
+        }
+        Command::AdvanceTo(time) => advance(&mut state, *time).err(),
         Command::Stabilize => unreachable!("a stabilize is judged by itself"),
     };
     vec![match refusal {
@@ -163,6 +167,36 @@ fn show(state: State, observer: &str) -> Answer {
     }
     printed.push(b'\n');
     Answer { printed, state }
+}
+
+/// The time that is a span behind another one.
+fn behind(now: i64, span: Time) -> Time {
+    now.checked_add(span?)
+}
+
+fn advance(state: &mut State, to: Time) -> Result<(), u8> {
+    let to = to.ok_or(16)?;
+    refuse_if(to < state.now, 15)?;
+    state.now = to;
+    Ok(())
+}
+
+/// The refusals of the times in a formula.
+fn check_times(formula: &Formula, now: i64) -> Result<(), u8> {
+    // (a function that `holds` takes knows no clock, and only a whole formula is a span after it)
+    refuse_if(matches!(formula, Formula::After(span) if behind(now, *span).is_none()), 16)?;
+    let is_late = |it: &Formula| match it {
+        Formula::At(time) | Formula::After(time) | Formula::Every(time) => time.is_none(),
+        Formula::Steps(_, steps) => steps.iter().any(|step| step.0.is_none()),
+        _ => false,
+    };
+    refuse_if(formula.holds(is_late), 16)?;
+    let falls = |it: &Formula| match it {
+        Formula::Steps(_, steps) => steps.windows(2).any(|pair| pair[0].0 >= pair[1].0),
+        _ => false,
+    };
+    refuse_if(formula.holds(falls), 17)?;
+    refuse_if(matches!(formula, Formula::Every(Some(0))), 18)
 }
 
 fn declare(state: &mut State, name: &str, ty: Type, target: Option<usize>, body: Body) {
@@ -197,6 +231,7 @@ fn declare_formula(state: &mut State, name: &str, formula: &Formula) -> Result<(
     let mut typing = Typing { state, places: Vec::new(), binds: Vec::new(), counted: 0 };
     let (outermost, ty) = typing.formula(formula)?;
     let (places, counted) = (typing.places, typing.counted);
+    check_times(formula, state.now)?;
     refuse_if(state.counted + counted > MOST_PLACES, 19)?;
     state.counted += counted;
     state.places.extend(places.into_iter().map(|place| Rc::new(place.expect("each place was typed"))));
@@ -322,6 +357,21 @@ impl<'a> Typing<'a> {
                 let (kids, types) = self.formulas(kids)?;
                 refuse_if(ty != Type::Base(function.gives) || types.iter().any(|ty| *ty != Type::Base(element)), 6)?;
                 Ok((Kind::Fold(function, first, kids), ty))
+            }
+            // (a time that is too late is refused behind the types, so any time stands for it here)
+            Formula::At(time) => Ok((Kind::At(time.unwrap_or(0)), BOOL)),
+            Formula::After(span) => Ok((Kind::At(behind(self.state.now, *span).unwrap_or(0)), BOOL)),
+            Formula::Now => Ok((Kind::Now, INT)),
+            Formula::Every(span) => Ok((Kind::Every { base: self.state.now, span: span.unwrap_or(0) }, INT)),
+            Formula::Steps(first, steps) => {
+                let (ty, first) = typed_literal(self.state, first)?;
+                let mut later = Vec::new();
+                for (time, literal) in steps {
+                    let (has, value) = typed_literal(self.state, literal)?;
+                    refuse_if(has != ty, 6)?;
+                    later.push((time.unwrap_or(0), value));
+                }
+                Ok((Kind::Steps(first, later), ty))
             }
         }
     }

@@ -16,9 +16,11 @@ pub enum Count {
     Values,
     Invalid,
     Readings,
+    Moves,
+    Turned,
 }
 
-const COUNTED: [&str; 12] = [
+const COUNTED: [&str; 14] = [
     "sessions",
     "lines answered as they may be",
     "stabilizes accepted",
@@ -31,6 +33,8 @@ const COUNTED: [&str; 12] = [
     "values shown",
     "outcomes shown that are invalid",
     "lines behind which more than one reading stood",
+    "moves of the clock",
+    "needed places that the clock turned since the stabilize before",
 ];
 
 #[derive(Default)]

@@ -133,7 +133,11 @@ impl<'a> View<'a> {
             Kind::Literal(value) => return Some(Outcome::Value(value.clone())),
             Kind::Variable { outward, .. } => return Some(Outcome::Value(self.variable(*outward, environment))),
             Kind::Name(name) => return self.name(*name),
-            _ => {}
+            kind => {
+                if let Some(value) = kind.by_the_clock(state.now) {
+                    return Some(Outcome::Value(value));
+                }
+            }
         }
         let item = Item::Place(place, environment);
         if let Some(known) = self.values.get(&item) {
@@ -170,7 +174,7 @@ impl<'a> View<'a> {
                 Outcome::Value(value) => self.place(*body, self.within(&value, environment)),
                 Outcome::Invalid => Some(Outcome::Invalid),
             },
-            Kind::Literal(_) | Kind::Variable { .. } | Kind::Name(_) => unreachable!("evaluated where they stand"),
+            _ => unreachable!("evaluated where they stand"),
         }
     }
 
@@ -232,7 +236,6 @@ impl<'a> View<'a> {
         let state = self.state;
         let here = |place: &usize| Item::Place(*place, environment);
         match &state.places[place].kind {
-            Kind::Literal(_) | Kind::Variable { .. } => Vec::new(),
             Kind::Name(name) => vec![Item::Name(*name)],
             Kind::Application(_, kids) | Kind::Fold(_, _, kids) => kids.iter().map(here).collect(),
             Kind::If { test, yes, no } => {
@@ -256,6 +259,7 @@ impl<'a> View<'a> {
                 }
                 found
             }
+            _ => Vec::new(),
         }
     }
 
@@ -379,7 +383,7 @@ impl<'a> View<'a> {
         let state = self.state;
         let floor = self.floor(place, environment)?;
         let (follows, right) = match &state.places[place].kind {
-            Kind::Literal(_) => return Some(floor),
+            Kind::Literal(_) | Kind::At(_) | Kind::Steps(..) | Kind::Now | Kind::Every { .. } => return Some(floor),
             Kind::Variable { bind, outward } => {
                 let outer = {
                     let environments = self.environments.borrow();

@@ -36,6 +36,8 @@ pub struct Outlook {
     /// The binds whose left was met, and what it gives; whether it is needed.
     lefts: Vec<(usize, Outcome, bool)>,
     deepest: u32,
+    /// How many needed places show something else by the clock than at the stabilize before.
+    turned: u64,
     /// The variables that are needed.
     pub variables: Vec<usize>,
 }
@@ -135,6 +137,7 @@ impl Judge {
             Ok(Some(Command::Show(_))) if given.ends_with(b"= invalid\n") => counts.count(Count::Invalid, 1),
             Ok(Some(Command::Show(_))) => counts.count(Count::Values, 1),
             Ok(Some(Command::Grab(..))) => counts.count(Count::Grabs, 1),
+            Ok(Some(Command::Advance(_) | Command::AdvanceTo(_))) => counts.count(Count::Moves, 1),
             _ => {}
         }
         if let Some(number) = refused_with(given) {
@@ -153,6 +156,7 @@ impl Judge {
         counts.count(Count::PassedAccepted, passes);
         counts.count(Count::GreatestDepth, u64::from(outlook.deepest == GREATEST_DEPTH));
         counts.count(Count::Builds, outlook.builds(&was.state));
+        counts.count(Count::Turned, outlook.turned);
         counts.count(Count::Deaths, (was.state.live.len() - reading.state.live.len()) as u64);
     }
 
@@ -228,6 +232,14 @@ fn look(before: &State, state: &State) -> Outlook {
     let mut outlook = Outlook { circles: circles(&mut view, &met), ..Outlook::default() };
     outlook.variables =
         state.values.keys().copied().filter(|variable| needed.contains(&Item::Name(*variable))).collect();
+    let turned = |item: &&Item| match item {
+        Item::Place(place, _) => {
+            let kind = &state.places[*place].kind;
+            kind.by_the_clock(before.now) != kind.by_the_clock(state.now)
+        }
+        Item::Name(_) => false,
+    };
+    outlook.turned = needed.iter().filter(turned).count() as u64;
     for &item in &met {
         match view.depth(item) {
             Some(depth) if depth > GREATEST_DEPTH => {

@@ -14,7 +14,8 @@ mod values;
 mod writer;
 
 #[cfg(library)]
-#[path = "../../embed/rust/incr.rs"]
+#[cfg_attr(translated, path = "translated.rs")]
+#[cfg_attr(not(translated), path = "../../embed/rust/incr.rs")]
 mod incr;
 #[cfg(library)]
 mod run;

@@ -80,7 +80,7 @@ fn campaign(options: &Options, thread: u64) -> (Counts, u64) {
 fn cut_down(mut script: Vec<String>) -> Vec<String> {
     let mut width = script.len() / 2;
     while width > 0 {
-        let mut from = script.len() - width;
+        let mut from = script.len().saturating_sub(width);
         loop {
             let mut shorter = script.clone();
             shorter.drain(from..(from + width).min(script.len()));

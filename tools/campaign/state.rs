@@ -59,6 +59,29 @@ pub enum Kind {
         left: usize,
         body: usize,
     },
+    At(i64),
+    /// The first value, and the later ones with their times.
+    Steps(Value, Vec<(i64, Value)>),
+    Now,
+    Every {
+        base: i64,
+        span: i64,
+    },
+}
+
+impl Kind {
+    /// What a place shows that reads the clock alone.
+    pub fn by_the_clock(&self, now: i64) -> Option<Value> {
+        Some(match self {
+            Kind::At(time) => Value::Bool(now >= *time),
+            Kind::Steps(first, steps) => {
+                steps.iter().rev().find(|step| step.0 <= now).map_or(first, |step| &step.1).clone()
+            }
+            Kind::Now => Value::Int(now),
+            Kind::Every { base, span } => Value::Int((now - base) / span),
+            _ => return None,
+        })
+    }
 }
 
 #[derive(Clone, PartialEq, Eq)]
@@ -76,6 +99,8 @@ pub struct State {
     /// How many places count against the limit.
     pub counted: usize,
     pub values: BTreeMap<usize, Value>,
+    /// The clock, in nanoseconds.
+    pub now: i64,
     /// The outcomes that each bind of a `let` may have been built for last, `None` for never. There is more than one
     /// where nothing that was printed since tells them apart.
     pub built: BTreeMap<usize, BTreeSet<Option<Outcome>>>,

@@ -17,8 +17,13 @@ pub enum Command {
     Observe(String, String),
     Unobserve(String),
     Show(String),
+    Advance(Time),
+    AdvanceTo(Time),
     Stabilize,
 }
+
+/// A time or a span in nanoseconds, `None` where it is past the greatest.
+pub type Time = Option<i64>;
 
 pub enum Literal {
     Int(i64),
@@ -36,6 +41,29 @@ pub enum Formula {
     Bind(String, Box<[Formula; 2]>),
     Join(Box<Formula>),
     Fold(String, Literal, Vec<Formula>),
+    At(Time),
+    Steps(Literal, Vec<(Time, Literal)>),
+    Now,
+    After(Time),
+    Every(Time),
+}
+
+impl Formula {
+    /// The formulas that it is made of.
+    pub fn kids(&self) -> &[Formula] {
+        match self {
+            Formula::Call(_, kids) | Formula::Fold(_, _, kids) => kids,
+            Formula::If(kids) => kids.as_slice(),
+            Formula::Bind(_, parts) => parts.as_slice(),
+            Formula::Join(kid) => std::slice::from_ref(kid),
+            _ => &[],
+        }
+    }
+
+    /// Whether this formula or one within it is one of some.
+    pub fn holds(&self, is_one: fn(&Formula) -> bool) -> bool {
+        is_one(self) || self.kids().iter().any(|kid| kid.holds(is_one))
+    }
 }
 
 /// The command of a line, `None` for a line that asks for nothing, or the number that it is refused with.
@@ -61,8 +89,8 @@ enum Token {
     Int(String),
     Text(Vec<u8>),
     Sign(u8),
-    /// A time or `advance-to`: tokens, of which no form that is written has one.
-    Other,
+    Time(Time),
+    AdvanceTo,
 }
 
 fn is_letter(byte: u8) -> bool {
@@ -99,7 +127,7 @@ fn token(rest: &[u8]) -> Option<(Token, usize)> {
         first if is_letter(first) => {
             let to = words(0);
             if &rest[..to] == b"advance" && rest[to..].starts_with(b"-to") && words(to + 3) == to + 3 {
-                return Some((Token::Other, to + 3));
+                return Some((Token::AdvanceTo, to + 3));
             }
             Some((Token::Word(spelled(0, to)), to))
         }
@@ -110,12 +138,28 @@ fn token(rest: &[u8]) -> Option<(Token, usize)> {
             match &rest[digits..to] {
                 _ if digits == from => None,
                 b"" => Some((Token::Int(spelled(0, to)), to)),
-                b"ns" | b"us" | b"ms" | b"s" if from == 0 => Some((Token::Other, to)),
+                unit if from == 0 => Some((Token::Time(time(&rest[..digits], nanoseconds(unit)?)), to)),
                 _ => None,
             }
         }
         _ => None,
     }
+}
+
+/// How many nanoseconds a unit has.
+fn nanoseconds(unit: &[u8]) -> Option<i64> {
+    match unit {
+        b"ns" => Some(1),
+        b"us" => Some(1_000),
+        b"ms" => Some(1_000_000),
+        b"s" => Some(1_000_000_000),
+        _ => None,
+    }
+}
+
+fn time(digits: &[u8], unit: i64) -> Time {
+    let number = |so_far: i64, digit: &u8| so_far.checked_mul(10)?.checked_add(i64::from(digit - b'0'));
+    digits.iter().try_fold(0, number)?.checked_mul(unit)
 }
 
 fn quoted(rest: &[u8]) -> Option<(Token, usize)> {
@@ -160,7 +204,11 @@ struct Rest<'a> {
 
 impl Rest<'_> {
     fn command(&mut self) -> Option<Command> {
-        let Token::Word(word) = self.next()? else { return None };
+        let word = match self.next()? {
+            Token::Word(word) => word.clone(),
+            Token::AdvanceTo => return Some(Command::AdvanceTo(self.time()?)),
+            _ => return None,
+        };
         Some(match word.as_str() {
             "var" => Command::Var(self.name()?, self.ty()?, self.literal()?),
             "set" => Command::Set(self.name()?, self.literal()?),
@@ -169,6 +217,7 @@ impl Rest<'_> {
             "observe" => Command::Observe(self.name()?, self.name()?),
             "unobserve" => Command::Unobserve(self.name()?),
             "show" => Command::Show(self.name()?),
+            "advance" => Command::Advance(self.time()?),
             "stabilize" => Command::Stabilize,
             _ => return None,
         })
@@ -218,11 +267,19 @@ impl Rest<'_> {
         })
     }
 
+    fn time(&mut self) -> Option<Time> {
+        match self.next()? {
+            Token::Time(found) => Some(*found),
+            Token::Int(digits) if !digits.starts_with('-') => Some(time(digits.as_bytes(), 1)),
+            _ => None,
+        }
+    }
+
     fn formula(&mut self) -> Option<Formula> {
         let Some(Token::Word(word)) = self.tokens.first() else { return Some(Formula::Literal(self.literal()?)) };
         match word.as_str() {
             "true" | "false" => return Some(Formula::Literal(self.literal()?)),
-            "if" | "bind" | "join" | "fold" => self.next()?,
+            "if" | "bind" | "join" | "fold" | "at" | "steps" | "now" | "after" | "every" => self.next()?,
             _ => {
                 let name = self.name()?;
                 return Some(if self.begins_with(b'(') {
@@ -247,6 +304,17 @@ impl Rest<'_> {
                 self.word("in")?;
                 Formula::Bind(variable, Box::new([left, self.formula()?]))
             }
+            "at" => Formula::At(self.time()?),
+            "now" => Formula::Now,
+            "after" => Formula::After(self.time()?),
+            "every" => Formula::Every(self.time()?),
+            "steps" => {
+                let first = self.literal()?;
+                self.sign(b'[')?;
+                let steps = if self.begins_with(b']') { Vec::new() } else { self.steps()? };
+                self.sign(b']')?;
+                Formula::Steps(first, steps)
+            }
             "join" => {
                 self.sign(b'(')?;
                 let kid = self.formula()?;
@@ -263,6 +331,21 @@ impl Rest<'_> {
                 Formula::Fold(function, first, elements)
             }
         })
+    }
+
+    fn steps(&mut self) -> Option<Vec<(Time, Literal)>> {
+        let mut found = vec![self.step()?];
+        while self.begins_with(b',') {
+            self.next()?;
+            found.push(self.step()?);
+        }
+        Some(found)
+    }
+
+    fn step(&mut self) -> Option<(Time, Literal)> {
+        let time = self.time()?;
+        self.sign(b':')?;
+        Some((time, self.literal()?))
     }
 
     fn arguments(&mut self) -> Option<Vec<Formula>> {

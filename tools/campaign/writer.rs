@@ -1,5 +1,7 @@
 //! Writes the lines of one session at random, one after the other, by what the judge knows of the session.
 
+mod clock;
+
 use crate::judge::{Judge, Outlook};
 use crate::state::{Kind, State};
 use crate::values::{BOOL, Base, FUNCTIONS, INT, Outcome, TEXT, Type, Value, quote};
@@ -66,6 +68,8 @@ pub struct Writer {
     /// Whether the session has chains near the greatest depth, of which these are the last points.
     chains: bool,
     tops: Vec<String>,
+    /// Whether the session reads the clock and moves it.
+    timed: bool,
     /// The variables that the last stabilize needed.
     needed: Vec<usize>,
 }
@@ -85,6 +89,7 @@ impl Writer {
         let size = chance.between(size.min(12), size);
         let rounds = chance.between(size / 2, 4 * size);
         let chains = chance.percent(30);
+        let timed = chance.percent(75);
         let rest = chance.below(4);
         let (planned, tops, needed) = (VecDeque::new(), Vec::new(), Vec::new());
         Writer {
@@ -99,6 +104,7 @@ impl Writer {
             leaves_blocked: true,
             chains,
             tops,
+            timed,
             needed,
         }
     }
@@ -229,6 +235,9 @@ impl Writer {
         if depth == 0 || self.chance.percent(15) {
             return self.leaf(state, ty, variables);
         }
+        if self.timed && self.chance.percent(15) {
+            return self.timed(state, ty);
+        }
         match self.chance.below(10) {
             0 => {
                 let test = self.formula(state, BOOL, depth - 1, variables);
@@ -254,6 +263,7 @@ impl Writer {
         match self.name(state, ty) {
             // (a variable of the same spelling, or of another type, hides the name)
             Some(name) if self.chance.percent(80) && !variables.iter().any(|variable| variable.0 == name) => name,
+            _ if self.timed && self.chance.percent(40) => self.timed(state, ty),
             _ => self.literal(state, ty),
         }
     }
@@ -333,6 +343,14 @@ impl Writer {
             44..=49 if room => self.turned_away(state),
             50..=53 => self.exchange(state),
             54..=58 => self.wrong_line(state),
+            72..=81 if self.timed && room => self.clocked(state),
+            82..=84 if self.timed && room => self.clocked_circle(state),
+            85..=88 if self.timed && room => self.stepped(state),
+            89..=91 if self.timed => {
+                let new = self.fresh("w");
+                let text = self.wrong_time(state, &new);
+                self.plan([line(text)]);
+            }
             59..=66 => self.end_observer(state),
             67..=71 => self.observe(state),
             _ => {}
@@ -342,6 +360,9 @@ impl Writer {
         }
         for _ in 0..*self.chance.pick(&[0, 1, 1, 1, 2, 3]) {
             self.set(state);
+        }
+        if self.timed && self.chance.percent(70) {
+            self.move_clock(state);
         }
         self.plan([Step::Stabilize, Step::Shows]);
     }
@@ -693,7 +714,7 @@ impl Writer {
             11 => format!("let {new} {}", nested(65, &name)),
             12 => format!("# {}", "x".repeat(4096)),
             13 => "   # a note".to_owned(),
-            14 => format!("let {new} at 5s"),
+            14 => format!("let {new} freeze {name} when pos"),
             _ => format!("let {new} bind {name} = {name} in if {name} then 1 else 2"),
         };
         self.plan([line(text)]);
