@@ -45,6 +45,9 @@ refused 5
 refused 5
 refused 5
 refused 5
+refused 14
+refused 5
+refused 14
 refused 7
 refused 7
 refused 7
@@ -61,6 +64,19 @@ refused 6
 refused 6
 refused 6
 refused 6
+refused 6
+refused 6
+refused 16
+refused 16
+refused 16
+refused 17
+refused 18
+refused 16
+refused 16
+ok
+refused 16
+refused 16
+refused 15
 refused 1
 refused 1
 refused 25
