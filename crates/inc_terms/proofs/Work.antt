@@ -43,7 +43,7 @@ module _ (F : Functions) (G : Graph) (died : NodeId → Option NodeId) (observer
       by : HasReason G before v → ⊥
       by (other h) = h (idle.same v d.visit d.met)
       by (stale e) = idle.fresh v.node d.met e
-      by (passed {kid} row among e) = idle.stops kid e
+      by (passed kid row among e) = idle.stops kid e
 
 pub idle_is_free : IdleIsFree
 idle_is_free F G died observers before calls idle work = none work.visits work.due work.enough

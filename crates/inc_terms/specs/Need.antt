@@ -6,6 +6,7 @@ use Rattle.inc_value.specs.declared.node.ObsId.{ObsId}
 use Rattle.inc_value.specs.declared.node.Point.{Point}
 use Rattle.inc_value.specs.declared.value.Value.{Value}
 use Rattle.inc_value.specs.Choice.{Among, Reaches}
+use Rattle.map_nodes.specs.declared.cutoff.Cutoff.{Cutoff}
 use Rattle.inc_terms.specs.Term.{Functions}
 use Rattle.inc_terms.specs.Graph.{Graph, Row, Built, Freeze}
 use Rattle.inc_terms.specs.Evaluate.{Stands}
@@ -19,13 +20,13 @@ pub data Holder : Type 0 where
   Freezing : (freeze : NodeId) → Holder
 
 -- what is kept beside a graph: for which node each holder has put need on, how often a point is linked to another, the arguments on which a
--- node's function was last called, which experts were made stale, and whose cutoff is Never
+-- node's function was last called, which experts were made stale, and each node's cutoff
 pub record Beside : Type 0 where
   pub roots : Holder → Option NodeId
   pub links : Point → Point → ℕ
   pub last : NodeId → Option (List Value)
   pub stale : NodeId → Bool
-  pub never : NodeId → Bool
+  pub cutoff : NodeId → Cutoff
 
 -- the one point is linked to the other
 abbrev pub Linked : Beside → Point → Point → Type 0

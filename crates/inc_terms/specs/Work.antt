@@ -6,6 +6,7 @@ use Rattle.inc_value.specs.declared.node.NodeId.{NodeId}
 use Rattle.inc_value.specs.declared.outcome.Outcome.TheVariants.{Val}
 use Rattle.inc_value.specs.declared.value.Value.{Value}
 use Rattle.inc_value.specs.Choice.{Among, NoRepeats, Every}
+use Rattle.map_nodes.specs.Cutoff.{TellsAgain}
 use Rattle.inc_terms.specs.Term.{Functions}
 use Rattle.inc_terms.specs.Graph.{Graph, Row, Def, Map, Fold, Freeze, Expert}
 use Rattle.inc_terms.specs.Evaluate.{NodeGives, Stands, GiveAll}
@@ -52,11 +53,11 @@ pub record IsVisit (F : Functions) (G : Graph) (v : Visit) : Type 0 where
   pub values : GiveAll F G (kids_of G v.node row.def) v.values
   pub cost : cost_of G v.node row.def ≡ Some v.cost
 
--- why a visit counts: its node was last called on other values or never, or it was made stale, or a child's cutoff is Never
+-- why a visit counts: its node was last called on other values or never, or it was made stale, or a child tells even of an outcome that stays
 pub data HasReason (G : Graph) (before : Beside) (v : Visit) : Type 0 where
   other : (before.last v.node ≡ Some v.values → ⊥) → HasReason G before v
   stale : before.stale v.node ≡ true → HasReason G before v
-  passed : {r : Row} {kid : NodeId} → G.row v.node ≡ Some r → Among kid (kids_of G v.node r.def) → before.never kid ≡ true → HasReason G before v
+  passed : {r : Row} (kid : NodeId) → G.row v.node ≡ Some r → Among kid (kids_of G v.node r.def) → TellsAgain (before.cutoff kid) → HasReason G before v
 
 -- a visit that is met and has a reason, in the graph as a call leaves it, by what stood beside it before
 pub record IsDueVisit (F : Functions) (G : Graph) (died : NodeId → Option NodeId) (observers : List Observed)
@@ -91,7 +92,7 @@ pub record IsIdle (F : Functions) (G : Graph) (died : NodeId → Option NodeId) 
   pub same : (v : Visit) → IsVisit F G v → Met F G died (nodes_of observers) (Held before observers) (main v.node)
       → before.last v.node ≡ Some v.values
   pub fresh : (n : NodeId) → Met F G died (nodes_of observers) (Held before observers) (main n) → before.stale n ≡ true → ⊥
-  pub stops : (n : NodeId) → before.never n ≡ true → ⊥
+  pub stops : (n : NodeId) → TellsAgain (before.cutoff n) → ⊥
 
 -- where nothing is to do no call is within the work
 abbrev pub IdleIsFree : Type 0

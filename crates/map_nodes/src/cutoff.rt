@@ -1,5 +1,5 @@
 //! Where a change of a node's outcome ends.
-ghost use Rattle.std.specs.Prelude.{◌↔◌, IsTrue};
+ghost use Rattle.std.specs.Prelude.{◌↔◌, IsTrue, Some};
 ghost use Rattle.map_nodes.specs.Cutoff.{IsStopped};
 
 use inc_value::Outcome;
@@ -15,7 +15,7 @@ pub enum Cutoff {
 
 /// Whether a node's readers needn't be told of its new outcome.
 pub fn stops(cutoff: Cutoff, old: &Outcome, new: &Outcome) -> bool
-    ensures { IsTrue result ↔ IsStopped cutoff old.now new.now }
+    ensures { IsTrue result ↔ IsStopped cutoff (Some old.now) new.now }
 {
     match cutoff {
         Cutoff::Equal => old.same(new),

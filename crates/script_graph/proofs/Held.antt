@@ -166,7 +166,7 @@ module _ {A : Type 0} where
         }) p need
 
     pub stood_beside : StoodBeside (side_of g) (look g) (observed_by g)
-    stood_beside = record { held = needed_held; last = λ n. refl; never = λ n. refl }
+    stood_beside = record { held = needed_held; last = λ n. refl; cutoff = λ n. refl }
 
   -- of fewer roots and links less is held
   module _ (g g' : GraphView A) (rooted : (o : ObsId) (n : NodeId) → rooted_at g' o ≡ Some n → rooted_at g o ≡ Some n)

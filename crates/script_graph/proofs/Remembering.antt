@@ -1,5 +1,5 @@
 -- What a session keeps of the last accepted stabilize is what the laws of calls ask for.
-use Rattle.std.proofs.Common.{◌≡◌, ◌⊎◌, inl, inr, ℕ, zero, suc, ◌≤◌, true, List, [], ◌∷◌, map, length, Option, None, Some, IsSome, refl, ap, sym, subst, ◌∙◌, arith, slice_get}
+use Rattle.std.proofs.Common.{◌≡◌, ◌⊎◌, inl, inr, ℕ, zero, suc, ◌≤◌, List, [], ◌∷◌, map, length, Option, None, Some, IsSome, refl, ap, sym, subst, ◌∙◌, arith, slice_get}
 use Rattle.inc_value.specs.Choice.{Among, Every as Each, and_then}
 use Rattle.inc_value.specs.declared.function.FnRef.{FnRef}
 use Rattle.inc_value.specs.declared.node.NodeId.{NodeId}
@@ -16,10 +16,8 @@ use Rattle.stabilizer.specs.Left.{StoodBeside, IsMetIn}
 use Rattle.graph.specs.Sound.{IsWhole}
 use Rattle.graph.specs.Stabilizes.{left_by, died_by}
 use Rattle.graph.specs.Standing.{look, GraphView, graph, in_use, node_at, IsNeeded, cutoff_of}
-use Rattle.map_nodes.specs.declared.cutoff.Cutoff.{Cutoff}
-use Rattle.map_nodes.specs.declared.cutoff.Cutoff.TheVariants.{Equal, Never}
+use Rattle.map_nodes.proofs.Stopping.{equal_stops}
 use Rattle.node_arena.specs.Arena.{row_at}
-use Rattle.node_outcomes.specs.Row.{is_never}
 use Rattle.script_model.specs.Formula.{State, Entry, Body, Formula, Observer, Meanings, meanings_of, body_at, entry_at, formula_of_body, Variable, Computed, After, Every, Grab}
 use Rattle.script_model.specs.Need.{Named, Met, WithinWork, formula_at, part_of, own_roots, roots}
 use Rattle.script_model.specs.Step.{Moment}
@@ -96,10 +94,6 @@ met_more : (M : Functions) (G : Graph) (died : NodeId → Option NodeId) (observ
     → ((p : Point) → held p → more p) → (p : Point) → GraphMet M G died observed held p → GraphMet M G died observed more p
 met_more M G died observed held more all p (from_root root on) = from_root root on
 met_more M G died observed held more all p (from_held {h} was row stands on) = from_held (all h was) row stands on
-
-not_never : (c : Cutoff) → c ≡ Equal → is_never c ≡ true → ⊥
-not_never Equal e never = cc
-not_never Never e never = cc
 
 module _ (named : List ℕ → Option FnRef) (value : FnRef → List GraphValue → GraphValue) (m : Moment) (k : Kept) (g : GraphView (Unit {0}))
     (stands : Stands (meanings_of named value) k m) (unbroken : m.broken ≡ None) (c : IsStabilize (meanings_of named value) m.present k g)
@@ -220,7 +214,7 @@ module _ (named : List ℕ → Option FnRef) (value : FnRef → List GraphValue 
     links = st.links;
     last = last;
     marks = marks;
-    cutoffs = λ n never. not_never (cutoff_of k.graph n) (st.today.equal n) never;
+    cutoffs = λ n tells. equal_stops (cutoff_of k.graph n) (st.today.equal n) tells;
   }
 
   -- ---- what is met, and which calls are due

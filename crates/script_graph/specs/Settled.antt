@@ -8,7 +8,6 @@ use Rattle.inc_terms.specs.Need.{Beside, Holder, Observing, Freezing, Observed}
 use Rattle.inc_terms.specs.Within.{Given}
 use Rattle.graph.specs.Standing.{GraphView, called_last, cutoff_of, graph, times_linked}
 use Rattle.graph.specs.declared.observer.Observer.{Observer as Looking}
-use Rattle.node_outcomes.specs.Row.{is_never}
 use Rattle.script_model.specs.Formula.{State, Entry, Observer, Meanings, entry_at}
 use Rattle.script_model.specs.Need.{Named, Needed, Visit, IsVisit, roots}
 use Rattle.script_graph.specs.Kept.{Kept, arena_of, node_in}
@@ -36,15 +35,14 @@ module _ {A : Type 0} where
   root_of g (Observing o) = rooted_at g o
   root_of g (Freezing n) = frozen_root n
 
-  -- what stands beside the graph: need of the observers that the last accepted stabilize saw, the links and last calls since, and who has cutoff
-  -- Never
+  -- what stands beside the graph: need of the observers that the last accepted stabilize saw, the links and last calls since, and cutoffs
   abbrev pub side_of : GraphView A → Beside
   side_of g = record {
     roots = root_of g;
     links = λ p q. times_linked g p q;
     last = λ n. arguments_of (called_last g n);
     stale = none_stale;
-    never = λ n. is_never (cutoff_of g n);
+    cutoff = λ n. cutoff_of g n;
   }
 
   -- the observers in use

@@ -13,6 +13,7 @@ use Rattle.inc_terms.specs.Evaluate.{GiveAll}
 use Rattle.inc_terms.specs.Local.{Sees}
 use Rattle.inc_terms.specs.Need.{Beside, Observed, nodes_of, Held, Met, from_root, from_held}
 use Rattle.inc_terms.specs.Plan.{gate_of}
+use Rattle.map_nodes.specs.Cutoff.{TellsAgain}
 use Rattle.inc_terms.specs.Work.{Visit, HasReason, other, stale, passed, IsDueVisit}
 use Rattle.inc_terms.proofs.Local.{main_sees}
 use Rattle.inc_terms.proofs.Plan.{among_left, among_right}
@@ -66,10 +67,10 @@ module _ (F : Functions) (z : Start) (t : State) (inv : Invariant F z t) (before
   unfolding visit_of
   reason_of n c = by_reason c.reason
     where
-      by_reason : Reason z.last z.never t.settled z.stale n c.kids c.values → HasReason t.graph before (visit_of n c)
+      by_reason : Reason z.last z.cutoff t.settled z.stale n c.kids c.values → HasReason t.graph before (visit_of n c)
       by_reason (reason.other differs) = other (λ last. other_arguments n c differs (z.last n) refl last)
-      by_reason (reason.forced {kid} a never st) = passed {r = c.row} {kid = kid} c.is_row
-          (subst (λ (ks : List NodeId). Among kid ks) (sym (kids_taken t.graph n c.row.def c.kids c.takes)) a) (from.never kid ∙ never)
+      by_reason (reason.forced {kid} a tells st) = passed {r = c.row} kid c.is_row
+          (subst (λ (ks : List NodeId). Among kid ks) (sym (kids_taken t.graph n c.row.def c.kids c.takes)) a) (subst TellsAgain (sym (from.cutoff kid)) tells)
       by_reason (reason.made_stale st) = stale (from.stale n ∙ st)
 
   due : (n : NodeId) (c : Called n) → IsDueVisit F t.graph t.died observers before (visit_of n c)

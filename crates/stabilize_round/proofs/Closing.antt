@@ -293,7 +293,7 @@ module _ (F : Functions) (z : Start) (t : State) (inv : Invariant F z t) (quiet 
     last = λ n. refl;
     calls = refl;
     answers = answers_next;
-    never = λ n. refl;
+    cutoff = λ n. refl;
     stale = λ n. refl;
     unfired = unfired_next;
   }
@@ -356,14 +356,14 @@ given_again F z t observed root' links' needed' done g close = record {
   needed = λ p h. g.needed p (close.was p h);
   rooted = λ p h. g.rooted p (let x = close.fewer p in omega arith);
   last = g.last;
-  never = g.never;
+  cutoff = g.cutoff;
   stale = g.stale;
   start = record {
     knows = refl;
     names = refl;
     held = λ p h. g.needed p (close.was p h);
     last = g.last;
-    never = g.never;
+    cutoff = g.cutoff;
     stale = g.stale;
   };
 }

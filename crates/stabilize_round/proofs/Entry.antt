@@ -59,7 +59,7 @@ module _ (F : Functions) (z : Start) (s : State) (entry : Entry F z s) where
       kept = λ n r row h. inl (sym (entry.last n));
       count = rw (entry.ran, entry.calls) none_yet;
       answers = entry.answers;
-      cutoffs = λ n. sym (entry.never n);
+      cutoffs = λ n. sym (entry.cutoff n);
       marked = λ n h. sym (entry.stale n);
       unmarked = λ n h. not_settled (main n) h;
       renewed = λ n r kids values st h row takes gives some. not_settled (main n) h;

@@ -25,7 +25,7 @@ later_start known ids count later z le start = record {
   names = start.names;
   held = λ p h. let g = start.held p h in omega arith;
   last = λ n new. start.last n (omega arith);
-  never = λ n new. start.never n (omega arith);
+  cutoff = λ n new. start.cutoff n (omega arith);
   stale = λ n new. start.stale n (omega arith);
 }
 
@@ -75,23 +75,23 @@ module _ (F : Functions) (z : Start) (s : State) (g : AllGiven F z s) where
         needed = λ p h. later_point s.given made.given p le (g.needed p h);
         rooted = λ p h. later_point s.given made.given p le (g.rooted p h);
         last = λ n new. move.beside.new_last n (omega arith);
-        never = λ n new. g.never n (omega arith);
+        cutoff = λ n new. g.cutoff n (omega arith);
         stale = λ n new. g.stale n (omega arith);
         start = later_start z.known z.ids s.given made.given z le g.start;
       }
 
-  same : (t u : State) → t ≡ u → u.graph ≡ s.graph → u.given ≡ s.given → u.died ≡ s.died → u.never ≡ s.never
+  same : (t u : State) → t ≡ u → u.graph ≡ s.graph → u.given ≡ s.given → u.died ≡ s.died → u.cutoff ≡ s.cutoff
       → ((n : NodeId) → s.given ≤ n.gen_ → u.stale n ≡ false)
       → ((n : NodeId) → s.given ≤ n.gen_ → u.last n ≡ None)
       → ((p : Point) → u.needed p ≡ true → Given s.given p.node) → ((p : Point) → 0 < u.root p → Given s.given p.node) → AllGiven F z t
-  same t u e graph given died never marks lasts need roots = at t u e (rw (graph, given, died, never) (record {
+  same t u e graph given died cutoff marks lasts need roots = at t u e (rw (graph, given, died, cutoff) (record {
     laws = g.laws;
     names = g.names;
     keeps = g.keeps;
     needed = need;
     rooted = roots;
     last = lasts;
-    never = g.never;
+    cutoff = g.cutoff;
     stale = marks;
     start = g.start;
   }))

@@ -9,6 +9,7 @@ use Rattle.inc_value.specs.declared.outcome.Outcome.{Outcome}
 use Rattle.inc_value.specs.declared.outcome.Outcome.TheVariants.{Val, Invalid}
 use Rattle.inc_value.specs.declared.value.Value.{Value}
 use Rattle.inc_value.specs.Choice.{Among, here}
+use Rattle.map_nodes.proofs.Stopping.{stopped_same}
 use Rattle.inc_terms.specs.Term.{Functions, refs}
 use Rattle.inc_terms.specs.Graph.{Graph, Row}
 use Rattle.inc_terms.specs.Evaluate.{Gathered, Unknown, SomeInvalid, Values, gathered, GiveAll, Stands}
@@ -315,7 +316,7 @@ module _ (F : Functions) (z : Start) (s : State) (inv : Invariant F z s) (quiet 
       by_out : Linked s q (main n) → (s.out (main n) ≡ Some o) ⊎ (s.out (main n) ≡ Some o → ⊥) → (heap' q ≡ true)
           ⊎ (at_point (main n) true s.settled q ≡ true) ⊎ IsRight F after q
       by_out l (inl e) = inr (inr (keeps (λ m a. same_out e m)))
-      by_out l (inr other) = elim (move.heap.told q (l, inl other)) [ inl h ↦ inl h | inr st ↦ inr (inl (settled_more q st)) ]
+      by_out l (inr other) = elim (move.heap.told q (l, λ stopped. other (stopped_same (s.cutoff n) (s.out (main n)) o stopped))) [ inl h ↦ inl h | inr st ↦ inr (inl (settled_more q st)) ]
 
       by_count : (k : ℕ) → s.links q (main n) ≡ k → (heap' q ≡ true) ⊎ (at_point (main n) true s.settled q ≡ true) ⊎ IsRight F after q
       by_count zero e = inr (inr (keeps (λ m among. elim (same_or_other (main n) m) [
@@ -455,7 +456,7 @@ module _ (F : Functions) (z : Start) (s : State) (inv : Invariant F z s) (quiet 
   ]
 
   abbrev AccountsWith : List NodeId → Type 0
-  AccountsWith ns = AccountsOf F z G s.died s.root (at_point (main n) true s.settled) (at_node n last' s.last) s.never (at_node n false s.stale) ns calls'
+  AccountsWith ns = AccountsOf F z G s.died s.root (at_point (main n) true s.settled) (at_node n last' s.last) s.cutoff (at_node n false s.stale) ns calls'
 
   -- the function wasn't called
   uncalled : called ≡ false → Calls F s n move.row.def last' false → AccountsWith s.ran

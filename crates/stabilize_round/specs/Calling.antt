@@ -5,6 +5,8 @@ use Rattle.inc_value.specs.declared.node.NodeId.{NodeId}
 use Rattle.inc_value.specs.declared.value.Value.{Value}
 use Rattle.inc_value.specs.declared.node.Point.{Point}
 use Rattle.inc_value.specs.Choice.{Among}
+use Rattle.map_nodes.specs.Cutoff.{TellsAgain}
+use Rattle.map_nodes.specs.declared.cutoff.Cutoff.{Cutoff}
 use Rattle.inc_terms.specs.Term.{Functions}
 use Rattle.inc_terms.specs.Graph.{Graph, Row, Def, Map, Fold, Freeze, Expert}
 use Rattle.inc_terms.specs.Depend.{main}
@@ -12,13 +14,13 @@ use Rattle.inc_terms.specs.Evaluate.{folded}
 use Rattle.inc_terms.specs.Work.{cost_of}
 use Rattle.stabilize_round.specs.State.{Call}
 
--- why a node's function is called on the values of its children: it wasn't last called on these; a child whose cutoff is Never was settled; or it was
--- made stale
-pub data Reason (last : NodeId → Option Call) (never : NodeId → Bool) (settled : Point → Bool) (stale : NodeId → Bool) (n : NodeId)
+-- why a node's function is called on the values of its children: it wasn't last called on these; a child was settled that tells even of an
+-- outcome that stays; or it was made stale
+pub data Reason (last : NodeId → Option Call) (cutoff : NodeId → Cutoff) (settled : Point → Bool) (stale : NodeId → Bool) (n : NodeId)
     (kids : List NodeId) (values : List Value) : Type 0 where
-  other : ((c : Call) → last n ≡ Some c → c.arguments ≡ values → ⊥) → Reason last never settled stale n kids values
-  forced : {kid : NodeId} → Among kid kids → never kid ≡ true → settled (main kid) ≡ true → Reason last never settled stale n kids values
-  made_stale : stale n ≡ true → Reason last never settled stale n kids values
+  other : ((c : Call) → last n ≡ Some c → c.arguments ≡ values → ⊥) → Reason last cutoff settled stale n kids values
+  forced : {kid : NodeId} → Among kid kids → TellsAgain (cutoff kid) → settled (main kid) ≡ true → Reason last cutoff settled stale n kids values
+  made_stale : stale n ≡ true → Reason last cutoff settled stale n kids values
 
 -- what the calls give on these values: a map and a freeze's predicate are called on all of them, a fold and an expert on each in turn
 abbrev pub IsAnswer : Functions → Def → List Value → Value → Type 0

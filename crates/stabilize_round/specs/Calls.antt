@@ -22,12 +22,12 @@ abbrev pub arguments_of : Option Call → Option (List Value)
 arguments_of None = None
 arguments_of (Some c) = Some c.arguments
 
--- a round begins with what stood beside the graph: what is held for it was held there, last calls have the arguments that are kept there, and the nodes
--- of cutoff Never, and those that were made stale, are the same
+-- a round begins with what stood beside the graph: what is held for it was held there, last calls have the arguments that are kept there, and cutoffs,
+-- and the nodes that were made stale, are the same
 pub record BeginsFrom (z : Start) (before : Beside) (observers : List Observed) : Type 0 where
   pub held : (p : Point) → z.held p ≡ true → Held before observers p
   pub last : (n : NodeId) → before.last n ≡ arguments_of (z.last n)
-  pub never : (n : NodeId) → before.never n ≡ z.never n
+  pub cutoff : (n : NodeId) → before.cutoff n ≡ z.cutoff n
   pub stale : (n : NodeId) → before.stale n ≡ z.stale n
 
 -- whatever was called so far is within the work
@@ -44,7 +44,7 @@ pub record WasDue (F : Functions) (z : Start) (G : Graph) (died : NodeId → Opt
   pub is_row : G.row n ≡ Some row
   pub takes : taken_by G n row.def ≡ Some kids
   pub gives : GiveAll F G kids values
-  pub reason : Reason z.last z.never settled z.stale n kids values
+  pub reason : Reason z.last z.cutoff settled z.stale n kids values
   pub met : MetNow F z G died root (main n)
 
 -- where a refused round stops, the count of calls rose by at most what it takes to compute each of some nodes once, whose functions were due

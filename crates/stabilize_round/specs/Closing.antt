@@ -54,6 +54,6 @@ next_start z t needed' = record {
   calls = t.calls;
   known = z.known;
   ids = z.ids;
-  never = t.never;
+  cutoff = t.cutoff;
   stale = t.stale;
 }

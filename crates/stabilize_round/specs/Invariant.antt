@@ -7,6 +7,7 @@ use Rattle.inc_value.specs.declared.node.Point.{Point}
 use Rattle.inc_value.specs.declared.outcome.Outcome.{Outcome}
 use Rattle.inc_value.specs.declared.value.Value.{Value}
 use Rattle.inc_value.specs.Choice.{Among, NoRepeats, Reaches}
+use Rattle.map_nodes.specs.declared.cutoff.Cutoff.{Cutoff}
 use Rattle.inc_terms.specs.Term.{Functions, refs}
 use Rattle.inc_terms.specs.Graph.{Graph, Row, Built, Bind}
 use Rattle.inc_terms.specs.Evaluate.{Values, gathered, GiveAll, Stands}
@@ -168,14 +169,14 @@ pub record HasCalled (F : Functions) (z : Start) (G : Graph) (died : NodeId → 
   pub gives : GiveAll F G kids values
   pub is_last : last n ≡ Some (record { arguments = values; result = result })
   pub answers : IsAnswer F row.def values result
-  pub reason : Reason z.last z.never settled z.stale n kids values
+  pub reason : Reason z.last z.cutoff settled z.stale n kids values
 
 -- each function was called for a node once at most, with one call at least; for others their last calls stay, but for a node that takes no call: a fold
 -- of no nodes keeps that it was computed on none. What calls gave is what the function gives; cutoffs stay; a node is marked stale until its main is
 -- settled, and then its function was called where its children give values and it takes a call; no freeze fires by what it was last called on when the
 -- round began
 pub record AccountsOf (F : Functions) (z : Start) (G : Graph) (died : NodeId → Option NodeId) (root : Point → ℕ) (settled : Point → Bool)
-    (last : NodeId → Option Call) (never stale : NodeId → Bool) (ran : List NodeId) (calls : ℕ) : Type 0 where
+    (last : NodeId → Option Call) (cutoff : NodeId → Cutoff) (stale : NodeId → Bool) (ran : List NodeId) (calls : ℕ) : Type 0 where
   pub once : NoRepeats ran
   pub called : (n : NodeId) → Among n ran → HasCalled F z G died root settled last n
   pub costs : (n : NodeId) → Among n ran → 0 < cost_at G n
@@ -184,7 +185,7 @@ pub record AccountsOf (F : Functions) (z : Start) (G : Graph) (died : NodeId →
   pub count : RoseBy z.calls (costs_of G ran) calls
   pub answers : (n : NodeId) (r : Row) (kids : List NodeId) (c : Call) → G.row n ≡ Some r → taken_by G n r.def ≡ Some kids → last n ≡ Some c
       → IsAnswer F r.def c.arguments c.result
-  pub cutoffs : (n : NodeId) → never n ≡ z.never n
+  pub cutoffs : (n : NodeId) → cutoff n ≡ z.cutoff n
   pub marked : (n : NodeId) → settled (main n) ≡ false → stale n ≡ z.stale n
   pub unmarked : (n : NodeId) → settled (main n) ≡ true → stale n ≡ false
   pub renewed : (n : NodeId) (r : Row) (kids : List NodeId) (values : List Value) → z.stale n ≡ true → settled (main n) ≡ true
@@ -193,7 +194,7 @@ pub record AccountsOf (F : Functions) (z : Start) (G : Graph) (died : NodeId →
 
 -- those of a state
 abbrev pub Accounts : Functions → Start → State → Type 0
-Accounts F z s = AccountsOf F z s.graph s.died s.root s.settled s.last s.never s.stale s.ran s.calls
+Accounts F z s = AccountsOf F z s.graph s.died s.root s.settled s.last s.cutoff s.stale s.ran s.calls
 
 -- ---- all
 

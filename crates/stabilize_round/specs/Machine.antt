@@ -43,7 +43,7 @@ pub record Entry (F : Functions) (z : Start) (s : State) : Type 0 where
   pub held : (p : Point) → z.held p ≡ s.needed p
   pub last : (n : NodeId) → z.last n ≡ s.last n
   pub calls : z.calls ≡ s.calls
-  pub never : (n : NodeId) → z.never n ≡ s.never n
+  pub cutoff : (n : NodeId) → z.cutoff n ≡ s.cutoff n
   pub stale : (n : NodeId) → z.stale n ≡ s.stale n
   pub answers : (n : NodeId) (r : Row) (kids : List NodeId) (c : Call) → s.graph.row n ≡ Some r → taken_by s.graph n r.def ≡ Some kids
       → s.last n ≡ Some c

@@ -4,6 +4,7 @@ use Rattle.inc_value.specs.declared.node.NodeId.{NodeId}
 use Rattle.inc_value.specs.declared.node.Point.{Point}
 use Rattle.inc_value.specs.declared.outcome.Outcome.{Outcome}
 use Rattle.inc_value.specs.declared.value.Value.{Value}
+use Rattle.map_nodes.specs.Cutoff.{IsStopped}
 use Rattle.inc_terms.specs.Term.{Functions, refs}
 use Rattle.inc_terms.specs.Graph.{Row, Def}
 use Rattle.inc_terms.specs.Evaluate.{gathered, Values}
@@ -35,18 +36,18 @@ pub record CallIsDue (s : State) (n : NodeId) (def : Def) : Type 0 where
   pub values : List Value
   pub takes : taken_by s.graph n def ≡ Some kids
   pub shows : gathered (by_sight (shown s.graph s.out)) (refs kids) ≡ Values values
-  pub reason : Reason s.last s.never s.settled s.stale n kids values
+  pub reason : Reason s.last s.cutoff s.settled s.stale n kids values
 
 -- what a node's function was last called on, after its main was computed anew: it was called, with a reason, or that stays
 abbrev pub Calls : Functions → State → NodeId → Def → Option Call → Bool → Type 0
 Calls F s n def last' false = (last' ≡ s.last n)
     × ((kids : List NodeId) (values : List Value) → taken_by s.graph n def ≡ Some kids
     → gathered (by_sight (shown s.graph s.out)) (refs kids) ≡ Values values → (c : Call) × (s.last n ≡ Some c) × (c.arguments ≡ values)
-    × (Reason s.last s.never s.settled s.stale n kids values → ⊥))
+    × (Reason s.last s.cutoff s.settled s.stale n kids values → ⊥))
 Calls F s n def last' true =
     (kids : List NodeId) × (values : List Value) × (result : Value) × (taken_by s.graph n def ≡ Some kids)
     × (gathered (by_sight (shown s.graph s.out)) (refs kids) ≡ Values values)
-    × Reason s.last s.never s.settled s.stale n kids values
+    × Reason s.last s.cutoff s.settled s.stale n kids values
     × (last' ≡ Some (record { arguments = values; result = result }))
     × IsAnswer F def values result
 
@@ -73,7 +74,7 @@ computed s n o heap' last' called calls' = record s {
   stale = at_node n false s.stale;
 }
 
--- the main that is taken gets its own function of what it sees; its readers are told where its outcome is another than before, or its cutoff is Never
+-- the main that is taken gets its own function of what it sees; its readers are told of an outcome that its cutoff doesn't stop
 pub record StepMain (F : Functions) (s : State) (n : NodeId) (o : Outcome) (heap' : Point → Bool) (last' : Option Call) (called : Bool)
     (calls' : ℕ) : Type 0 where
   pub row : Row
@@ -83,7 +84,7 @@ pub record StepMain (F : Functions) (s : State) (n : NodeId) (o : Outcome) (heap
   pub calls : Calls F s n row.def last' called
   pub count : RoseBy s.calls (calls_of called (cost_at s.graph n)) calls'
   pub heap : Enqueues s (at_point (main n) false s.heap) heap' (λ (q : Point). Linked s q (main n))
-      (λ (q : Point). Linked s q (main n) × ((s.out (main n) ≡ Some o → ⊥) ⊎ (s.never n ≡ true)))
+      (λ (q : Point). Linked s q (main n) × (IsStopped (s.cutoff n) (s.out (main n)) o → ⊥))
 
 -- ---- a change
 

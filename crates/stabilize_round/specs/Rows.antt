@@ -4,6 +4,7 @@ use Rattle.inc_value.specs.declared.node.NodeId.{NodeId}
 use Rattle.inc_value.specs.declared.outcome.Outcome.TheVariants.{Val}
 use Rattle.inc_value.specs.declared.ty.Ty.TheVariants as ty
 use Rattle.inc_value.specs.declared.value.Value.TheVariants.{Int}
+use Rattle.map_nodes.specs.declared.cutoff.Cutoff.TheVariants.{Equal}
 use Rattle.inc_terms.specs.Term.{Functions}
 use Rattle.inc_terms.specs.Graph.{Row, Const}
 use Rattle.inc_terms.specs.Depend.{main, none_died}
@@ -42,13 +43,13 @@ empty_state = record {
   builds = 0;
   adds = 0;
   given = 1;
-  never = λ n. false;
+  cutoff = λ n. Equal;
   stale = λ n. false;
 }
 
 -- what the round begins with
 abbrev pub empty_start : Start
-empty_start = record { held = λ p. false; last = λ n. None; calls = 0; known = λ f. false; ids = λ f. []; never = λ n. false; stale = λ n. false }
+empty_start = record { held = λ p. false; last = λ n. None; calls = 0; known = λ f. false; ids = λ f. []; cutoff = λ n. Equal; stale = λ n. false }
 
 -- a round begins there, and some moves lead to a state in which the node is needed and shows 3
 abbrev pub ConstantWorks : Type 0

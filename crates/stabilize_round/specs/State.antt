@@ -8,6 +8,7 @@ use Rattle.inc_value.specs.declared.node.Point.{Point}
 use Rattle.inc_value.specs.declared.outcome.Outcome.{Outcome}
 use Rattle.inc_value.specs.declared.value.Value.{Value}
 use Rattle.inc_value.specs.Choice.{Reaches}
+use Rattle.map_nodes.specs.declared.cutoff.Cutoff.{Cutoff}
 use Rattle.inc_terms.specs.Same.{same_node}
 use Rattle.inc_terms.specs.Graph.{Graph, Row}
 use Rattle.inc_terms.specs.Depend.{fixed_reads}
@@ -60,8 +61,8 @@ all_retries = 1024
 -- heap, whether it was settled in the round, its stage, the links that it is yet to be given, and whether it is in the worklist; per node its
 -- last call; the point that was settled last; how often refused links may still be tried again in the round: where never, the round is strict, and
 -- refusals are final; the nodes that died in the round, with their scopes;
--- the nodes whose functions were called in it; the counts of calls, of builds, of nodes that were added, and of ids that were given; the nodes
--- whose outcomes are told to their readers even where they stay: those of cutoff Never; and the experts that were made stale and didn't run since
+-- the nodes whose functions were called in it; the counts of calls, of builds, of nodes that were added, and of ids that were given; each node's cutoff;
+-- and the experts that were made stale and didn't run since
 pub record State : Type 0 where
   pub graph : Graph
   pub out : Point → Option Outcome
@@ -83,18 +84,18 @@ pub record State : Type 0 where
   pub builds : ℕ
   pub adds : ℕ
   pub given : ℕ
-  pub never : NodeId → Bool
+  pub cutoff : NodeId → Cutoff
   pub stale : NodeId → Bool
 
--- what a round began with: what was held, last calls, the count of calls; the functions that are known, with the nodes that each may name; the
--- nodes of cutoff Never; and the experts that were made stale
+-- what a round began with: what was held, last calls, the count of calls; the functions that are known, with the nodes that each may name; each
+-- node's cutoff; and the experts that were made stale
 pub record Start : Type 0 where
   pub held : Point → Bool
   pub last : NodeId → Option Call
   pub calls : ℕ
   pub known : FnRef → Bool
   pub ids : FnRef → List NodeId
-  pub never : NodeId → Bool
+  pub cutoff : NodeId → Cutoff
   pub stale : NodeId → Bool
 
 -- linked at least once

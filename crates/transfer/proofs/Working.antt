@@ -157,7 +157,7 @@ module _ (x then : Both) (beside : Beside) (observers : List Observed) (r : Reme
       let kept = r.last w is needed in
       let there = same_node w.item w is.0 needed is.1 kept.0 v.node kept.1 node in
       r.marks w v.node is needed (rw there at kept.1) marked stamp
-  anew v w is needed node stamp same (passed {kid} row among cutoff) = r.cutoffs kid cutoff
+  anew v w is needed node stamp same (passed kid row among cutoff) = r.cutoffs kid cutoff
 
   -- a visit that is due is a call that ran anew
   abbrev ran : (v : work.Visit) → Due v → Ran then x.state v.node

@@ -3,6 +3,7 @@ use Rattle.std.specs.Prelude.{◌≡◌, ◌⊎◌, ℕ, true, List, [], map, No
 use Rattle.inc_value.specs.declared.node.NodeId.{NodeId}
 use Rattle.inc_value.specs.declared.node.Point.{Point}
 use Rattle.inc_value.specs.Choice.{Among}
+use Rattle.map_nodes.specs.Cutoff.{TellsAgain}
 use Rattle.inc_terms.specs.Depend.{Depends, none_died}
 use Rattle.inc_terms.specs.Graph.{Graph, Row, Built}
 use Rattle.inc_terms.specs.Need.{Beside, Holder, Observed, Linked, Held as GraphHeld, StillHolds}
@@ -74,4 +75,4 @@ pub record Remembers (x then : Both) (beside : Beside) (observers : List Observe
   pub links : LinksDepend x beside observers
   pub last : LastKept x beside
   pub marks : MarksAreNew x then beside
-  pub cutoffs : (n : NodeId) → beside.never n ≡ true → ⊥
+  pub cutoffs : (n : NodeId) → TellsAgain (beside.cutoff n) → ⊥

@@ -29,13 +29,6 @@ pub record TermsStay (x : Both) (H : Functions) (Q : FnKind → FnRef → Type 0
   pub within : (f : FnRef) (v : GraphValue) → Q kind.Rhs f → TermWithin AnyNode Q (x.functions.term f v)
   pub rows : (n : NodeId) (r : Row) → x.graph.row n ≡ Some r → TermWithin AnyNode Q (present x.graph n r)
 
--- two graphs have the same at a node
-pub record SameAt (G G' : Graph) (n : NodeId) : Type 0 where
-  pub row : G'.row n ≡ G.row n
-  pub built : G'.built n ≡ G.built n
-  pub frozen : G'.frozen n ≡ G.frozen n
-  pub lists : G'.lists n ≡ G.lists n
-
 -- rows that a formula may have stay
 abbrev pub RowsStay : Graph → Graph → Type 0
 RowsStay G G' = (n : NodeId) (r : Row) (u : Term) → G.row n ≡ Some r → plain r.def ≡ Some u → G'.row n ≡ Some r
