@@ -134,7 +134,7 @@ module _ (rows : Rows Progress) where
   filter_is_values (n ∷ ns) [] h = absurd h
   filter_is_values (n ∷ ns) (v ∷ vs) h = rw (h.0, filter_is_values ns vs h.1) refl
 
-  filter_is_shown : (nodes : List NodeId) → AllShow rows nodes → AllZip (ShowsValue rows) nodes (filter_map (value_shown rows) nodes)
+  pub filter_is_shown : (nodes : List NodeId) → AllShow rows nodes → AllZip (ShowsValue rows) nodes (filter_map (value_shown rows) nodes)
   filter_is_shown nodes all =
       let w = values_of_all nodes all in
       subst (λ (vs : List Value). AllZip (ShowsValue rows) nodes vs) (sym (filter_is_values nodes w.0 w.1)) w.1
@@ -455,6 +455,15 @@ module _ (F : Functions) (arena : Arena) (roots : Rows NodeId) (round : ℕ) (ol
         within = subst (NamesGiven arena.given) h (sound.names n row is_row);
       }
 
+  -- what it shows is of its type
+  pub clock_typed : (v : Value) → clock_value arena.time row.def ≡ Some v → type_of v ≡ row.ty
+  clock_typed v is = (typed_by_clock arena arena.time row.def row.ty v (sound.names n row is_row) (sound.types n row is_row) is).type.type
+
+  -- what holds a value is of its type
+  pub holder_typed : (v : Value) → (row.def ≡ Const v) ⊎ (row.def ≡ Var v) → type_of v ≡ row.ty
+  holder_typed v (inl h) = (subst (λ (d : Def). Makes arena d row.ty) h (sound.types n row is_row)).type
+  holder_typed v (inr h) = (subst (λ (d : Def). Makes arena d row.ty) h (sound.types n row is_row)).type
+
   -- what reads the clock gives what it shows at the time
   pub clock_computes : (v : Value) → reads_clock row.def ≡ true → clock_value arena.time row.def ≡ Some v → Computes F arena held round old old n (Val v)
   clock_computes v reads is = uncalled_computes (Val v) (none_taken_by_clock G n row.def reads) (λ looks. own_by_clock F G (seen old.rows) n row.def v is)
@@ -502,6 +511,10 @@ module _ (F : Functions) (arena : Arena) (roots : Rows NodeId) (round : ℕ) (ol
         let its = kept.rights n right.node row changed right.given is_row is_changed right.is_given
         (ap (λ (x : Def). right_of G n x right.given) is_def ∙ right.is_right) in
         shown_of_type arena held old.rows kept right.node row.ty v its.1 (seen_is_shown (at old.rows (main right.node)) v right.shows)
+
+    -- what its right side shows is of its type
+    pub pair_typed : (m : NodeId) (v : Value) → right_in old.rows roots n (def_of d) ≡ Some m → seen old.rows (main m) ≡ Some (Val v) → type_of v ≡ row.ty
+    pair_typed m v is sees = (right_typed v (subst (λ (x : Option NodeId). ShowsRight old.rows x (Val v)) (sym is) (inl sees))).type.type
 
     -- a node of two points gives what the right side shows that its change chose
     pub pair_computes : (o : Outcome) → ShowsRight old.rows (right_in old.rows roots n (def_of d)) o → Computes F arena held round old old n o

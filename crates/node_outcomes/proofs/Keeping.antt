@@ -1,13 +1,8 @@
 -- What calls leave of a keeper's functions.
-use Rattle.std.proofs.Common.{inl, refl, ◌∙◌, ℕ, Result, Ok, Err}
+use Rattle.std.proofs.Common.{◌∙◌}
 use Rattle.node_arena.proofs.SameMeanings.{same_on}
 use Rattle.node_arena.specs.declared.functions.Functions.{Ghosts}
-use Rattle.node_outcomes.specs.Meaning.{KeepsFunctions, WantsFollow}
-
--- where nothing is called the count of wants stays
-pub no_want : {T E : Type 0} (r : Result T E) (wants : ℕ) → WantsFollow r wants wants
-no_want (Ok v) wants = refl
-no_want (Err e) wants = inl refl
+use Rattle.node_outcomes.specs.Meaning.{KeepsFunctions}
 
 module _ {F More : Type 0} (keeper : Ghosts F More) where
   -- what was kept of functions, and is kept on, is kept

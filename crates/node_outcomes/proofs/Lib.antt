@@ -5,5 +5,6 @@ pub mod Held
 pub mod Pairs
 mod Reasons
 pub mod ByClock
+pub mod Lacking
 pub mod Computing
 pub mod Rights

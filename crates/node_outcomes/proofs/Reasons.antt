@@ -10,7 +10,11 @@ use Rattle.point_map.specs.Rows.{Rows, at}
 use Rattle.stabilize_round.specs.Calling.{other, forced, made_stale}
 use Rattle.stabilize_round.specs.State.{Call}
 use Rattle.node_outcomes.specs.Computing.{ShowsValue, LastWas, IsForcedBy, ReasonIn}
-use Rattle.node_outcomes.specs.Row.{never_in, settled_in, passes_in}
+use Rattle.map_nodes.specs.Cutoff.{TellsAgain}
+use Rattle.map_nodes.specs.declared.cutoff.Cutoff.{Cutoff}
+use Rattle.map_nodes.specs.declared.cutoff.Cutoff.TheVariants.{Equal, Never}
+use Rattle.map_nodes.proofs.Stopping.{equal_stops}
+use Rattle.node_outcomes.specs.Row.{tells_again, cutoff_in, settled_in, passes_in}
 use Rattle.node_outcomes.specs.declared.row.Progress.{Progress}
 
 -- two tests are passed, or one of two
@@ -21,6 +25,15 @@ and_apart false b h = absurd (cc)
 and_both : (a b : Bool) → a ≡ true → b ≡ true → (a && b) ≡ true
 and_both true b a_is b_is = b_is
 and_both false b a_is b_is = absurd (cc)
+
+-- the test tells it
+tells : (c : Cutoff) → tells_again c ≡ true → TellsAgain c
+tells Equal is = absurd (cc)
+tells Never is = λ o stopped. stopped
+
+tested : (c : Cutoff) → TellsAgain c → tells_again c ≡ true
+tested Equal h = absurd (equal_stops Equal refl h)
+tested Never h = refl
 
 module _ (round : ℕ) (rows : Rows Progress) where
   -- one of the nodes that force, and what one forces
@@ -52,13 +65,14 @@ module _ (round : ℕ) (rows : Rows Progress) where
       other (λ c is same. differs c is (subst (λ (vs : List Value). AllZip (ShowsValue rows) nodes vs) (sym same) shown))
   reason_of n nodes values shown (inr force) =
       let a = one_of_forced nodes force in
-      let b = and_apart (never_in (at rows (main a.0))) (settled_in round (at rows (main a.0))) a.2 in
-      forced {kid = a.0} a.1 b.0 b.1
+      let b = and_apart (tells_again (cutoff_in (at rows (main a.0)))) (settled_in round (at rows (main a.0))) a.2 in
+      forced {kid = a.0} a.1 (tells (cutoff_in (at rows (main a.0))) b.0) b.1
 
   -- there is none where it was last called on the values, and no child forces it
   pub no_reason : (n : NodeId) (nodes : List NodeId) (values : List Value) (call : Call) → LastWas rows n call → call.arguments ≡ values
       → (IsForcedBy round rows nodes → ⊥) → ReasonIn round rows n nodes values → ⊥
   no_reason n nodes values call was same free (other differs) = differs call was same
-  no_reason n nodes values call was same free (forced {kid} a never settled) = free (one_forces nodes kid a
-      (and_both (never_in (at rows (main kid))) (settled_in round (at rows (main kid))) never settled))
+  no_reason n nodes values call was same free (forced {kid} a again settled) = free (one_forces nodes kid a
+      (and_both (tells_again (cutoff_in (at rows (main kid)))) (settled_in round (at rows (main kid)))
+      (tested (cutoff_in (at rows (main kid))) again) settled))
   no_reason n nodes values call was same free (made_stale marked) = absurd (cc)

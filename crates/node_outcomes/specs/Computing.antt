@@ -31,7 +31,7 @@ use Rattle.stabilize_round.specs.State.{Call}
 use Rattle.inc_value.specs.Value.{type_of}
 use Rattle.inc_value.specs.declared.outcome.Outcome.TheVariants.{Val}
 use Rattle.point_map.specs.Rows.{KeepsRows}
-use Rattle.node_outcomes.specs.Row.{IsRewritten, with_call, with_last, value_in, never_in, settled_in, passes_in, outcome_in}
+use Rattle.node_outcomes.specs.Row.{IsRewritten, with_call, with_last, value_in, cutoff_in, settled_in, passes_in, outcome_in}
 use Rattle.node_outcomes.specs.declared.row.Progress.{Progress}
 
 -- what is seen of a point by its row: Invalid without one
@@ -61,7 +61,7 @@ KeepsAnswers F G rows =
     (n : NodeId) (r : Row) (nodes : List NodeId) (k : Progress) (c : Call) → G.row n ≡ Some r → taken_by G n r.def ≡ Some nodes
     → at rows (main n) ≡ Some k → k.last ≡ Some c → IsAnswer F r.def c.arguments c.result
 
--- one of the nodes has cutoff Never and was settled in the round, as a test
+-- one of the nodes was settled in the round that tells even of an outcome that stays, as a test
 abbrev pub forced_by : ℕ → Rows Progress → List NodeId → Bool
 forced_by round rows [] = false
 forced_by round rows (n ∷ ns) = passes_in round (at rows (main n)) || forced_by round rows ns
@@ -77,7 +77,7 @@ last_in rows n = option_and_then (λ (k : Progress). k.last) (at rows (main n))
 -- why a node's function is called, by what is kept of points in a round: none was made stale
 abbrev pub ReasonIn : ℕ → Rows Progress → NodeId → List NodeId → List Value → Type 0
 ReasonIn round rows n nodes values =
-    Reason (last_in rows) (λ (m : NodeId). never_in (at rows (main m))) (λ (p : Point). settled_in round (at rows p)) (λ (m : NodeId). false) n nodes values
+    Reason (last_in rows) (λ (m : NodeId). cutoff_in (at rows (main m))) (λ (p : Point). settled_in round (at rows p)) (λ (m : NodeId). false) n nodes values
 
 -- a node's function is due: its children are seen to show these values, and there is a reason to call it on them
 pub record IsSeenDue (G : Graph) (n : NodeId) (round : ℕ) (rows : Rows Progress) (def : Def) : Type 0 where

@@ -3,3 +3,4 @@ pub mod LastCall
 pub mod Row
 pub mod Choosing
 pub mod Computing
+pub mod Lacking

@@ -14,10 +14,10 @@ pub record Meaning : Type 0 where
   pub known : FnRef → Bool
   pub ids : FnRef → List NodeId
 
--- the count of calls that found no memory: it stays where a call was answered, and a refused one raises it by one, or had the want of memory elsewhere
-abbrev pub WantsFollow : {T E : Type 0} → Result T E → ℕ → ℕ → Type 0
-WantsFollow (Ok v) old new = new ≡ old
-WantsFollow (Err e) old new = (new ≡ old) ⊎ (new ≡ raised old)
+-- the count of calls that found no memory: it stays where a call was answered, and a refused one raises it by one, or this lacked room
+abbrev pub WantsFollow : {T E : Type 0} → Type 0 → Result T E → ℕ → ℕ → Type 0
+WantsFollow Lacks (Ok v) old new = new ≡ old
+WantsFollow Lacks (Err e) old new = ((new ≡ old) × Lacks) ⊎ (new ≡ raised old)
 
 module _ {F More : Type 0} (keeper : Ghosts F More) where
   -- what a keeper's functions give

@@ -54,27 +54,19 @@ abbrev pub settled_in : ℕ → Option Progress → Bool
 settled_in round None = false
 settled_in round (Some k) = k.settled == round
 
--- the cutoff is Never
-abbrev pub is_never : Cutoff → Bool
-is_never Equal = false
-is_never Never = true
+-- readers are told even of an outcome that stays, as a test
+abbrev pub tells_again : Cutoff → Bool
+tells_again Equal = false
+tells_again Never = true
 
 -- a row's cutoff, and Equal without one
 abbrev pub cutoff_in : Option Progress → Cutoff
 cutoff_in None = Equal
 cutoff_in (Some k) = k.cutoff
 
--- whether that is Never
-abbrev pub never_in : Option Progress → Bool
-never_in x = is_never (cutoff_in x)
-
--- whether a row of cutoff Never was settled in the round
+-- whether a row was settled in the round that tells even of an outcome that stays
 abbrev pub passes_in : ℕ → Option Progress → Bool
-passes_in round x = never_in x && settled_in round x
-
--- readers needn't be told of the outcome: a row of cutoff Equal shows it already
-abbrev pub IsStopped : Progress → Outcome → Type 0
-IsStopped k o = (k.cutoff ≡ Equal) × (k.outcome ≡ Some o)
+passes_in round x = tells_again (cutoff_in x) && settled_in round x
 
 -- the value that a row shows
 abbrev pub value_of : Option Outcome → Option Value

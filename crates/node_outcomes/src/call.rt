@@ -1,5 +1,5 @@
 //! Calls of a node's function on the values that its children show.
-ghost use Rattle.std.specs.Prelude.{◌≡◌, [], ◌∷◌, length, IsTrue, IfOk, OnOk, OnErr};
+ghost use Rattle.std.specs.Prelude.{◌≡◌, [], ◌∷◌, length, IsTrue, IfOk, OnOk, OnErr, vec_capacity};
 ghost use Rattle.std.specs.List.{filter_map};
 ghost use Rattle.inc_value.specs.Value.{type_of, HaveTypes};
 ghost use Rattle.inc_terms.specs.Depend.{main};
@@ -7,6 +7,7 @@ ghost use Rattle.inc_terms.specs.Evaluate.{folded};
 ghost use Rattle.point_map.specs.Rows.{Holds};
 ghost use Rattle.stabilize_round.specs.Counts.{RoseBy, RoseAtMost};
 ghost use Rattle.node_outcomes.specs.Computing.{Calls, FoldFits, noted, value_shown};
+ghost use Rattle.node_outcomes.specs.Lacking.{HasText, LacksRoom};
 ghost use Rattle.node_outcomes.specs.Meaning.{KeepsFunctions, WantsFollow};
 
 use crate::row::{Progress, keep_fold, keep_map};
@@ -36,7 +37,8 @@ pub(crate) fn call_map<F: Functions>(
         (noted rows.old ran.old.items (F.calls functions.old)) (noted rows.new ran.new.items (F.calls functions.new))
         node (filter_map (value_shown rows.old) kids.now) 1 result }
     ensures functions { KeepsFunctions F.Functions functions.old functions.new }
-    ensures wants { WantsFollow result (F.wants functions.old) (F.wants functions.new) }
+    ensures wants { WantsFollow (LacksRoom rows.old (vec_capacity ran.old) (length ran.old.items) f.now.sig.gives kids.now)
+        result (F.wants functions.old) (F.wants functions.new) }
 {
     if ran.reserve(1).is_err() {
         return Err(AllocError);
@@ -89,7 +91,8 @@ pub(crate) fn call_fold<F: Functions>(
         node (filter_map (value_shown rows.old) kids.now)
         (length (filter_map (value_shown rows.old) kids.now)) result }
     ensures functions { KeepsFunctions F.Functions functions.old functions.new }
-    ensures wants { WantsFollow result (F.wants functions.old) (F.wants functions.new) }
+    ensures wants { WantsFollow (LacksRoom rows.old (vec_capacity ran.old) (length ran.old.items) f.now.sig.gives kids.now)
+        result (F.wants functions.old) (F.wants functions.new) }
 {
     if ran.reserve(1).is_err() {
         return Err(AllocError);
@@ -139,7 +142,7 @@ fn fold<F: Functions>(
     ensures calls { OnOk result (RoseBy (F.calls functions.old) (length values.now) (F.calls functions.new)) }
     ensures few { OnErr result (RoseAtMost (F.calls functions.old) (length values.now) (F.calls functions.new)) }
     ensures functions { KeepsFunctions F.Functions functions.old functions.new }
-    ensures wants { WantsFollow result (F.wants functions.old) (F.wants functions.new) }
+    ensures wants { WantsFollow (HasText (initial.now ∷ values.now)) result (F.wants functions.old) (F.wants functions.new) }
 {
     let mut result = match initial.copy(alloc) {
         Ok(copy) => copy,
@@ -171,7 +174,7 @@ fn call_with<F: Functions>(
     ensures calls { OnOk result (RoseBy (F.calls functions.old) 1 (F.calls functions.new)) }
     ensures few { OnErr result (RoseAtMost (F.calls functions.old) 1 (F.calls functions.new)) }
     ensures functions { KeepsFunctions F.Functions functions.old functions.new }
-    ensures wants { WantsFollow result (F.wants functions.old) (F.wants functions.new) }
+    ensures wants { WantsFollow (HasText (second.now ∷ [])) result (F.wants functions.old) (F.wants functions.new) }
 {
     let arguments = match second.copy(alloc) {
         Ok(copy) => [first, copy],

@@ -1,7 +1,8 @@
 //! What a node gives by its own function of what its children show.
-ghost use Rattle.std.specs.Prelude.{◌≡◌, ◌≤ℤ◌, pos, true, Some, List, length, IsTrue, IfOk};
+ghost use Rattle.std.specs.Prelude.{◌≡◌, ◌≤ℤ◌, pos, true, Some, List, length, IsTrue, IfOk, OnErr, vec_capacity};
 ghost use Rattle.std.specs.List.{AllZip};
-ghost use Rattle.inc_value.specs.Value.{HaveTypes};
+ghost use Rattle.inc_value.specs.Value.{HaveTypes, type_of};
+ghost use Rattle.inc_value.specs.declared.ty.Ty.TheVariants.{Text};
 ghost use Rattle.inc_value.specs.declared.outcome.Outcome.TheVariants.{Val};
 ghost use Rattle.inc_terms.specs.Clock.{clock_value, reads_clock, IsTimed};
 ghost use Rattle.inc_terms.specs.Code.{def_of};
@@ -13,9 +14,11 @@ ghost use Rattle.node_arena.specs.Arena.{IsLive};
 ghost use Rattle.node_arena.specs.Graph.{AllCallFit};
 ghost use Rattle.node_arena.specs.RightSideLaws.{ids_of};
 ghost use Rattle.node_arena.specs.Sound.{IsSoundArena};
+ghost use Rattle.stabilize_round.specs.State.{Call};
 ghost use Rattle.node_outcomes.specs.Choosing.{held_in};
 ghost use Rattle.node_outcomes.specs.Computing.{CallComputes, Ends, IsKnown, KeepsTypes};
-ghost use Rattle.node_outcomes.specs.Computing.{FoldFits, ShowsValue, noted};
+ghost use Rattle.node_outcomes.specs.Computing.{FoldFits, LastWas, ShowsValue, noted};
+ghost use Rattle.node_outcomes.specs.Lacking.{CallLacks, NodeLacksRoom};
 ghost use Rattle.node_outcomes.specs.Meaning.{functions_of, KeepsFunctions, WantsFollow};
 
 use crate::call::{call_fold, call_map};
@@ -52,7 +55,8 @@ pub fn compute<F: Functions>(
         (held_in arena.now rows.old roots.now) round (noted rows.old ran.old.items (F.calls functions.old))
         (noted rows.new ran.new.items (F.calls functions.new)) node result }
     ensures functions { KeepsFunctions F.Functions functions.old functions.new }
-    ensures wants { WantsFollow result (F.wants functions.old) (F.wants functions.new) }
+    ensures wants { WantsFollow (NodeLacksRoom arena.now round rows.old (vec_capacity ran.old) (length ran.old.items) node) result
+        (F.wants functions.old) (F.wants functions.new) }
 {
     let row = arena.get(node).unwrap();
     match &row.def {
@@ -91,7 +95,8 @@ fn by_clock(alloc: Global, def: &Def, time: i64) -> Result<Outcome, AllocError>
     requires reads { reads_clock (def_of def.now) ≡ true }
     requires timed { IsTimed time (def_of def.now) }
     requires time { pos 0 ≤ℤ time }
-    ensures { IfOk result (λ o. (v : Value) × (o ≡ Val v) × (clock_value time (def_of def.now) ≡ Some v)) }
+    ensures value { IfOk result (λ o. (v : Value) × (o ≡ Val v) × (clock_value time (def_of def.now) ≡ Some v)) }
+    ensures lacks { OnErr result ((v : Value) × (clock_value time (def_of def.now) ≡ Some v) × (type_of v ≡ Text)) }
 {
     match def.clock_value(alloc, time) {
         Ok(Some(value)) => Ok(Outcome::Val(value)),
@@ -121,7 +126,8 @@ fn compute_map<F: Functions>(
         (noted rows.old ran.old.items (F.calls functions.old))
         (noted rows.new ran.new.items (F.calls functions.new)) node (Map f.now kids.now) kids.now 1 result }
     ensures functions { KeepsFunctions F.Functions functions.old functions.new }
-    ensures wants { WantsFollow result (F.wants functions.old) (F.wants functions.new) }
+    ensures wants { WantsFollow (CallLacks round rows.old (vec_capacity ran.old) (length ran.old.items) node f.now.sig.gives kids.now)
+        result (F.wants functions.old) (F.wants functions.new) }
 {
     match known_outcome(alloc, rows, round, node, kids) {
         Ok(Some(outcome)) => Ok(outcome),
@@ -153,7 +159,8 @@ fn compute_fold<F: Functions>(
         (noted rows.new ran.new.items (F.calls functions.new)) node (Fold f.now initial.now kids.now) kids.now
         (length kids.now) result }
     ensures functions { KeepsFunctions F.Functions functions.old functions.new }
-    ensures wants { WantsFollow result (F.wants functions.old) (F.wants functions.new) }
+    ensures wants { WantsFollow (CallLacks round rows.old (vec_capacity ran.old) (length ran.old.items) node f.now.sig.gives kids.now)
+        result (F.wants functions.old) (F.wants functions.new) }
 {
     match known_outcome(alloc, rows, round, node, kids) {
         Ok(Some(outcome)) => Ok(outcome),
@@ -172,7 +179,8 @@ fn known_outcome(
     node: NodeId,
     kids: &[NodeId],
 ) -> Result<Option<Outcome>, AllocError>
-    ensures { IfOk result (λ o. IsKnown round rows.now node kids.now o) }
+    ensures known { IfOk result (λ o. IsKnown round rows.now node kids.now o) }
+    ensures lacks { OnErr result ((c : Call) × LastWas rows.now node c × (type_of c.result ≡ Text)) }
 {
     if let Some(last) = last_call(rows, node) {
         if show(rows, kids, last.arguments) {

@@ -2,7 +2,8 @@
 ghost use Rattle.std.specs.Prelude.{◌≡◌, ◌↔◌, None, Some, IsTrue};
 ghost use Rattle.point_map.specs.Rows.{at, Holds};
 ghost use Rattle.node_outcomes.specs.declared.row.Progress.{Progress as Row};
-ghost use Rattle.node_outcomes.specs.Row.{with_stage, with_outcome, without_outcome, with_call, with_cutoff, stage_in, settled_in, IsRewritten, IsStopped};
+ghost use Rattle.node_outcomes.specs.Row.{with_stage, with_outcome, without_outcome, with_call, with_cutoff, stage_in, settled_in, IsRewritten};
+ghost use Rattle.map_nodes.specs.Cutoff.{IsStopped};
 
 use crate::last_call::LastCall;
 use inc_value::{NodeId, Outcome, Part, Point, Value};
@@ -126,9 +127,9 @@ pub fn set_stage(rows: &mut PointMap<Progress>, p: Point, stage: Stage)
     row.stage = stage;
 }
 
-/// Whether a point's readers needn't be told of an outcome: it shows just this one already, and its cutoff is Equal.
+/// Whether a point's readers needn't be told of an outcome, by its cutoff and what it shows.
 fn is_stopped(row: &Progress, outcome: &Outcome) -> bool
-    ensures { IsTrue result ↔ IsStopped row.now outcome.now }
+    ensures { IsTrue result ↔ IsStopped row.now.cutoff row.now.outcome outcome.now }
 {
     match &row.outcome {
         Some(before) => stops(row.cutoff, before, outcome),
@@ -136,12 +137,12 @@ fn is_stopped(row: &Progress, outcome: &Outcome) -> bool
     }
 }
 
-/// Gives a point another outcome, settled in this round. The answer is whether its readers needn't be told: it showed
-/// just this one before, and its cutoff is Equal.
+/// Gives a point another outcome, settled in this round. The answer is whether its readers needn't be told, by its
+/// cutoff and what it showed before.
 pub fn set_outcome(rows: &mut PointMap<Progress>, p: Point, outcome: Outcome, round: u64) -> bool
     requires there { Holds rows.old p }
     ensures rewritten { IsRewritten rows.old rows.new p (with_outcome outcome round) }
-    ensures stopped { IsTrue result ↔ ((k : Row) × (at rows.old p ≡ Some k) × IsStopped k outcome) }
+    ensures stopped { IsTrue result ↔ ((k : Row) × (at rows.old p ≡ Some k) × IsStopped k.cutoff k.outcome outcome) }
 {
     let row = rows.get_mut(p).unwrap();
     let stopped = is_stopped(row, &outcome);

@@ -1,6 +1,9 @@
 //! What is seen of nodes by their rows.
-ghost use Rattle.std.specs.Prelude.{◌≡◌, ◌⊎◌, ◌↔◌, ◌≤◌, [], None, Some, IsTrue, IfOk, IsOk, OnOk, length, option_copied, option_and_then};
+ghost use Rattle.std.specs.Prelude.{◌≡◌, ◌⊎◌, ◌↔◌, ◌≤◌, [], None, Some, IsTrue, IfOk, IsOk, OnOk, OnErr, length, option_copied, option_and_then};
 ghost use Rattle.std.specs.List.{AllZip, filter_map};
+ghost use Rattle.inc_value.specs.Value.{type_of};
+ghost use Rattle.inc_value.specs.declared.ty.Ty.TheVariants.{Text};
+ghost use Rattle.inc_value.specs.declared.value.Value.{Value as AValue};
 ghost use Rattle.inc_terms.specs.Depend.{main};
 ghost use Rattle.point_map.specs.Rows.{at};
 ghost use Rattle.node_outcomes.specs.Computing.{AllShow, HasNoText, ShowsValue, seen, value_shown as shown_in, forced_by};
@@ -26,8 +29,9 @@ pub(crate) fn value_shown(rows: &PointMap<Progress>, node: NodeId) -> Option<&Va
 
 /// What a node shows. A dead one shows Invalid, and so does one that was never brought up to date.
 pub fn shown(alloc: Global, rows: &PointMap<Progress>, node: NodeId) -> Result<Outcome, AllocError>
-    ensures { IfOk result (λ o. (seen rows.now (main node) ≡ Some o)
+    ensures outcome { IfOk result (λ o. (seen rows.now (main node) ≡ Some o)
         ⊎ ((seen rows.now (main node) ≡ None) × (o ≡ Outcome.Invalid))) }
+    ensures lacks { OnErr result ((v : AValue) × (seen rows.now (main node) ≡ Some (Outcome.Val v)) × (type_of v ≡ Text)) }
 {
     match rows.get(Point::main(node)) {
         Some(row) => match &row.outcome {

@@ -1,0 +1,115 @@
+-- Which room a node lacks that finds no memory.
+use Rattle.std.proofs.Common.{◌≡◌, ◌≢◌, ◌⊎◌, inl, inr, ℕ, ℤ, ◌<◌, ◌≤◌, true, List, [], ◌∷◌, length, None, Some, refl, sym, subst, ◌∙◌, arith, Result, Ok, Err}
+use Rattle.std.specs.Prelude.{OnErr}
+use Rattle.std.specs.List.{filter_map}
+use Rattle.inc_value.specs.Value.{type_of}
+use Rattle.inc_value.specs.declared.node.NodeId.{NodeId}
+use Rattle.inc_value.specs.declared.ty.Ty.{Ty}
+use Rattle.inc_value.specs.declared.ty.Ty.TheVariants as ty
+use Rattle.inc_value.specs.declared.value.Value.{Value}
+use Rattle.inc_terms.specs.Clock.{clock_value, reads_clock}
+use Rattle.inc_terms.specs.Graph as graph
+use Rattle.inc_terms.specs.Graph.{Row, Def, kids}
+use Rattle.node_arena.specs.Arena.{Arena, row_at}
+use Rattle.point_map.specs.Rows.{Rows}
+use Rattle.node_outcomes.specs.Computing.{HasNoText, IsKnown, value_shown}
+use Rattle.node_outcomes.specs.Lacking.{HasText, LacksRoom, IsToCall, CallLacks, NodeLacksRoom, sees_text, many_kids}
+use Rattle.node_outcomes.specs.Meaning.{WantsFollow}
+use Rattle.node_outcomes.specs.declared.row.Progress.{Progress}
+use Rattle.node_outcomes.proofs.Computing.{filter_is_shown}
+use Rattle.node_outcomes.proofs.Reasons.{reason_of}
+
+-- a type is Text, or it isn't
+pub text_or_not : (t : Ty) → (t ≡ ty.Text) ⊎ (t ≢ ty.Text)
+text_or_not ty.Int = inr (λ e. cc)
+text_or_not ty.Bool = inr (λ e. cc)
+text_or_not ty.Text = inl refl
+text_or_not (ty.Node b) = inr (λ e. cc)
+
+-- a value that isn't no Text is one
+pub text_by : (v : Value) → (type_of v ≢ ty.Text → ⊥) → type_of v ≡ ty.Text
+text_by v h = elim (text_or_not (type_of v)) [
+  | inl text ↦ text
+  | inr not ↦ absurd (h not)
+]
+
+-- a Text is among values, or none is
+pub has_or_not : (values : List Value) → HasText values ⊎ HasNoText values
+has_or_not [] = inr tt
+has_or_not (v ∷ vs) = elim (text_or_not (type_of v)) [
+  | inl text ↦ inl (record { value = v; among = inl refl; type = text })
+  | inr not ↦ elim (has_or_not vs) [
+    | inl h ↦ inl (record { value = h.value; among = inr h.among; type = h.type })
+    | inr none ↦ inr (not, none)
+  ]
+]
+
+many_or_few : (nodes : List NodeId) → (2 < length nodes) ⊎ (length nodes ≤ 2)
+many_or_few [] = inr (omega arith)
+many_or_few (a ∷ []) = inr (omega arith)
+many_or_few (a ∷ b ∷ []) = inr (omega arith)
+many_or_few (a ∷ b ∷ c ∷ rest) = inl (omega arith)
+
+-- a list of values that has room of its own for two found none for those that children show
+pub list_lacks : (rows : Rows Progress) (room ran : ℕ) (t : Ty) (kids : List NodeId)
+    → (length kids ≤ 2 → HasNoText (filter_map (value_shown rows) kids) → ⊥) → LacksRoom rows room ran t kids
+list_lacks rows room ran t kids scalar = elim (has_or_not (filter_map (value_shown rows) kids)) [
+  | inl text ↦ sees_text text
+  | inr none ↦ elim (many_or_few kids) [
+    | inl many ↦ many_kids many
+    | inr few ↦ absurd (scalar few none)
+  ]
+]
+
+-- where it isn't known what a node gives its function is to be called
+pub to_call : (round : ℕ) (rows : Rows Progress) (n : NodeId) (kids : List NodeId) → IsKnown round rows n kids None → IsToCall round rows n kids
+to_call round rows n kids unknown =
+    let shown = filter_is_shown rows kids unknown.0 in
+    record {
+      values = filter_map (value_shown rows) kids;
+      shown = shown;
+      reason = reason_of round rows n kids (filter_map (value_shown rows) kids) shown unknown.1;
+    }
+
+-- what lacks room is another word for what does
+pub lacks_as : {A B T E : Type 0} (r : Result T E) (old new : ℕ) → (A → B) → WantsFollow A r old new → WantsFollow B r old new
+lacks_as (Ok v) old new turn h = h
+lacks_as (Err e) old new turn (inl h) = inl (h.0, turn h.1)
+lacks_as (Err e) old new turn (inr h) = inr h
+
+-- where nothing is called the count of wants stays
+pub none_wanted : {A B T E : Type 0} (r : Result T E) (wants : ℕ) → (A → B) → OnErr r A → WantsFollow B r wants wants
+none_wanted (Ok v) wants turn h = refl
+none_wanted (Err e) wants turn h = inl (refl, turn h)
+
+-- what reads the clock shows a value by it
+pub clock_shows : (time : ℤ) (def : Def) → reads_clock def ≡ true → (v : Value) × (clock_value time def ≡ Some v)
+clock_shows time (graph.At t) h = (_, refl)
+clock_shows time (graph.Steps v steps) h = (_, refl)
+clock_shows time graph.Now h = (_, refl)
+clock_shows time (graph.Every base span) h = (_, refl)
+clock_shows time (graph.Const v) h = absurd (cc)
+clock_shows time (graph.Var v) h = absurd (cc)
+clock_shows time (graph.Map f ns) h = absurd (cc)
+clock_shows time (graph.Fold f v ns) h = absurd (cc)
+clock_shows time (graph.If t a b) h = absurd (cc)
+clock_shows time (graph.Join k) h = absurd (cc)
+clock_shows time (graph.Bind l f caps) h = absurd (cc)
+clock_shows time (graph.Freeze k f) h = absurd (cc)
+clock_shows time (graph.Expert f v ns) h = absurd (cc)
+
+-- of a map or a fold it is so of the node
+pub node_lacks : (arena : Arena) (round : ℕ) (rows : Rows Progress) (room ran : ℕ) (n : NodeId) (row : Row) (t : Ty) (nodes : List NodeId)
+    → row_at arena n ≡ Some row → t ≡ row.ty → nodes ≡ kids row.def → CallLacks round rows room ran n t nodes
+    → NodeLacksRoom arena round rows room ran n
+node_lacks arena round rows room ran n row t nodes is_row type are h = record {
+  row = row;
+  is_row = is_row;
+  lacks = inr (subst (λ (x : Ty). CallLacks round rows room ran n x (kids row.def)) type
+      (subst (λ (ns : List NodeId). CallLacks round rows room ran n t ns) are h));
+}
+
+-- a node that gives a Text
+pub gives_lacks : (arena : Arena) (round : ℕ) (rows : Rows Progress) (room ran : ℕ) (n : NodeId) (row : Row) (v : Value) → row_at arena n ≡ Some row
+    → type_of v ≡ row.ty → type_of v ≡ ty.Text → NodeLacksRoom arena round rows room ran n
+gives_lacks arena round rows room ran n row v is_row type text = record { row = row; is_row = is_row; lacks = inl (sym type ∙ text) }
