@@ -1,17 +1,35 @@
 -- The last end of a point that leads to another point than one.
-use Rattle.std.proofs.Common.{◌≡◌, ◌≢◌, ◌∙◌, inl, inr, ℕ, zero, suc, List, [], ◌∷◌, length, refl, ap, sym, subst, arith}
-use Rattle.std.specs.Prelude.{drop, cond}
+use Rattle.std.proofs.Common.{◌≡◌, ◌≢◌, ◌∙◌, inl, inr, ℕ, zero, suc, ◌<◌, Bool, true, false, not, List, [], ◌∷◌, length, refl, ap, sym, subst, arith}
+use Rattle.std.specs.Prelude.{Option, Some, drop, cond, option_map, slice_index_or}
 use Rattle.std.proofs.lemmas.List.Sums.{sum_by-cons}
-use Rattle.std.proofs.lemmas.Option.{none-some, same_Some}
+use Rattle.std.proofs.lemmas.Option.{none-some, same_Some, slice_get-get_or}
 use Rattle.inc_value.specs.declared.node.Point.{Point}
 use Rattle.point_map.specs.Rows.{StandsOnce}
-use Rattle.point_map.proofs.Places.{point_cases}
+use Rattle.point_map.proofs.Places.{same_point_self, point_cases}
 use Rattle.link_table.specs.declared.ends.End.{End}
 use Rattle.link_table.specs.declared.ends.EndLists.{EndLists}
 use Rattle.link_table.specs.Links.{is_point, Reads}
 use Rattle.link_table.specs.Ends.{ends_at, ends_with, points, links_of, LeadsTo}
 use Rattle.link_table.proofs.Counts.{times_of_ends}
-use Rattle.link_table.proofs.Lists.{other_point}
+use Rattle.link_table.proofs.Lists.{other_point, tested, tested_is, tested_same}
+
+not_false : (t b : Bool) → b ≡ not t → b ≡ false → t ≡ true
+not_false true b e f = refl
+not_false false b e f = absurd (let g : b ≡ true = e in cc)
+
+-- an end of which the code finds that it doesn't lead to another point
+pub leads_when : (ends : List End) (kept : Point) (i : ℕ) (d : End) → i < length ends → (b : Bool)
+    → b ≡ not (tested (slice_index_or ends i d).point kept) → b ≡ false → LeadsTo ends kept i
+leads_when ends kept i d within b is f =
+    let p = (slice_index_or ends i d).point in
+    let same = tested_same p kept (not_false (tested p kept) b is f) in
+    ap (λ (o : Option End). option_map (λ (e : End). e.point) o) (slice_get-get_or ends i d within) ∙ ap (λ q. Some q) same
+
+-- and one of which it finds that it does
+pub differs_when : (p kept : Point) (b : Bool) → b ≡ not (tested p kept) → b ≡ true → p ≢ kept
+differs_when p kept b is t same =
+    let self : tested p kept ≡ true = tested_is p kept ∙ (rw same (same_point_self kept)) in
+    absurd (let e : true ≡ false = sym t ∙ is ∙ ap not self in cc)
 
 -- from a place on, all ends lead to the one point
 abbrev pub LeadsBackFrom : List End → Point → ℕ → Type 0

@@ -1,6 +1,6 @@
 -- Counts of links, by the ends of their readers.
 use Rattle.std.proofs.Common.{◌≡◌, ◌≢◌, ◌∙◌, inl, inr, ℕ, zero, suc, ◌<◌, false, List, [], ◌∷◌, map, refl, ap, sym, arith, IsSome}
-use Rattle.std.specs.Prelude.{Option, Some, None, IfSome, IfNone, is_some, IsTrue, ◌↔◌, count_by, flat_map, cond}
+use Rattle.std.specs.Prelude.{Option, Some, None, IfSome, IfNone, is_some, IsTrue, ◌↔◌, count_by, flat_map, cond, slice_get, option_map}
 use Rattle.std.proofs.lemmas.List.Sums.{sum_by-cons, sum_by-append}
 use Rattle.std.proofs.lemmas.Option.{none-some, same_Some}
 use Rattle.inc_value.specs.declared.node.Point.{Point}
@@ -10,7 +10,7 @@ use Rattle.point_map.proofs.Places.{same_point_eq, same_point_self, row_found}
 use Rattle.link_table.specs.declared.ends.End.{End}
 use Rattle.link_table.specs.declared.ends.EndLists.{EndLists}
 use Rattle.link_table.specs.Links.{link, same_link, is_point, times, Reads, IsRead, OneLinkMore, KeepsLinks}
-use Rattle.link_table.specs.Ends.{row_ends, ends_at, ends_with, points, links_from, links_of, LeadsTo, IsLinked, KeepsEnds, OneEndMoreWith}
+use Rattle.link_table.specs.Ends.{end, row_ends, ends_at, ends_with, points, links_from, links_of, LeadsTo, IsLinked, KeepsEnds, OneEndMoreWith}
 use Rattle.link_table.proofs.Lists.{split}
 
 -- how often the point of a row reads q
@@ -98,17 +98,23 @@ leads_counted (x ∷ xs) q (suc i) h =
     let next = leads_counted xs q i h in
     rw (sum_by-cons (λ k. cond (is_point q k) 1 0) x.point (points xs)) (omega (arith, next))
 
--- a place that is told tells whether the link is there
-pub told_place : (kids : EndLists) → StandsOnce kids.rows.places → (p q : Point) (x : Option ℕ) → IfSome x (LeadsTo (ends_at kids p) q)
-    → IfNone x (ends_with (ends_at kids p) q ≡ 0) → IsTrue (is_some x) ↔ Reads (record { all = links_of kids }) p q
+-- places that are told tell whether the link is there
+pub told_place : (kids : EndLists) → StandsOnce kids.rows.places → (p q : Point) (x : Option (ℕ × ℕ))
+    → IfSome x (λ r. slice_get (ends_at kids p) r.0 ≡ Some (end q r.1)) → IfNone x (ends_with (ends_at kids p) q ≡ 0)
+    → IsTrue (is_some x) ↔ Reads (record { all = links_of kids }) p q
 told_place kids once p q None some none =
     (λ t. absurd (let e = t in cc), λ r. absurd (let t = times_of_ends kids once p q in omega (arith, t, none, r)))
-told_place kids once p q (Some i) some none =
-    (λ t. let c = leads_counted (ends_at kids p) q i some in let t = times_of_ends kids once p q in omega (arith, c, t), λ r. refl)
+told_place kids once p q (Some r) some none = (
+  λ t.
+      let leads = ap (λ (o : Option End). option_map (λ (e : End). e.point) o) some in
+      let c = leads_counted (ends_at kids p) q r.0 leads in let t = times_of_ends kids once p q in omega (arith, c, t),
+  λ r. refl,
+)
 
--- a link that is there has a place
-pub place_there : (kids : EndLists) → StandsOnce kids.rows.places → (p q : Point) (x : Option ℕ) → IfSome x (LeadsTo (ends_at kids p) q)
-    → IfNone x (ends_with (ends_at kids p) q ≡ 0) → Reads (record { all = links_of kids }) p q → IsSome x
+-- a link that is there has its places
+pub place_there : (kids : EndLists) → StandsOnce kids.rows.places → (p q : Point) (x : Option (ℕ × ℕ))
+    → IfSome x (λ r. slice_get (ends_at kids p) r.0 ≡ Some (end q r.1)) → IfNone x (ends_with (ends_at kids p) q ≡ 0)
+    → Reads (record { all = links_of kids }) p q → IsSome x
 place_there kids once p q x some none r = (told_place kids once p q x some none).1 r
 
 -- where there are ends, one leads somewhere

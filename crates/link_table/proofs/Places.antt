@@ -1,16 +1,17 @@
 -- Ends by place, after one is set and after one is put behind the others.
-use Rattle.std.proofs.Common.{◌≡◌, ◌∙◌, inl, inr, ℕ, ◌+◌, ◌<◌, List, [], ◌∷◌, length, refl, ap, sym, arith}
-use Rattle.std.specs.Prelude.{Some, slice_get, sum_by, cond}
+use Rattle.std.proofs.Common.{◌≡◌, ◌∙◌, inl, inr, ℕ, ◌+◌, ◌<◌, List, [], ◌∷◌, length, take, Bool, true, false, refl, ap, sym, arith}
+use Rattle.std.specs.Prelude.{Some, slice_get, slice_index_or, sum_by, cond}
+use Rattle.std.proofs.lemmas.Grind.{take_at_read}
 use Rattle.std.proofs.lemmas.List.{length-set}
 use Rattle.std.proofs.lemmas.List.Sums.{sum_by-cons, sum_by-append, sum_by-set}
-use Rattle.std.proofs.lemmas.Option.{slice_get_within, get_or_from_slice_get, same_Some}
+use Rattle.std.proofs.lemmas.Option.{slice_get_within, slice_get-get_or, get_or_from_slice_get, same_Some}
 use Rattle.inc_value.specs.declared.node.Point.{Point}
 use Rattle.point_map.proofs.Places.{same_point_self, point_cases}
 use Rattle.link_table.specs.declared.ends.End.{End}
 use Rattle.link_table.specs.declared.ends.EndLists.{EndLists}
 use Rattle.link_table.specs.Links.{is_point}
 use Rattle.link_table.specs.Ends.{end, ends_at, end_at, ends_with, EndIsSet, OneEndMore, OneEndMoreWith, KeepsPoints}
-use Rattle.link_table.proofs.Lists.{get_set_same, get_set_other, get_append_last, get_append_other, sum_of_map, other_point}
+use Rattle.link_table.proofs.Lists.{get_set_same, get_set_other, get_append_last, get_append_other, sum_of_map, other_point, tested, tested_is, tested_same}
 
 -- whether the end is of a link with the point, as a number
 abbrev pub hits : Point → End → ℕ
@@ -18,6 +19,26 @@ hits y e = cond (is_point y e.point) 1 0
 
 pub ends_with_is : (ends : List End) (y : Point) → ends_with ends y ≡ sum_by (hits y) ends
 ends_with_is ends y = sum_of_map (λ p. cond (is_point y p) 1 0) (λ e. e.point) ends
+
+-- an end that passes the test leads to the point
+pub end_when : (ends : List End) (q : Point) (i : ℕ) (d : End) → i < length ends → (b : Bool) → b ≡ tested (slice_index_or ends i d).point q
+    → b ≡ true → slice_get ends i ≡ Some (end q (slice_index_or ends i d).back)
+end_when ends q i d within b is t =
+    let same = tested_same (slice_index_or ends i d).point q (sym is ∙ t) in
+    slice_get-get_or ends i d within ∙ ap (λ p. Some (end p (slice_index_or ends i d).back)) same
+
+-- and one that fails it leaves as many as before
+pub none_when : (ends : List End) (q : Point) (i : ℕ) (d : End) → i < length ends → (b : Bool) → b ≡ tested (slice_index_or ends i d).point q
+    → b ≡ false → ends_with (take i ends) q ≡ 0 → ends_with (take (i + 1) ends) q ≡ 0
+none_when ends q i d within b is f none =
+    let e = slice_index_or ends i d in
+    let more = (take_at_read ends i d within).1 in
+    let differs : is_point q e.point ≡ false = sym (tested_is e.point q) ∙ sym is ∙ f in
+    let sum = sum_by-append (hits q) (take i ends) (e ∷ []) in
+    let one = sum_by-cons (hits q) e [] in
+    let miss : hits q e ≡ 0 = rw differs refl in
+    let was = sym (ends_with_is (take i ends) q) ∙ none in
+    rw (ends_with_is (take (i + 1) ends) q, more) (omega (arith, sum, one, miss, was))
 
 -- the parts of an end
 pub end_parts : (p x : Point) (i k : ℕ) → Some (end p i) ≡ Some (end x k) → (p ≡ x) × (i ≡ k)

@@ -1,6 +1,6 @@
 -- What taking an end off leaves at its point: each other end at its place, but the last, which stands where the end was.
 use Rattle.std.proofs.Common.{◌≡◌, ◌≢◌, ◌∙◌, inl, inr, ℕ, zero, suc, ◌+◌, ◌-◌, ◌<◌, List, [], ◌∷◌, length, take, swap_remove, refl, ap, sym, arith}
-use Rattle.std.specs.Prelude.{None, Some, slice_get, slice_set, slice_index_or}
+use Rattle.std.specs.Prelude.{Option, None, Some, IfSome, IfNone, slice_get, slice_set, slice_index_or}
 use Rattle.std.proofs.lemmas.Bool.{cases_eq}
 use Rattle.std.proofs.lemmas.List.{length-set, length-take-le}
 use Rattle.std.proofs.lemmas.List.Sums.{sum_by-swap_remove}
@@ -9,8 +9,8 @@ use Rattle.inc_value.specs.declared.node.Point.{Point}
 use Rattle.point_map.proofs.Places.{same_point_self, point_cases}
 use Rattle.link_table.specs.declared.ends.End.{End}
 use Rattle.link_table.specs.declared.ends.EndLists.{EndLists}
-use Rattle.link_table.specs.Ends.{ends_at, end_at, ends_with, EndIsTaken, OneEndMore, OneEndMoreWith, KeepsEnds}
-use Rattle.link_table.proofs.Lists.{get_set_same, get_set_other, other_point, swap_last}
+use Rattle.link_table.specs.Ends.{end, ends_at, end_at, ends_with, EndIsTaken, PlaceIsTaken, LastIsKnown, OneEndMore, OneEndMoreWith, KeepsEnds}
+use Rattle.link_table.proofs.Lists.{get_set_same, get_set_other, length_more, other_point, swap_last}
 use Rattle.link_table.proofs.Places.{hits, ends_with_is}
 
 module _ {X : Type 0} where
@@ -108,9 +108,27 @@ module _ (a a' : EndLists) (p : Point) (i : ℕ) (e : End) (t : EndIsTaken a a' 
   }
 
 -- an end put behind the others and taken off again
-pub put_and_taken : (old more new : EndLists) (p : Point) (i : ℕ) (e f : End) → OneEndMore old more p e → i ≡ length (ends_at old p)
+put_and_taken : (old more new : EndLists) (p : Point) (i : ℕ) (e f : End) → OneEndMore old more p e → i ≡ length (ends_at old p)
     → EndIsTaken more new p i f → KeepsEnds old new
 put_and_taken old more new p i e f put last t x = elim (point_cases x p) [
   | inl same ↦ rw same (t.changed ∙ (rw (put.last, last) (swap_last (ends_at old p) e f)))
   | inr other ↦ t.others x other ∙ put.others x other
 ]
+
+pub put_and_popped : (old more new : EndLists) (p : Point) (e : End) → OneEndMore old more p e → (o : Option End)
+    → IfSome o (λ f. EndIsTaken more new p (length (ends_at new p)) f) → IfNone o (ends_at more p ≡ []) → KeepsEnds old new
+put_and_popped old more new p e put None t none x =
+    absurd (let len = length_more (ends_at old p) e in let l = ap length (sym put.last ∙ none) in omega (arith, len, l))
+put_and_popped old more new p e put (Some f) t none x =
+    let fewer = taken_length more new p (length (ends_at new p)) f t in
+    let len = ap length put.last ∙ length_more (ends_at old p) e in
+    put_and_taken old more new p (length (ends_at new p)) e f put (omega (arith, fewer, len)) t x
+
+-- the end that stands in the place now has its other end where that is known
+pub moved_within : (side new other : EndLists) (p : Point) (i : ℕ) → i < length (ends_at side p) → PlaceIsTaken side new p i → LastIsKnown side other p i
+    → (m : End) → end_at new p i ≡ Some m → m.back < length (ends_at other m.point)
+moved_within side new other p i within taken known m now =
+    let e = slice_index_or (ends_at side p) i (end p i) in
+    let t = taken e (slice_get-get_or (ends_at side p) i (end p i) within) in
+    let there = known m (taken_apart side new p i e t i m now) (taken_moved side new p i e t m now) in
+    slice_get_within (ends_at other m.point) m.back (end p (length (ends_at side p) - 1)) there

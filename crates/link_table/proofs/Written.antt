@@ -1,16 +1,16 @@
 -- What a write to the row of a point leaves.
 use Rattle.std.proofs.Common.{◌≡◌, ◌≢◌, ◌∙◌, ℕ, ◌<◌, List, [], ◌∷◌, ◌++◌, length, refl, ap, sym, inl, inr, arith}
-use Rattle.std.specs.Prelude.{Option, Some, None, slice_set, slice_index_or, swap_remove}
+use Rattle.std.specs.Prelude.{Option, Some, None, slice_get, slice_set, swap_remove}
 use Rattle.std.specs.List.{refill}
 use Rattle.std.proofs.lemmas.List.{length-set}
-use Rattle.std.proofs.lemmas.Option.{slice_get-get_or}
 use Rattle.smallvec.specs.SmallVec.{SmallVec}
 use Rattle.inc_value.specs.declared.node.Point.{Point}
 use Rattle.point_map.specs.Rows.{Rows, at, Changes, Holds}
 use Rattle.point_map.proofs.Places.{point_cases}
 use Rattle.link_table.specs.declared.ends.End.{End}
 use Rattle.link_table.specs.declared.ends.EndLists.{EndLists}
-use Rattle.link_table.specs.Ends.{row_ends, ends_at, HasNoEmptyRow, KeepsEnds, OneEndMore, EndIsSet, EndIsTaken}
+use Rattle.link_table.proofs.Lists.{get_append_last, swap_last}
+use Rattle.link_table.specs.Ends.{row_ends, ends_at, HasNoEmptyRow, KeepsEnds, OneEndMore, EndIsSet, EndIsTaken, PlaceIsTaken, ItemIsTaken}
 
 module _ {X : Type 0} where
   -- a list as long as the one that it is put over stays as it is
@@ -47,15 +47,41 @@ one_end_more old new p e was row there c items = record {
   others = ends_kept old new p (Some row) c;
 }
 
-pub end_is_taken : (old new : EndLists) (p : Point) (i : ℕ) (e : End) (was row : SmallVec End) → Some was ≡ at old.rows p
-    → Changes old.rows new.rows p (Some row) → e ≡ slice_index_or was.items i e → row.items ≡ swap_remove was.items i e
-    → i < length (ends_at old p) → EndIsTaken old new p i e
-end_is_taken old new p i e was row there c read items within = record {
-  was = let inside = rw (ends_of_row old p was there) at within in
-      rw (ends_of_row old p was there) (slice_get-get_or was.items i e inside ∙ ap (λ d. Some d) (sym read));
-  changed = rw (ends_written old new p row c, ends_of_row old p was there) items;
-  others = ends_kept old new p (Some row) c;
+-- the ends of one point are these now
+pub record AreWritten (old new : EndLists) (p : Point) (ends : List End) : Type 0 where
+  pub here : ends_at new p ≡ ends
+  pub others : (x : Point) → x ≢ p → ends_at new x ≡ ends_at old x
+
+-- a row was written, and stays
+pub open_written : (old new : EndLists) (p : Point) (row : SmallVec End) → Changes old.rows new.rows p (Some row) → AreWritten old new p row.items
+open_written old new p row c = record { here = ends_written old new p row c; others = ends_kept old new p (Some row) c }
+
+-- a row was written, and taken off as it was empty
+pub closed_written : (old new : EndLists) (mid : Rows (SmallVec End)) (p : Point) (row : SmallVec End) → Changes old.rows mid p (Some row)
+    → Changes mid new.rows p None → row.items ≡ [] → AreWritten old new p row.items
+closed_written old new mid p row written gone none = record {
+  here = ap row_ends gone.changed ∙ sym none;
+  others = λ x other. ap row_ends (gone.others x other ∙ written.others x other);
 }
+
+-- the last end taken off
+pub last_is_taken : (old new : EndLists) (p : Point) (e : End) (rest : List End) → ends_at old p ≡ rest ++ e ∷ [] → AreWritten old new p rest
+    → EndIsTaken old new p (length (ends_at new p)) e
+last_is_taken old new p e rest was now = record {
+  was = rw (was, now.here) (get_append_last rest e);
+  changed = rw (was, now.here) (sym (swap_last rest e e));
+  others = now.others;
+}
+
+-- the end at a place taken off
+pub place_is_taken : (old new : EndLists) (p : Point) (i : ℕ) (was : SmallVec End) (ends : List End) → Some was ≡ at old.rows p
+    → AreWritten old new p ends → ItemIsTaken was.items ends i → PlaceIsTaken old new p i
+place_is_taken old new p i was ends there now taken e stood =
+    let row = ends_of_row old p was there in record {
+      was = stood;
+      changed = now.here ∙ taken e (sym (ap (λ l. slice_get l i) row) ∙ stood) ∙ sym (ap (λ l. swap_remove l i e) row);
+      others = now.others;
+    }
 
 pub ends_unwritten : (old new : EndLists) (p : Point) (was row : SmallVec End) → Some was ≡ at old.rows p
     → Changes old.rows new.rows p (Some row) → row ≡ was → KeepsEnds old new
@@ -94,37 +120,12 @@ set_row_some old p i e was row there items within =
     let l = ap length full in let k = length-set was.items i e in let w = ap length (ends_of_row old p was there) in
     omega (arith, l, k, w, within)
 
--- an empty row is taken off, and every point keeps its ends
-pub closed_kept : (old new : EndLists) (p : Point) → ends_at old p ≡ [] → Changes old.rows new.rows p None → KeepsEnds old new
-closed_kept old new p none c x = elim (point_cases x p) [
-  | inl at_p ↦ rw at_p (ap row_ends c.changed ∙ sym none)
-  | inr other ↦ ends_kept old new p None c x other
+-- the row of one point was written, and then taken off
+pub gone_tight : (old new : EndLists) (mid : Rows (SmallVec End)) (p : Point) (row : Option (SmallVec End)) → Changes old.rows mid p row
+    → Changes mid new.rows p None → HasNoEmptyRow old → HasNoEmptyRow new
+gone_tight old new mid p row written gone tight x none = elim (point_cases x p) [
+  | inl at_p ↦ rw at_p gone.changed
+  | inr other ↦
+      let same = gone.others x other ∙ written.others x other in
+      same ∙ tight x (sym (ap row_ends same) ∙ none)
 ]
-
-pub closed_tight : (old new : EndLists) (p : Point) → Changes old.rows new.rows p None
-    → ((x : Point) → x ≢ p → ends_at old x ≡ [] → at old.rows x ≡ None) → HasNoEmptyRow new
-closed_tight old new p c tight x none = elim (point_cases x p) [
-  | inl at_p ↦ rw at_p c.changed
-  | inr other ↦ c.others x other ∙ tight x other (sym (ends_kept old new p None c x other) ∙ none)
-]
-
--- a row that is not empty stays
-pub open_tight : (old : EndLists) (p : Point) → ends_at old p ≢ [] → ((x : Point) → x ≢ p → ends_at old x ≡ [] → at old.rows x ≡ None)
-    → HasNoEmptyRow old
-open_tight old p some tight x none = elim (point_cases x p) [
-  | inl at_p ↦ absurd (some (rw at_p at none))
-  | inr other ↦ tight x other none
-]
-
--- the row of one point was written, and what had ends has its row
-pub others_tight : (old new : EndLists) (p : Point) → ((x : Point) → x ≢ p → at new.rows x ≡ at old.rows x) → HasNoEmptyRow old
-    → (x : Point) → x ≢ p → ends_at new x ≡ [] → at new.rows x ≡ None
-others_tight old new p others tight x other none = others x other ∙ tight x (sym (ap row_ends (others x other)) ∙ none)
-
--- an end was taken, and then every point keeps its ends
-pub taken_closed : (old mid new : EndLists) (p : Point) (i : ℕ) (e : End) → EndIsTaken old mid p i e → KeepsEnds mid new → EndIsTaken old new p i e
-taken_closed old mid new p i e t kept = record {
-  was = t.was;
-  changed = kept p ∙ t.changed;
-  others = λ x other. kept x ∙ t.others x other;
-}

@@ -66,6 +66,14 @@ pub record EndIsTaken (old new : EndLists) (p : Point) (i : ℕ) (e : End) : Typ
   pub changed : ends_at new p ≡ swap_remove (ends_at old p) i e
   pub others : (x : Point) → x ≢ p → ends_at new x ≡ ends_at old x
 
+-- whatever end stood at the place of p, it is off
+abbrev pub PlaceIsTaken : EndLists → EndLists → Point → ℕ → Type 0
+PlaceIsTaken old new p i = (e : End) → end_at old p i ≡ Some e → EndIsTaken old new p i e
+
+-- whatever end stood at the place of the list, it is off
+abbrev pub ItemIsTaken : List End → List End → ℕ → Type 0
+ItemIsTaken old new i = (e : End) → slice_get old i ≡ Some e → new ≡ swap_remove old i e
+
 -- the last end of p leads to its end on the other side, unless it is the one at the place
 abbrev pub LastIsKnown : EndLists → EndLists → Point → ℕ → Type 0
 LastIsKnown side other p i = (e : End) → i ≢ length (ends_at side p) - 1 → end_at side p (length (ends_at side p) - 1) ≡ Some e

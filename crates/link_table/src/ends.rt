@@ -1,8 +1,7 @@
 //! The ends of links at each point.
-ghost use Rattle.std.specs.Prelude.{[], ◌≡◌, ◌≢◌, ◌<◌, ◌==◌, length, None, OnOk, OnErr};
-ghost use Rattle.point_map.specs.Rows.{at, Holds};
-ghost use Rattle.inc_value.specs.declared.node.Point.{Point};
-ghost use Rattle.link_table.specs.Ends.{ends_at, end_at, HasNoEmptyRow, KeepsEnds, OneEndMore, EndIsSet, EndIsTaken};
+ghost use Rattle.std.specs.Prelude.{[], ◌≡◌, ◌<◌, length, slice_get, None, IfSome, IfNone, OnOk, OnErr};
+ghost use Rattle.point_map.specs.Rows.{at};
+ghost use Rattle.link_table.specs.Ends.{ends_at, end_at, HasNoEmptyRow, KeepsEnds, OneEndMore, EndIsSet, EndIsTaken, PlaceIsTaken, ItemIsTaken};
 
 use inc_value::{NodeId, Part, Point};
 use point_map::PointMap;
@@ -28,15 +27,6 @@ impl Default for End {
             back: 0,
         }
     }
-}
-
-/// What is told of an end that was taken off.
-#[derive(Clone, Copy)]
-pub(crate) struct Taken {
-    pub(crate) end: End,
-    /// The end that came into its place, unless it was the last itself.
-    pub(crate) moved: Option<End>,
-    was_only: bool,
 }
 
 /// The ends of links at each point. A point at which there are none takes no room.
@@ -89,19 +79,42 @@ impl EndLists {
         }
     }
 
-    /// Takes the i-th end of a point off. The last one comes into its place.
-    pub fn take(&mut self, p: Point, i: usize) -> Taken
+    /// Takes the i-th end of a point off. The last one comes into its place and is given, unless it was that end itself.
+    /// What stood in the place isn't read.
+    pub fn take(&mut self, p: Point, i: usize) -> Option<End>
         requires there { i < length (ends_at self.old p) }
-        ensures taken { EndIsTaken self.old self.new p i result.end }
-        ensures moved { result.moved ≡ end_at self.new p i }
+        ensures taken { PlaceIsTaken self.old self.new p i }
+        ensures moved { result ≡ end_at self.new p i }
         ensures tight { HasNoEmptyRow self.old → HasNoEmptyRow self.new }
     {
-        let taken = self.take_at(p, i);
-        let was_only = taken.was_only;
+        let row = self.rows.get_mut(p).unwrap();
+        if let Some(moved) = take_from(row, i) {
+            return Some(moved);
+        }
+        let was_only = row.is_empty();
         if was_only {
             self.rows.remove(p);
         }
-        taken
+        None
+    }
+
+    /// Takes the last end of a point off, if there is one. The point is looked up once, unless it was its only end.
+    pub fn take_last(&mut self, p: Point) -> Option<End>
+        requires tight { HasNoEmptyRow self.old }
+        ensures taken { IfSome result (λ e. EndIsTaken self.old self.new p (length (ends_at self.new p)) e) }
+        ensures none { IfNone result (ends_at self.old p ≡ []) }
+        ensures unchanged { IfNone result (self.new ≡ self.old) }
+        ensures tight { HasNoEmptyRow self.new }
+    {
+        let Some(row) = self.rows.get_mut(p) else {
+            return None;
+        };
+        let end = row.pop().unwrap();
+        let was_only = row.is_empty();
+        if was_only {
+            self.rows.remove(p);
+        }
+        Some(end)
     }
 
     /// Puts another end in place of one.
@@ -126,22 +139,18 @@ impl EndLists {
         self.rows.insert(p, row);
         Ok(())
     }
+}
 
-    // Takes the i-th end of a point off, and leaves the point its row.
-    fn take_at(&mut self, p: Point, i: usize) -> Taken
-        requires there { i < length (ends_at self.old p) }
-        ensures taken { EndIsTaken self.old self.new p i result.end }
-        ensures moved { result.moved ≡ end_at self.new p i }
-        ensures only { result.was_only ≡ (length (ends_at self.new p) == 0) }
-        ensures there { Holds self.new.rows p }
-        ensures others { (x : Point) → x ≢ p → at self.new.rows x ≡ at self.old.rows x }
-    {
-        let row = self.rows.get_mut(p).unwrap();
-        let end = row.swap_remove(i);
-        Taken {
-            end,
-            moved: row.as_slice().get(i).copied(),
-            was_only: row.is_empty(),
-        }
+// Takes the i-th of these ends off. The last one comes into its place and is given, unless it was that end itself.
+fn take_from(row: &mut SmallVec<End, 2>, i: usize) -> Option<End>
+    requires there { i < length row.old.items }
+    ensures taken { ItemIsTaken row.old.items row.new.items i }
+    ensures moved { result ≡ slice_get row.new.items i }
+{
+    let last = row.pop().unwrap();
+    if i == row.len() {
+        return None;
     }
+    row[i] = last;
+    Some(last)
 }

@@ -4,8 +4,8 @@ ghost use Rattle.inc_value.specs.declared.node.Point.{Point};
 ghost use Rattle.link_table.specs.Links.{times, Reads, IsRead, KeepsLinks, OneLinkMore, AreKids, AreReaders};
 ghost use Rattle.link_table.specs.Walks.{kids_left, readers_left};
 
-use crate::ends::EndLists;
-use crate::sides::{add_ends, kid_place, last_beside, last_end, remove_ends};
+use crate::ends::{End, EndLists};
+use crate::sides::{add_ends, kid_place, last_beside, pop_ends, remove_ends};
 use crate::walks::{Kids, Readers};
 use inc_value::Point;
 use std::alloc::{AllocError, Global};
@@ -70,8 +70,9 @@ impl LinkTable {
         requires there { Reads self.old p q }
         ensures removed { OneLinkMore self.new self.old p q }
     {
-        let i = kid_place(&self.kids, &self.readers, p, q).unwrap();
-        remove_ends(&mut self.kids, &mut self.readers, p, q, i);
+        let (i, back) = kid_place(&self.kids, &self.readers, p, q).unwrap();
+        let end = End { point: q, back };
+        remove_ends(&mut self.kids, &mut self.readers, p, i, end);
         // The walk over its places is what says that each point has one row.
         let _places = self.kids.rows.places();
     }
@@ -83,10 +84,9 @@ impl LinkTable {
         ensures none { IfNone result ((q : Point) → times self.old p q ≡ 0) }
         ensures unchanged { IfNone result (self.new ≡ self.old) }
     {
-        let Some((i, kid)) = last_end(self.kids.of(p)) else {
+        let Some(kid) = pop_ends(&mut self.kids, &mut self.readers, p) else {
             return None;
         };
-        remove_ends(&mut self.kids, &mut self.readers, p, kid, i);
         // The walk over its places is what says that each point has one row.
         let _places = self.kids.rows.places();
         Some(kid)
@@ -100,13 +100,13 @@ impl LinkTable {
         ensures none { IfNone result ((q : Point) → Reads self.old p q → q ≡ kept) }
         ensures unchanged { IfNone result (self.new ≡ self.old) }
     {
-        let Some((i, kid)) = last_beside(self.kids.of(p), kept) else {
+        let Some((i, last)) = last_beside(self.kids.of(p), kept) else {
             return None;
         };
-        remove_ends(&mut self.kids, &mut self.readers, p, kid, i);
+        remove_ends(&mut self.kids, &mut self.readers, p, i, last);
         // The walk over its places is what says that each point has one row.
         let _places = self.kids.rows.places();
-        Some(kid)
+        Some(last.point)
     }
 
     /// Whether p reads q.

@@ -1,7 +1,7 @@
 use Rattle.std.proofs.Common.{length, refl, ap}
 use Rattle.link_table.proofs.Places.{put_with}
 use Rattle.link_table.proofs.Put.{two_way_more, two_way_kept}
-use Rattle.link_table.proofs.Taking.{put_and_taken}
+use Rattle.link_table.proofs.Taking.{put_and_popped}
 use Rattle.link_table.proofs.sides.add_ends.Goals as goal
 
 pub returns-in_err-push-clause-sound : goal.returns-in_err-push-clause-sound
@@ -14,19 +14,19 @@ returns-in_err-push-clause-sound c = record {
 
 pub returns-in-Err-clause-sound : goal.returns-in-Err-clause-sound
 returns-in-Err-clause-sound c =
-    let kept = put_and_taken c.args.kids.now c.push.new.self c.take.new.self c.args.p (length c.of-i.result.now) _ c.take.result.end
-    c.in_ok-push.ensures.more (ap length c.of-i.ensures) c.take.ensures.taken in
+    let kept = put_and_popped c.args.kids.now c.push.new.self c.take_last.new.self c.args.p _ c.in_ok-push.ensures.more c.take_last.result
+    c.take_last.ensures.taken c.take_last.ensures.none in
     record {
       two_way =
-          two_way_kept c.args.kids.now c.args.readers.now c.take.new.self c.push-2.new.self kept c.in-Err.ensures.err c.requires.sound.two_way;
-      tight = c.take.ensures.tight (c.push.ensures.tight c.requires.sound.tight);
+          two_way_kept c.args.kids.now c.args.readers.now c.take_last.new.self c.push-2.new.self kept c.in-Err.ensures.err c.requires.sound.two_way;
+      tight = c.take_last.ensures.tight;
       tight_readers = c.push-2.ensures.tight c.requires.sound.tight_readers;
     }
 
 pub returns-in-Err-clause-err : goal.returns-in-Err-clause-err
 returns-in-Err-clause-err c =
-    put_and_taken c.args.kids.now c.push.new.self c.take.new.self c.args.p (length c.of-i.result.now) _ c.take.result.end
-    c.in_ok-push.ensures.more (ap length c.of-i.ensures) c.take.ensures.taken
+    put_and_popped c.args.kids.now c.push.new.self c.take_last.new.self c.args.p _ c.in_ok-push.ensures.more c.take_last.result
+    c.take_last.ensures.taken c.take_last.ensures.none
 
 pub returns-clause-sound : goal.returns-clause-sound
 returns-clause-sound c = record {

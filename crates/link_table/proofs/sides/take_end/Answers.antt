@@ -1,12 +1,15 @@
-use Rattle.std.proofs.Common.{◌∙◌, sym}
-use Rattle.std.proofs.lemmas.Option.{slice_get_within}
-use Rattle.link_table.specs.Ends.{ends_at}
-use Rattle.link_table.proofs.Taking.{taken_moved, taken_apart}
+use Rattle.std.proofs.Common.{◌∙◌, refl, sym}
+use Rattle.link_table.proofs.Taking.{moved_within}
 use Rattle.link_table.proofs.sides.take_end.Goals as goal
 
 pub set-requires : goal.set-requires
-set-requires c =
-    let now = sym c.take-taken.ensures.moved ∙ c.in-Some.is in
-    let was = taken_moved c.args.side.now c.take-taken.new.self c.args.p c.args.i c.take-taken.result.end c.take-taken.ensures.taken c.in-Some.moved now in
-    let apart = taken_apart c.args.side.now c.take-taken.new.self c.args.p c.args.i c.take-taken.result.end c.take-taken.ensures.taken c.args.i c.in-Some.moved now in
-    record { there = slice_get_within (ends_at c.args.other.now c.in-Some.moved.point) c.in-Some.moved.back _ (c.requires.known c.in-Some.moved apart was) }
+set-requires c = record {
+  there = moved_within c.args.side.now c.take.new.self c.args.other.now c.args.p c.args.i c.requires.there c.take.ensures.taken c.requires.known
+      c.in-Some.moved (sym c.take.ensures.moved ∙ c.in-Some.is);
+}
+
+pub returns-in-Some-clause-told : goal.returns-in-Some-clause-told
+returns-in-Some-clause-told c = rw (sym c.take.ensures.moved ∙ c.in-Some.is) c.set.ensures.set
+
+pub returns-in_default-clause-told : goal.returns-in_default-clause-told
+returns-in_default-clause-told c = rw (sym c.in_default.ensures.moved) (λ x. refl)

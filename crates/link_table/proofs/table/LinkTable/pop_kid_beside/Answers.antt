@@ -9,4 +9,4 @@ returns-in_default-clause-none c q = rw (← ap (λ w. w.all) c.self.view_is) (
 
 pub returns-clause-removed : goal.returns-clause-removed
 returns-clause-removed c = rw (← c.self.view_is) (link_more c.remove_ends.new.kids c.self.inside.kids c.places-places.ensures.once
-    c.self.invariant.once c.args.p c.in-Some.kid c.remove_ends.ensures.removed)
+    c.self.invariant.once c.args.p c.in-Some.last.point c.remove_ends.ensures.removed)
