@@ -36,10 +36,6 @@ module _ {A : Type 0} where
         ]
       ]
 
-  pub filter_all : (p : A → Bool) (xs : List A) → ((a : A) → p a ≡ true) → filter p xs ≡ xs
-  filter_all p [] all = refl
-  filter_all p (a ∷ rest) all = keeps p a rest (all a) ∙ ap (λ xs. a ∷ xs) (filter_all p rest all)
-
 -- no timer is due before the tick
 abbrev pub NoneBefore : ℕ → List Timer → Type 0
 NoneBefore tick [] = Unit {0}

@@ -1,8 +1,8 @@
 ghost use Rattle.std.specs.Prelude.{◌≡◌, ◌↔◌, length, IsTrue, ℕ, ◌+◌, ◌<◌, ◌≤◌, ◌++◌, ◌∷◌, [], None, Some, IsSome, IsOk, IfOk, OnOk, OnErr, map, vec_len};
 ghost use Rattle.timing_wheel.specs.Timers.{Pending, by_deadline, due_by, due_after, but, keys_of, first_due, IsPending};
 
-use crate::drain::{drain, earliest, first_filled, is_later, make_room};
-use crate::places::{give_up, holds, keep};
+use crate::drain::{drain, earliest, first_filled, is_later, is_still, make_room};
+use crate::places::{give_up, holds, keep, make_place};
 use crate::slot::slot_of;
 use index_lists::IndexLists;
 use point_map::PointMap;
@@ -104,7 +104,7 @@ impl Levels {
         ensures err { OnErr result (self.new ≡ self.old) }
         ensures succeeds { 0 < self.old.spare → IsOk result }
     {
-        self.places.reserve(1)?;
+        make_place(&mut self.places)?;
         make_room(&mut self.lists)?;
         let slot = slot_of(self.time, deadline);
         let place = self.lists.push_back(slot, Timer { deadline, key });
@@ -124,8 +124,16 @@ impl Levels {
         let _timer = self.lists.remove(place);
     }
 
+    /// Whether no timer is due by a tick, as far as the slots tell without looking at each.
+    pub(crate) fn is_quiet(&self, to: u64) -> bool
+        requires forward { self.now.time ≤ to }
+        ensures { IsTrue result → due_by to self.now.timers ≡ [] }
+    {
+        is_still(&self.lists, self.least, to)
+    }
+
     /// Moves now on to a tick. The keys that are due by then are put behind those of a list, and their timers are taken off.
-    /// Without memory for them nothing changes.
+    /// Without memory for them nothing changes. Where no timer leaves its slot none is needed.
     pub(crate) fn advance(&mut self, to: u64, due: &mut Vec<u64>) -> Result<(), AllocError>
         requires forward { self.old.time ≤ to }
         ensures now { OnOk result (self.new.time ≡ to) }
@@ -135,6 +143,12 @@ impl Levels {
         ensures err { OnErr result (self.new ≡ self.old) }
         ensures err_due { OnErr result (due.new.items ≡ due.old.items) }
     {
+        let first = first_filled(&self.lists, self.least);
+        self.least = first;
+        if is_still(&self.lists, first, to) {
+            self.time = to;
+            return Ok(());
+        }
         due.reserve(self.lists.len())?;
         loop {
             let slot = first_filled(&self.lists, self.least);

@@ -87,6 +87,15 @@ impl Wheel {
         self.levels.remove(key);
     }
 
+    /// Whether no alarm is due by a time in nanoseconds, not before the present one. False also where alarms would have to be looked
+    /// at one by one.
+    pub fn is_quiet(&self, to: i64) -> bool
+        requires forward { self.now.time ≤ℤ to }
+        ensures { IsTrue result → due_by to self.now.alarms ≡ [] }
+    {
+        self.levels.is_quiet(tick_of(to))
+    }
+
     /// Moves the time on to one in nanoseconds, not before the present one. The keys of the alarms that are due by then are put
     /// behind those of the list, by deadline and then in order of adding, and these alarms are taken off. Fails only where the
     /// list can't have room for as many keys as there are alarms, and then nothing changes.

@@ -86,8 +86,8 @@ loop-self-smaller c =
     c.earliest.ensures.least i.forward) in
     omega (arith, ahead, tick_is, i.forward)
 
-pub invariant_of-self : goal.invariant_of-self
-invariant_of-self c =
+pub invariant_of-self-2 : goal.invariant_of-self-2
+invariant_of-self-2 c =
     let i = c.loop-self.invariant in
     let v = c.loop-self.self-inside.lists in
     let now = c.loop-self.self-inside.time in
@@ -131,3 +131,28 @@ returns-clause-rest c =
           moves_on now c.args.to at v i.inplace c.first_filled-slot.ensures.below (subst (IsFirstLater v at c.args.to) w.if-is_later.true w.is_later.ensures) i.forward
     ] in
     sym (queue_later c.args.to v inplace).1 ∙ i.rest
+
+pub invariant_of-self : goal.invariant_of-self
+invariant_of-self c =
+    let forward = subst (λ w. w.time ≤ c.args.to) (sym c.self.view_is) c.requires.forward in (
+      c.is_still.ensures c.if-is_still.true c.self.inside.time c.self.invariant.0 forward,
+      c.self.invariant.1,
+      c.first_filled-first.ensures.below,
+      c.first_filled-first.ensures.within,
+      c.self.invariant.4,
+      c.self.invariant.5,
+    )
+
+pub returns-then-is_still-clause-due : goal.returns-then-is_still-clause-due
+returns-then-is_still-clause-due c =
+    let forward = subst (λ w. w.time ≤ c.args.to) (sym c.self.view_is) c.requires.forward in
+    let inplace = c.is_still.ensures c.if-is_still.true c.self.inside.time c.self.invariant.0 forward in
+    sym (append-nil c.args.due.now.items)
+    ∙ ap (λ l. c.args.due.now.items ++ keys_of l) (sym (queue_later c.args.to c.self.inside.lists inplace).0)
+    ∙ ap (λ w. c.args.due.now.items ++ keys_of (due_by c.args.to w.timers)) c.self.view_is
+
+pub returns-then-is_still-clause-rest : goal.returns-then-is_still-clause-rest
+returns-then-is_still-clause-rest c =
+    let forward = subst (λ w. w.time ≤ c.args.to) (sym c.self.view_is) c.requires.forward in
+    let inplace = c.is_still.ensures c.if-is_still.true c.self.inside.time c.self.invariant.0 forward in
+    sym (queue_later c.args.to c.self.inside.lists inplace).1 ∙ ap (λ w. due_after c.args.to w.timers) c.self.view_is
