@@ -107,7 +107,7 @@ fn counted_and_reached(alloc: Global) -> bool {
         && now(&clock) == Some(12_000_000_000)
         && lists(&mut clock, 13_000_000_000, &mut stale, &[EVERY])
         && clock.advance(12_000_000_000, &mut stale) == Err(AdvanceFault::Back)
-        && clock.time() == 13_000_000_000
+        && clock.now() == 13_000_000_000
         && clock.after(7) == Ok(13_000_000_007)
         && clock.after(u64::MAX) == Err(AfterFault::Range)
         && forgets(&mut clock, EVERY)

@@ -1,26 +1,33 @@
 -- What a contract sees of a clock.
-use Rattle.std.specs.Prelude.{◌≡◌, ◌≢◌, ◌==◌, ◌++◌, ℤ, if◌then◌else◌, List, Option, None, Some}
+use Rattle.std.specs.Prelude.{◌≡◌, ◌≢◌, ◌==◌, ◌++◌, ℕ, ℤ, if◌then◌else◌, nat_eq, List, Option, None, Some}
+use Rattle.std.specs.Map.{lookup}
 use Rattle.inc_value.specs.Choice.{Among, NoRepeats, and_then}
 use Rattle.inc_value.specs.declared.node.NodeId.{NodeId}
 use Rattle.inc_terms.specs.Clock.{clock_value}
-use Rattle.inc_terms.specs.Code.{def_of}
 use Rattle.inc_terms.specs.Graph.{Def}
-use Rattle.point_map.specs.Rows.{Rows, at}
-use Rattle.timing_wheel.specs.Places.{key_point}
+use Rattle.clock_nodes.specs.Kinds.{watch_def, watch_slot}
 use Rattle.clock_nodes.specs.declared.watch.Watch.{Watch}
+
+-- the watched nodes, by generation
+abbrev pub Rows : Type 0
+Rows = List (ℕ × Watch)
+
+-- the watched node of a generation
+abbrev pub row_at : Rows → ℕ → Option Watch
+row_at rows gen = lookup (nat_eq gen) rows
 
 -- the time, and the nodes that are watched
 pub record Clock : Type 0 where
   pub time : ℤ
-  pub rows : Rows Watch
+  pub rows : Rows
 
 -- what the node is, where it is the one that is kept
 abbrev pub own : NodeId → Watch → Option Def
-own n w = if w.node.slot == n.slot then Some (def_of w.def) else None
+own n w = if watch_slot w == n.slot then Some (watch_def w) else None
 
 -- what a node is that is watched; none of another
 abbrev pub watched : Clock → NodeId → Option Def
-watched c n = and_then (at c.rows (key_point n.gen_)) (own n)
+watched c n = and_then (row_at c.rows n.gen_) (own n)
 
 -- no node of this generation is watched
 abbrev pub IsFree : Clock → NodeId → Type 0

@@ -1,2 +1,4 @@
 pub mod Clock
+pub mod Generations
 pub mod Keeping
+pub mod Kinds

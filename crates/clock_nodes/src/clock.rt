@@ -8,12 +8,13 @@ ghost use Rattle.inc_value.specs.declared.ty.Ty.TheVariants as ty;
 ghost use Rattle.inc_value.specs.declared.value.Value.{Value as AValue};
 ghost use Rattle.clock_nodes.specs.Clock.{watched, IsFree, KeepsWatched, ListsStale, Watches};
 
-use crate::settle::{arm, disarm, key_point, settle_due};
-use crate::watch::{Watch, copied};
+use crate::generations::Generations;
+use crate::settle::{arm, disarm, make_room, settle_due};
+use crate::watch::{Watch, keep};
 use inc_terms::Def;
 use inc_value::{NodeId, Value};
-use point_map::PointMap;
 use std::alloc::{AllocError, Global};
+use std::collections::HashMap;
 use std::marker::Model;
 use timing_wheel::Wheel;
 
@@ -38,7 +39,7 @@ pub enum AfterFault {
 pub struct Clock {
     alloc: Global,
     // The watched nodes, by generation.
-    rows: PointMap<Watch>,
+    rows: HashMap<u64, Watch, Generations>,
     // Alarms, whose keys are the generations.
     wheel: Wheel,
     // The keys whose alarms were due. None between any two calls.
@@ -67,9 +68,9 @@ impl Model for Clock {
 
     ghost Value = { Seen };
 
-    ghost view = { λ c. record { time = c.wheel.time; rows = c.rows } };
+    ghost view = { λ c. record { time = c.wheel.time; rows = c.rows.entries } };
 
-    ghost invariant = { λ c. IsAwake c.rows c.wheel [] × (c.due.items ≡ []) };
+    ghost invariant = { λ c. IsAwake c.rows.entries c.wheel [] × (c.due.items ≡ []) };
 }
 
 impl Clock {
@@ -80,14 +81,14 @@ impl Clock {
     {
         Clock {
             alloc,
-            rows: PointMap::new(alloc),
+            rows: HashMap::with_hasher(alloc, Generations::new()),
             wheel: Wheel::new(alloc, 0),
             due: Vec::new(alloc),
         }
     }
 
     /// The time, in nanoseconds.
-    pub fn time(&self) -> i64
+    pub fn now(&self) -> i64
         ensures { result ≡ self.now.time }
     {
         self.wheel.time()
@@ -97,8 +98,8 @@ impl Clock {
     pub fn is_watched(&self, id: NodeId) -> bool
         ensures { result ≡ is_some (watched self.now id) }
     {
-        match self.rows.get(key_point(id.gen_)) {
-            Some(watch) => watch.node.slot == id.slot,
+        match self.rows.get(&id.gen_) {
+            Some(watch) => watch.slot() == id.slot,
             None => false,
         }
     }
@@ -114,16 +115,15 @@ impl Clock {
         ensures err { OnErr result (KeepsWatched self.old self.new) }
     {
         self.rows.reserve(1)?;
-        let def = copied(self.alloc, def)?;
-        let next = def.next_change(self.wheel.time());
+        let watch = Watch::of(self.alloc, id.slot, def)?;
+        let next = watch.next_change(self.wheel.time());
         match arm(&mut self.wheel, id.gen_, next) {
             Ok(()) => {
-                self.rows
-                    .insert(key_point(id.gen_), Watch { node: id, def });
+                keep(&mut self.rows, id.gen_, watch);
                 Ok(())
             }
             Err(AllocError) => {
-                drop(def);
+                drop(watch);
                 Err(AllocError)
             }
         }
@@ -136,7 +136,7 @@ impl Clock {
         ensures dropped { Watches self.old self.new id None }
     {
         disarm(&mut self.wheel, id.gen_);
-        let watch = self.rows.remove(key_point(id.gen_));
+        let watch = self.rows.remove(&id.gen_);
         drop(watch);
     }
 
@@ -155,7 +155,7 @@ impl Clock {
         if to < before {
             return Err(AdvanceFault::Back);
         }
-        match stale.reserve(self.wheel.len()) {
+        match make_room(&self.wheel, to, stale) {
             Ok(()) => {}
             Err(AllocError) => return Err(AdvanceFault::Memory),
         }

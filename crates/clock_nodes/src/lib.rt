@@ -2,6 +2,7 @@
 #![tactic(auto)]
 
 mod clock;
+mod generations;
 mod settle;
 mod watch;
 

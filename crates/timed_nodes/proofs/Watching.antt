@@ -192,17 +192,6 @@ module _ (arena : Arena) (timed : Timed) (kept : KeepsClock arena timed) (sound 
   clock_taken r row clock time (inr (none, same)) timed' is_clock is_taken is_stale =
       clock_passed r row none timed' (is_clock ∙ same) is_taken is_stale
 
-  -- there was no memory, and the same nodes are watched
-  pub clock_unwatched : (clock : Clock) → clock.time ≡ timed.clock.time → KeepsWatched timed.clock clock
-      → (timed' : Timed) → timed' ≡ record timed { clock = clock } → KeepsClock arena timed'
-  clock_unwatched clock time same timed' is = subst (KeepsClock arena) (sym is) (record {
-    time = time ∙ kept.time;
-    few = kept.few;
-    watches = λ n r row before reads. same n ∙ kept.watches n r row before reads;
-    alone = λ n def w. kept.alone n def (sym (same n) ∙ w);
-    stale = kept.stale;
-  })
-
 -- ---- the time has moved
 
 pub clock_moved : (arena arena' : Arena) (timed timed' : Timed) (to : ℤ) → KeepsClock arena timed → IsMovedTo arena arena' to

@@ -9,9 +9,9 @@ decreases-loop l = vec_len l.due
 -- what was told so far, and room for the others
 abbrev pub invariant-loop : goal.invariant-loop
 invariant-loop l = record {
-  awake : IsAwake l.rows l.wheel l.due.items;
+  awake : IsAwake l.rows.entries l.wheel l.due.items;
   time : l.wheel.time ≡ l.fn.wheel.time;
   spare : vec_len l.due ≤ l.wheel.spare;
   room : vec_len l.stale + vec_len l.due ≤ vec_capacity l.stale;
-  told : TellsDue l.rows l.before l.fn.wheel.time l.fn.due.items l.due.items l.fn.stale.items l.stale.items;
+  told : TellsDue l.rows.entries l.before l.fn.wheel.time l.fn.due.items l.due.items l.fn.stale.items l.stale.items;
 }

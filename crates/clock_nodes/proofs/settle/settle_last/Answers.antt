@@ -1,10 +1,9 @@
-use Rattle.std.proofs.Common.{arith, rules, ◌≡◌, ◌∙◌, ◌++◌, ◌∷◌, [], Some, IsSome, Option, None, Bor, Vec, Global, option_copied, IsTrue, ◌≢◌, inl, inr, sym, ap, refl, subst, FitsSigned, to_z, of_z, w64}
+use Rattle.std.proofs.Common.{ℕ, arith, rules, ◌≡◌, ◌∙◌, ◌++◌, ◌∷◌, [], Some, IsSome, Option, None, Bor, Vec, Global, option_copied, IsTrue, ◌≢◌, inl, inr, sym, ap, refl, subst, FitsSigned, to_z, of_z, w64}
 use Rattle.std.proofs.lemmas.Int.{ints}
-use Rattle.point_map.specs.Rows.{at}
 use Rattle.inc_value.specs.declared.node.NodeId.{NodeId}
 use Rattle.inc_terms.specs.Clock.{IsNextChange, clock_value}
-use Rattle.inc_terms.specs.Code.{def_of}
-use Rattle.timing_wheel.specs.Places.{key_point}
+use Rattle.clock_nodes.specs.Clock.{row_at}
+use Rattle.clock_nodes.specs.Kinds.{watch_def}
 use Rattle.clock_nodes.specs.Keeping.{IsAwake}
 use Rattle.clock_nodes.specs.declared.watch.Watch.{Watch}
 use Rattle.clock_nodes.proofs.Alarms.{among_last, pending_among}
@@ -19,37 +18,37 @@ some_copied (Some b) h = refl
 pub unwrap-watch-requires : goal.unwrap-watch-requires
 unwrap-watch-requires c =
     let key = c.in-Some.key in
-    let awake : IsAwake c.args.rows.now c.args.wheel.now (c.pop.new.self.items ++ key ∷ []) = subst (IsAwake c.args.rows.now c.args.wheel.now) c.in-Some.ensures.items c.requires.awake in
-    some_copied c.get.result (subst IsSome (ap (at c.args.rows.now) (sym c.key_point.ensures) ∙ sym c.get.ensures) (awake.due_kept key (among_last key c.pop.new.self.items)))
+    let awake : IsAwake c.args.rows.now.entries c.args.wheel.now (c.pop.new.self.items ++ key ∷ []) = subst (IsAwake c.args.rows.now.entries c.args.wheel.now) c.in-Some.ensures.items c.requires.awake in
+    some_copied c.get.result (subst IsSome (sym c.get.ensures.value) (awake.due_kept key (among_last key c.pop.new.self.items)))
 
-pub set_alarm-requires-clause-fresh : goal.set_alarm-requires-clause-fresh
-set_alarm-requires-clause-fresh c = λ pending.
+pub arm-armed-requires-clause-fresh : goal.arm-armed-requires-clause-fresh
+arm-armed-requires-clause-fresh c = λ pending.
     let key = c.in-Some.key in
-    let awake : IsAwake c.args.rows.now c.args.wheel.now (c.pop.new.self.items ++ key ∷ []) = subst (IsAwake c.args.rows.now c.args.wheel.now) c.in-Some.ensures.items c.requires.awake in
+    let awake : IsAwake c.args.rows.now.entries c.args.wheel.now (c.pop.new.self.items ++ key ∷ []) = subst (IsAwake c.args.rows.now.entries c.args.wheel.now) c.in-Some.ensures.items c.requires.awake in
     awake.due_off key (among_last key c.pop.new.self.items) (pending_among c.args.wheel.now.alarms key pending)
 
 pub returns-clause-awake : goal.returns-clause-awake
 returns-clause-awake c =
     let key = c.in-Some.key in
     let watch : Watch = c.unwrap-watch.result.now in
-    let awake : IsAwake c.args.rows.now c.args.wheel.now (c.pop.new.self.items ++ key ∷ []) = subst (IsAwake c.args.rows.now c.args.wheel.now) c.in-Some.ensures.items c.requires.awake in
-    let there : at c.args.rows.now (key_point key) ≡ Some watch = ap (at c.args.rows.now) (sym c.key_point.ensures) ∙ sym (rw c.unwrap-watch.ensures at c.get.ensures) in
+    let awake : IsAwake c.args.rows.now.entries c.args.wheel.now (c.pop.new.self.items ++ key ∷ []) = subst (IsAwake c.args.rows.now.entries c.args.wheel.now) c.in-Some.ensures.items c.requires.awake in
+    let there : row_at c.args.rows.now.entries key ≡ Some watch = sym (rw c.unwrap-watch.ensures at c.get.ensures.value) in
     let fits : FitsSigned w64 c.time-time.result = search rules in
     let time : to_z w64 (of_z w64 c.time-time.result) ≡ c.args.wheel.now.time = (let e = c.time-time.ensures in omega (arith, ints, fits, e)) in
-    let quiet : IsNextChange c.args.wheel.now.time (def_of watch.def) c.next_change.result
-    = subst (λ t. IsNextChange t (def_of watch.def) c.next_change.result) time c.next_change.ensures in
-    armed c.args.rows.now c.args.wheel.now c.set_alarm.new.wheel key c.pop.new.self.items watch c.next_change.result awake there quiet
-    c.set_alarm.ensures.time c.set_alarm.ensures.set c.set_alarm.ensures.none
+    let quiet : IsNextChange c.args.wheel.now.time (watch_def watch) c.next_change.result
+    = subst (λ t. IsNextChange t (watch_def watch) c.next_change.result) time c.next_change.ensures in
+    armed c.args.rows.now.entries c.args.wheel.now c.arm-armed.new.wheel key c.pop.new.self.items watch c.next_change.result awake there quiet
+    c.arm-armed.ensures.time (rw c.unwrap.ensures at c.arm-armed.ensures.set) c.arm-armed.ensures.none
 
 pub returns-clause-told : goal.returns-clause-told
 returns-clause-told c = λ yes_is.
     let key = c.in-Some.key in
     let watch : Watch = c.unwrap-watch.result.now in
-    let there : at c.args.rows.now (key_point key) ≡ Some watch = ap (at c.args.rows.now) (sym c.key_point.ensures) ∙ sym (rw c.unwrap-watch.ensures at c.get.ensures) in
+    let there : row_at c.args.rows.now.entries key ≡ Some watch = sym (rw c.unwrap-watch.ensures at c.get.ensures.value) in
     let fits : FitsSigned w64 c.time-time.result = search rules in
     let time : to_z w64 (of_z w64 c.time-time.result) ≡ c.args.wheel.now.time = (let e = c.time-time.ensures in omega (arith, ints, fits, e)) in
     let before : to_z w64 (of_z w64 c.args.before) ≡ c.args.before = omega (arith, ints, c.ranges.before) in
-    let d = def_of watch.def in
+    let d = watch_def watch in
     let told : (IsTrue c.is_changed.result → clock_value c.args.wheel.now.time d ≢ clock_value c.args.before d)
     × (clock_value c.args.wheel.now.time d ≢ clock_value c.args.before d → IsTrue c.is_changed.result)
     = subst (λ t. (IsTrue c.is_changed.result → clock_value t d ≢ clock_value c.args.before d) × (clock_value t d ≢ clock_value c.args.before d → IsTrue c.is_changed.result)) time
@@ -61,7 +60,11 @@ returns-clause-told c = λ yes_is.
         | then-is_changed w ↦ record {
           watch = watch;
           is = there;
-          told = inr (ap (λ (v : Vec NodeId Global). v.items) w.stale-is ∙ w.push_reserved.ensures.items, told.0 w.if-is_changed.true);
+          told = inr (
+            ap (λ (v : Vec NodeId Global). v.items) w.stale-is ∙ w.push_reserved.ensures.items
+                ∙ ap (λ (s : ℕ). c.args.stale.now.items ++ record { slot = s; gen_ = key } ∷ []) w.slot.ensures,
+            told.0 w.if-is_changed.true,
+          );
         }
         | else-is_changed w ↦ record {
           watch = watch;
