@@ -1,5 +1,5 @@
 -- What a call that gives a point its links answers, by what it called.
-use Rattle.std.proofs.Common.{◌≡◌, ◌∙◌, ◌∷◌, Bool, true, false, List, [], Option, Some, refl, sym, ap, subst, arith}
+use Rattle.std.proofs.Common.{◌≡◌, ◌∙◌, ◌∷◌, Bool, true, false, List, [], Some, refl, sym, ap, subst, arith}
 use Rattle.std.specs.Prelude.{Result, Ok, Err, IsErrAnd, IsTrue, IsFalse}
 use Rattle.inc_value.specs.declared.node.NodeId.{NodeId}
 use Rattle.inc_value.specs.declared.node.Point.{Point}
@@ -14,7 +14,7 @@ use Rattle.point_map.specs.Rows.{Rows, at}
 use Rattle.wiring.specs.Answers.{EndsWired, WireAnswers, TakenAnswers, PassesGate, GateAnswers, AsksGate, ConnectAnswers}
 use Rattle.wiring.specs.Growing.{Grows}
 use Rattle.wiring.specs.Kept.{IsKept}
-use Rattle.wiring.specs.Stands.{PointInHand, hand}
+use Rattle.wiring.specs.Stands.{hand}
 use Rattle.wiring.specs.Wiring.{Wires, WiresTaken, StaysInHand, KeepsPlaces}
 use Rattle.wiring.specs.declared.refused.Refused.{Refused}
 use Rattle.wiring.specs.declared.work.Work.{Work}
@@ -148,11 +148,6 @@ module _ (arena : Arena) (old mid : Work) (p q : Point) (owed : IsOwed arena old
       → WireAnswers arena old con (Some (hand p [])) (Ok x)
   link_answers x true a wires = then_answers a x refl con (wires refl) (same_places con) a.kept (grows_here con)
   link_answers x false a wires = gone_answers a x refl
-
--- what it left is this
-pub answers_at : {A : Type 0} {r : Result A Refused} (arena : Arena) (old new now : Work) (held : Option PointInHand) → now ≡ new
-    → WireAnswers arena old new held r → WireAnswers arena old now held r
-answers_at {A} {r} arena old new now held is a = subst (λ (w : Work). WireAnswers arena old w held r) (sym is) a
 
 -- ---- at the gate
 

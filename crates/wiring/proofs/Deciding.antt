@@ -1,5 +1,9 @@
 -- The test of need is exact.
-use Rattle.std.proofs.Common.{◌≡◌, ◌⊎◌, inl, inr, ℕ, zero, suc, ◌+◌, ◌<◌, ◌≤◌, ◌&&◌, Bool, true, false, cond, List, [], ◌∷◌, refl, sym, subst, ◌∙◌, arith}
+use Rattle.std.proofs.Common.{◌≡◌, ◌⊎◌, inl, inr, ℕ, zero, suc, ◌+◌, ◌<◌, ◌≤◌, ◌&&◌, Bool, true, false, cond, List, [], ◌∷◌, refl, sym, subst, ◌∙◌, arith, not, Option, Some}
+use Rattle.inc_value.specs.declared.node.Part.{Part}
+use Rattle.inc_value.specs.declared.node.Part.TheVariants.{Main, Change}
+use Rattle.node_outcomes.specs.declared.row.Stage.{Stage}
+use Rattle.node_outcomes.specs.declared.row.Stage.TheVariants as code
 use Rattle.std.specs.Prelude.{◌==◌, ◌↔◌, Contains}
 use Rattle.std.specs.List.{list_any}
 use Rattle.std.proofs.lemmas.Bool.Decides.{nat_tests}
@@ -105,3 +109,29 @@ same_need g h roots links p = (
 
 pub not_both : (b : Bool) → b ≡ false → b ≡ true → ⊥
 not_both b f t = absurd (let e = sym f ∙ t in cc)
+
+-- two tests of a point that is needed still
+pub still_tests : (gated b : Bool) (N G : Type 0) → gated ≡ false → N → (b ≡ true) ↔ G → (not b ≡ true) ↔ (N × (G → gated ≡ true))
+still_tests gated true N G f n both = ((λ t. absurd (let e = t in cc)), (λ k. absurd (let t = k.1 (both.0 refl) in let g = f in cc)))
+still_tests gated false N G f n both = ((λ t. (n, λ g. absurd (let e = both.1 g in cc))), (λ k. refl))
+
+-- either of two tests
+pub by_first : (a : Bool) (A B : Type 0) → (a ≡ true) ↔ A → a ≡ true → (a ≡ true) ↔ (A ⊎ B)
+by_first a A B both t = ((λ h. inl (both.0 h)), (λ k. t))
+
+pub by_second : (a b : Bool) (A B : Type 0) → (a ≡ true) ↔ A → (b ≡ true) ↔ B → a ≡ false → (b ≡ true) ↔ (A ⊎ B)
+by_second a b A B first second f = (
+  (λ h. inr (second.0 h)),
+  (λ k. elim k [ inl h ↦ absurd (let t = first.1 h in let g = f in cc) | inr h ↦ second.1 h ]),
+)
+
+-- ---- what isn't two things at once
+
+pub not_main : (x : Part) → x ≡ Change → x ≡ Main → ⊥
+not_main x e m = absurd (let h = sym e ∙ m in cc)
+
+pub gated_not_full : (x : Option Stage) → x ≡ Some code.Gated → x ≡ Some code.Full → ⊥
+gated_not_full x g f = absurd (let h = sym g ∙ f in cc)
+
+pub static_not_full : (x : Option Stage) → x ≡ Some code.Static → x ≡ Some code.Full → ⊥
+static_not_full x s f = absurd (let h = sym s ∙ f in cc)

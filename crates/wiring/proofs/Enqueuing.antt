@@ -14,7 +14,8 @@ use Rattle.stabilize_round.proofs.Parts.{bool_cases}
 use Rattle.node_outcomes.specs.Row.{IsRewritten, settled_in, with_stage}
 use Rattle.wiring.specs.Graph.{HasLinks, died_at}
 use Rattle.wiring.proofs.Placing.{among_before, among_last}
-use Rattle.wiring.specs.Wiring.{KeepsGraph, IsEnqueued, AreEnqueued, IsNewlyNeeded}
+use Rattle.inc_value.specs.declared.outcome.Outcome.{Outcome}
+use Rattle.wiring.specs.Wiring.{KeepsGraph, IsEnqueued, AreEnqueued, IsMarked, IsNewlyNeeded, Stops, TellsReaders}
 use Rattle.node_outcomes.specs.declared.row.Progress.{Progress}
 use Rattle.node_outcomes.specs.declared.row.Stage.TheVariants.{Bare}
 use Rattle.wiring.specs.declared.work.Work.{Work}
@@ -155,3 +156,61 @@ module _ (old : Work) (q : Point) (step_is : IsInStep old.graph) (dead : at old.
       → IsNewlyNeeded old (record old { todo = todo }) q
   ghost_woken died todo more = woken_with todo (λ h. more) (λ none. absurd (let e = ap is_some none in let d = died in cc))
       (λ p a. subst (Among p) (sym more) (among_before p q old.todo.items a))
+
+  -- of another one: nothing changes
+  pub leaf_woken : died_at old q.node ≡ None → IsNewlyNeeded old old q
+  leaf_woken alive = record {
+    graph = record { links = refl; roots = refl; heights = refl };
+    others = λ p ne. refl;
+    kept = λ h. h;
+    told = λ h. absurd (no_row h);
+    only = λ h. inl h;
+    rows = bare_rows;
+    listed = λ h. absurd (no_links h);
+    pushed = λ h. absurd (no_links h);
+    leaf = λ none alive. refl;
+    todo = λ p a. a;
+    lists = record { pairs = refl; scoped = refl };
+    round = record { roots = refl; deaths = refl; ran = refl; retries = refl; round = refl };
+    step = step_is;
+  }
+    where
+      no_links : HasLinks old q → ⊥
+      no_links (inl h) = no_row h
+      no_links (inr died) = let none = ap is_some alive in let d = died in cc
+
+-- a settled point isn't inserted
+pub settled_already : (old : Work) (q : Point) → IsInStep old.graph → settled_in old.round (at old.rows q) ≡ true → IsEnqueued old old q
+settled_already old q step settled = record {
+  graph = record { links = refl; roots = refl; heights = refl };
+  others = λ p ne. refl;
+  kept = λ h. h;
+  told = inr settled;
+  only = λ h. inl h;
+  step = step;
+}
+
+-- a point that isn't needed isn't inserted
+pub unneeded_stays : (g : NecessaryPart) (p : Point) → (Needed g p → ⊥) → IsMarked g g p
+unneeded_stays g p none = record {
+  graph = record { links = refl; roots = refl; heights = refl };
+  others = λ q ne. refl;
+  told = λ need. absurd (none need);
+  only = λ h. inl h;
+}
+
+-- ---- a point that was settled
+
+-- its readers were told
+pub tells : (old : Work) (rows : Rows Progress) (new : Work) (p : Point) (o : Outcome) → AreEnqueued (record old { rows = rows }) new p
+    → new ≡ record old { graph = new.graph; rows = rows } → (Stops old p o → ⊥) → TellsReaders old new p o
+tells old rows new p o e rest never = record {
+  kept = e.kept;
+  told = λ _ r reads. subst (λ (w : Work). Holds new.graph.heap r ⊎ (settled_in w.round (at w.rows r) ≡ true)) (sym rest) (e.told r reads);
+  only = λ r h. subst (λ (w : Work). Holds old.graph.heap r ⊎ (Reads old.graph.links r p × (settled_in w.round (at w.rows r) ≡ false))) (sym rest) (e.only r h);
+  stops = λ stop. absurd (never stop);
+}
+
+-- they needn't be
+pub tells_none : (old : Work) (rows : Rows Progress) (p : Point) (o : Outcome) → Stops old p o → TellsReaders old (record old { rows = rows }) p o
+tells_none old rows p o stop = record { kept = λ r h. h; told = λ never. absurd (never stop); only = λ r h. inl h; stops = λ s r h. h }

@@ -37,6 +37,10 @@ module _ (links : Links) (rows : Rows Progress) (gate : Point) where
   }
 
   module _ (old now : List Point) (r : Point) (rest : List Point) (so : IsGathering old now (r ∷ rest)) where
+    -- the next one reads the gate
+    pub gathering_reads : Reads links r gate
+    gathering_reads = so.covers.among r (occurs_first r rest)
+
     pub gathering_skip : (HasGateAlone r → ⊥) → IsGathering old now rest
     gathering_skip over = record {
       covers = covers_next (λ (p : Point). Reads links p gate) (IsIn now) (IsIn now) r rest so.covers (λ x d. d) (λ g. absurd (over g));

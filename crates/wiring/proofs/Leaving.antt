@@ -49,6 +49,7 @@ pub record IsWiring (arena : Arena) (old new : Work) : Type 0 where
   pub wires : Wires arena old new None
   pub places : KeepsPlaces old new
   pub kept : IsKept arena new
+  pub idle : old.todo.items ≡ [] → new.todo.items ≡ []
 
 -- at first
 pub wiring_first : (arena : Arena) (work : Work) → IsKept arena work → IsWiring arena work work
@@ -56,7 +57,12 @@ wiring_first arena work kept = record {
   wires = λ F z s counts inv on unlinked. (s, plainly here, on, unlinked);
   places = record { rows = λ a. refl; roots = λ a. refl; deaths = refl; round = refl };
   kept = kept;
+  idle = λ none. none;
 }
+
+not_empty : (ps : List Point) (p : Point) → ps ++ p ∷ [] ≡ [] → ⊥
+not_empty [] p e = absurd (cc)
+not_empty (q ∷ ps) p e = absurd (cc)
 
 -- a point was taken from it
 module _ (arena : Arena) (old mid : Work) (todo : Vec Point Global) (p : Point) (so : IsWiring arena old mid)
@@ -71,6 +77,10 @@ module _ (arena : Arena) (old mid : Work) (todo : Vec Point Global) (p : Point) 
       let in_hand = taken_stands a.0 arena mid todo counts p a.2
       (λ b h. among_cases b p todo.items (subst (λ (xs : List Point). Among b xs) items h)) in
       (a.0, a.1, moves_keep F z s a.0 (wired_moves F z s a.0 a.1) inv, in_hand, a.3)
+
+  -- so it wasn't empty at first
+  pub was_listed : old.todo.items ≡ [] → ⊥
+  was_listed none = not_empty todo.items p (sym items ∙ so.idle none)
 
   now_kept : IsKept arena popped
   now_kept = todo_kept arena mid todo so.kept
@@ -91,6 +101,7 @@ module _ (arena : Arena) (old mid : Work) (todo : Vec Point Global) (p : Point) 
         (b.0, wired_after F z s a.0 b.0 a.1 b.1, b.2, b.3);
     places = now_places;
     kept = now_kept;
+    idle = λ none. absurd (was_listed none);
   }
 
   -- the point got its links, or waits
@@ -102,6 +113,7 @@ module _ (arena : Arena) (old mid : Work) (todo : Vec Point Global) (p : Point) 
         (b.0, wired_then F z s a.0 b.0 a.1 b.1, b.2, b.3);
     places = places_then old popped new now_places places;
     kept = kept;
+    idle = λ none. absurd (was_listed none);
   }
 
   -- a link of the point was refused

@@ -11,6 +11,7 @@ pub mod Once
 pub mod Sight
 pub mod Agreeing
 pub mod Placing
+pub mod Room
 pub mod TakingOff
 pub mod Detaching
 pub mod TakingOne

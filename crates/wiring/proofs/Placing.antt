@@ -13,11 +13,14 @@ use Rattle.map_nodes.specs.declared.cutoff.Cutoff.TheVariants.{Equal}
 use Rattle.point_map.specs.Rows.{Rows, at, Changes, KeepsRows}
 use Rattle.point_map.proofs.Places.{point_cases}
 use Rattle.node_arena.specs.Arena.{Arena, IsLive}
+use Rattle.node_lists.specs.Listed.{Listed}
 use Rattle.node_outcomes.specs.Computing.{has_part}
 use Rattle.node_outcomes.specs.declared.row.Progress.{Progress}
 use Rattle.node_outcomes.specs.declared.row.Stage.TheVariants.{Bare}
 use Rattle.stabilize_round.proofs.Points.{node_or_other}
 use Rattle.wiring.specs.Places.{ChangesNode, for_parts, pairs_after}
+use Rattle.wiring.specs.Wiring.{GraphStays, KeepsRound}
+use Rattle.wiring.specs.declared.work.Work.{Work}
 
 -- the row of a new point
 abbrev pub unsettled : Progress
@@ -170,3 +173,58 @@ both_gone old mid new n first then = record {
     now : (part : Part) → at new (record { node = n; part = part }) ≡ None
     now Main = then.others (main n) (λ e. change_other n n (sym e)) ∙ first.changed
     now Change = then.changed
+
+-- the one point of a node went
+pub one_gone : {A : Type 0} (old new : Rows A) (n : NodeId) → Changes old new (main n) None → at new (change n) ≡ None
+    → ChangesNode old new n (λ part. None)
+one_gone old new n c none = record { now = now; others = λ p ne. c.others p (λ is. ne (ap (λ (x : Point). x.node) is)) }
+  where
+    now : (part : Part) → at new (record { node = n; part = part }) ≡ None
+    now Main = c.changed
+    now Change = none
+
+-- a change stays where the main goes, or comes
+pub change_still : {A : Type 0} (old new : Rows A) (n : NodeId) (row : Option A) → Changes old new (main n) row → at new (change n) ≡ at old (change n)
+change_still old new n row c = c.others (change n) (change_other n n)
+
+-- ---- what stays where points come and go
+
+rounds : (old mid new : Work) → KeepsRound old mid → KeepsRound mid new → KeepsRound old new
+rounds old mid new a b = record {
+  roots = b.roots ∙ a.roots;
+  deaths = b.deaths ∙ a.deaths;
+  ran = b.ran ∙ a.ran;
+  retries = b.retries ∙ a.retries;
+  round = b.round ∙ a.round;
+}
+
+pub stays_twice : (old mid new : Work) → GraphStays old mid → GraphStays mid new → GraphStays old new
+stays_twice old mid new a b = record {
+  links = b.links ∙ a.links;
+  roots = b.roots ∙ a.roots;
+  heap = λ p. b.heap p ∙ a.heap p;
+  step = b.step;
+  todo = b.todo ∙ a.todo;
+  round = rounds old mid new a.round b.round;
+}
+
+-- which nodes are listed is no part of it
+pub stays_listed : (old new : Work) (pairs scoped : Listed) → GraphStays (record old { pairs = pairs; scoped = scoped }) new → GraphStays old new
+stays_listed old new pairs scoped a = record {
+  links = a.links;
+  roots = a.roots;
+  heap = a.heap;
+  step = a.step;
+  todo = a.todo;
+  round = record { roots = a.round.roots; deaths = a.round.deaths; ran = a.round.ran; retries = a.round.retries; round = a.round.round };
+}
+
+pub stays_then_listed : (old new : Work) (pairs scoped : Listed) → GraphStays old new → GraphStays old (record new { pairs = pairs; scoped = scoped })
+stays_then_listed old new pairs scoped a = record {
+  links = a.links;
+  roots = a.roots;
+  heap = a.heap;
+  step = a.step;
+  todo = a.todo;
+  round = record { roots = a.round.roots; deaths = a.round.deaths; ran = a.round.ran; retries = a.round.retries; round = a.round.round };
+}

@@ -33,7 +33,8 @@ use Rattle.node_outcomes.specs.Computing.{ReasonIn, IsSeenDue, CallsSeen, last_i
 use Rattle.wiring.specs.Kept.{IsKept}
 use Rattle.wiring.proofs.Agreeing.{code_row}
 use Rattle.wiring.proofs.Staying.{row_of_state, out_is}
-use Rattle.node_outcomes.specs.Row.{never_in, settled_in, outcome_in}
+use Rattle.map_nodes.specs.Cutoff.{TellsAgain}
+use Rattle.node_outcomes.specs.Row.{cutoff_in, settled_in, outcome_in}
 use Rattle.wiring.specs.Stands.{MatchesState, Counts}
 use Rattle.node_outcomes.specs.declared.row.Progress.{Progress}
 use Rattle.wiring.specs.declared.work.Work.{Work}
@@ -226,32 +227,28 @@ module _ (s : State) (arena : Arena) (work : Work) (counts : Counts) (kept : IsK
     pub looks : LooksAtSeen work.rows (graph_at arena work) n r.def
     looks = record { kids = kids_known; choice = choice; right = right_seen }
 
-  -- a node has cutoff Never in the state that has it by rows; so it is by rows of what was settled
-  never_is : (m : NodeId) (x : Option Progress) → at work.rows (main m) ≡ x → never_in x ≡ true → s.never m ≡ true
-  never_is m None e h = absurd (cc)
-  never_is m (Some k) e h = st.never m k e ∙ h
-
-  never_seen : (m : NodeId) (x : Option Progress) → at work.rows (main m) ≡ x → s.never m ≡ true → settled_in work.round x ≡ true → never_in x ≡ true
-  never_seen m None e never settled = absurd (cc)
-  never_seen m (Some k) e never settled = sym (st.never m k e) ∙ never
+  -- a node has the cutoff in the state that it has by rows, where it was settled
+  cutoff_is : (m : NodeId) (x : Option Progress) → at work.rows (main m) ≡ x → settled_in work.round x ≡ true → s.cutoff m ≡ cutoff_in x
+  cutoff_is m None e settled = absurd (cc)
+  cutoff_is m (Some k) e settled = st.cutoff m k e
 
   module _ (n : NodeId) (k : Progress) (row : at work.rows (main n) ≡ Some k) where
     last_is : last_in work.rows n ≡ s.last n
     last_is = ap (option_and_then (λ (x : Progress). x.last)) row ∙ sym (st.last n k row)
 
     -- a reason by rows is one in the state
-    reason_is : (ns : List NodeId) (values : List Value) → ReasonIn work.round work.rows n ns values → Reason s.last s.never s.settled s.stale n ns values
+    reason_is : (ns : List NodeId) (values : List Value) → ReasonIn work.round work.rows n ns values → Reason s.last s.cutoff s.settled s.stale n ns values
     reason_is ns values (other differs) = other (λ c l a. differs c (last_is ∙ l) a)
-    reason_is ns values (why.forced {kid} a never settled) =
-        why.forced {kid = kid} a (never_is kid (at work.rows (main kid)) refl never) (st.settled (main kid) ∙ settled)
+    reason_is ns values (why.forced {kid} a tells settled) =
+        why.forced {kid = kid} a (subst TellsAgain (sym (cutoff_is kid (at work.rows (main kid)) refl settled)) tells) (st.settled (main kid) ∙ settled)
     reason_is ns values (made_stale marked) = absurd (cc)
 
     -- and the other way round, as none was made stale
-    reason_seen : (ns : List NodeId) (values : List Value) → Reason s.last s.never s.settled s.stale n ns values → ReasonIn work.round work.rows n ns values
+    reason_seen : (ns : List NodeId) (values : List Value) → Reason s.last s.cutoff s.settled s.stale n ns values → ReasonIn work.round work.rows n ns values
     reason_seen ns values (other differs) = other (λ c l a. differs c (sym last_is ∙ l) a)
-    reason_seen ns values (why.forced {kid} a never settled) =
+    reason_seen ns values (why.forced {kid} a tells settled) =
         let done = sym (st.settled (main kid)) ∙ settled in
-        why.forced {kid = kid} a (never_seen kid (at work.rows (main kid)) refl never done) done
+        why.forced {kid = kid} a (subst TellsAgain (cutoff_is kid (at work.rows (main kid)) refl done) tells) done
     reason_seen ns values (made_stale marked) = absurd (let x = st.stale n in cc)
 
     -- what is seen due is due

@@ -18,7 +18,7 @@ use Rattle.node_arena.specs.Graph.{graph_of}
 use Rattle.stabilize_round.specs.State as machine
 use Rattle.stabilize_round.specs.State.{State, at_point}
 use Rattle.stabilize_round.proofs.Points.{same_or_other, at_same, at_other}
-use Rattle.node_outcomes.specs.Row.{IsRewritten, with_stage, settled_in, outcome_in, stage_in, stage_of, is_never}
+use Rattle.node_outcomes.specs.Row.{IsRewritten, with_stage, settled_in, outcome_in, stage_in, stage_of}
 use Rattle.node_outcomes.specs.declared.row.Progress.{Progress}
 use Rattle.node_outcomes.specs.declared.row.Stage.{Stage}
 use Rattle.node_outcomes.specs.declared.row.Stage.TheVariants as code
@@ -278,7 +278,7 @@ module _ (old new : Work) (most : KeepsMost old new) where
     graph = ap (λ (x : State). x.graph) same ∙ (st.graph ∙ sym (most_graph arena));
     out = λ a k e. let b = most.rows a k e in ap (λ (x : State). x.out a) same ∙ (st.out a b.row b.was ∙ sym b.outcome);
     last = λ n k e. let b = most.rows (main n) k e in ap (λ (x : State). x.last n) same ∙ (st.last n b.row b.was ∙ sym b.last);
-    never = λ n k e. let b = most.rows (main n) k e in ap (λ (x : State). x.never n) same ∙ (st.never n b.row b.was ∙ ap is_never (sym b.cutoff));
+    cutoff = λ n k e. let b = most.rows (main n) k e in ap (λ (x : State). x.cutoff n) same ∙ (st.cutoff n b.row b.was ∙ sym b.cutoff);
     stale = λ n. ap (λ (x : State). x.stale n) same ∙ st.stale n;
     links = shows.links;
     root = shows.root;

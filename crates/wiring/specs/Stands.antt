@@ -11,7 +11,7 @@ use Rattle.height_order.specs.Levels.{level}
 use Rattle.necessary_graph.specs.Part.{Needed}
 use Rattle.node_arena.specs.Arena.{Arena}
 use Rattle.stabilize_round.specs.State.{State, at_point}
-use Rattle.node_outcomes.specs.Row.{stage_of, settled_in, is_never}
+use Rattle.node_outcomes.specs.Row.{stage_of, settled_in}
 use Rattle.node_outcomes.specs.declared.row.Progress.{Progress}
 use Rattle.wiring.specs.Graph.{graph_at, died_at}
 use Rattle.wiring.specs.declared.work.Work.{Work}
@@ -46,7 +46,7 @@ pub record StandsWith (IsNeeded : Point → Type 0) (arena : Arena) (work : Work
   pub graph : s.graph ≡ graph_at arena work
   pub out : (p : Point) (k : Progress) → at work.rows p ≡ Some k → s.out p ≡ k.outcome
   pub last : (n : NodeId) (k : Progress) → at work.rows (main n) ≡ Some k → s.last n ≡ k.last
-  pub never : (n : NodeId) (k : Progress) → at work.rows (main n) ≡ Some k → s.never n ≡ is_never k.cutoff
+  pub cutoff : (n : NodeId) (k : Progress) → at work.rows (main n) ≡ Some k → s.cutoff n ≡ k.cutoff
   pub stale : (n : NodeId) → s.stale n ≡ false
   pub links : (p q : Point) → s.links p q ≡ times work.graph.links p q
   pub root : (p : Point) → s.root p ≡ root_times work.graph.roots p

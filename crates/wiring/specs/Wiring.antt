@@ -28,7 +28,8 @@ use Rattle.wiring.specs.Kept.{IsGhostLink}
 use Rattle.wiring.specs.Stands.{MatchesState, Counts, PointInHand, hand, IsInHand}
 use Rattle.wiring.specs.Deciding.{is_needed}
 use Rattle.wiring.specs.Refusing.{TellsWhy}
-use Rattle.node_outcomes.specs.Row.{IsRewritten, with_stage, stage_in, settled_in, outcome_in, IsStopped}
+use Rattle.map_nodes.specs.Cutoff.{IsStopped}
+use Rattle.node_outcomes.specs.Row.{IsRewritten, with_stage, stage_in, settled_in, outcome_in}
 use Rattle.wiring.specs.declared.refused.Refused.{Refused}
 use Rattle.node_outcomes.specs.declared.row.Progress.{Progress}
 use Rattle.node_outcomes.specs.declared.row.Stage.{Stage}
@@ -86,11 +87,11 @@ pub record AreEnqueued (old new : Work) (q : Point) : Type 0 where
   pub told : (r : Point) → Reads old.graph.links r q → Holds new.graph.heap r ⊎ (settled_in old.round (at old.rows r) ≡ true)
   pub only : (r : Point) → Holds new.graph.heap r → Holds old.graph.heap r ⊎ (Reads old.graph.links r q × (settled_in old.round (at old.rows r) ≡ false))
 
--- a point shows just this outcome already, and its cutoff is Equal
+-- readers of a point needn't be told of the outcome, by its cutoff and what it shows
 abbrev pub Stops : Work → Point → Outcome → Type 0
-Stops work p o = (k : Progress) × (at work.rows p ≡ Some k) × IsStopped k o
+Stops work p o = (k : Progress) × (at work.rows p ≡ Some k) × IsStopped k.cutoff k.outcome o
 
--- where a point's outcome is another, or its cutoff Never, the points that read it are in the heap, unless they were settled; but the point itself was settled now.
+-- where a point's cutoff doesn't stop an outcome, the points that read it are in the heap, unless they were settled; but the point itself was settled now.
 -- Where it stops there none comes in
 pub record TellsReaders (old new : Work) (p : Point) (o : Outcome) : Type 0 where
   pub kept : (r : Point) → Holds old.graph.heap r → Holds new.graph.heap r

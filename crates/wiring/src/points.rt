@@ -36,8 +36,12 @@ impl Work {
         ensures stays { GraphStays self.old self.new }
         ensures rest { self.new ≡ record self.old { graph = self.new.graph; rows = self.new.rows } }
     {
-        self.rows.reserve(1)?;
-        self.graph.add(p, height)?;
+        let Ok(()) = self.rows.reserve(1) else {
+            return Err(AllocError);
+        };
+        let Ok(()) = self.graph.add(p, height) else {
+            return Err(AllocError);
+        };
         self.rows.insert(p, unsettled());
         Ok(())
     }
@@ -110,8 +114,12 @@ impl Work {
         ensures err_fewer_scoped { OnErr result ((n : ANode) → Among n self.new.scoped.nodes → Among n self.old.scoped.nodes) }
         ensures stays { GraphStays self.old self.new }
     {
-        self.scoped.reserve(arena)?;
-        self.add_node(arena, node, def, Some(bind))?;
+        let Ok(()) = self.scoped.reserve(arena) else {
+            return Err(AllocError);
+        };
+        let Ok(()) = self.add_node(arena, node, def, Some(bind)) else {
+            return Err(AllocError);
+        };
         self.scoped.add(node);
         Ok(())
     }
@@ -136,18 +144,19 @@ impl Work {
         ensures stays { GraphStays self.old self.new }
         ensures scoped { self.new.scoped ≡ self.old.scoped }
     {
-        self.pairs.reserve(arena)?;
-        self.add(Point::change(node), height)?;
-        match self.add(Point::main(node), (height + 1).min(128)) {
-            Ok(()) => {
-                self.pairs.add(node);
-                Ok(())
-            }
-            Err(fault) => {
-                self.drop_point(Point::change(node));
-                Err(fault)
-            }
-        }
+        let Ok(()) = self.pairs.reserve(arena) else {
+            return Err(AllocError);
+        };
+        let own = Point::change(node);
+        let Ok(()) = self.add(own, height) else {
+            return Err(AllocError);
+        };
+        let Ok(()) = self.add(Point::main(node), (height + 1).min(128)) else {
+            self.drop_point(own);
+            return Err(AllocError);
+        };
+        self.pairs.add(node);
+        Ok(())
     }
 
     /// Drops the points of a node that died. None of them is needed.

@@ -1,5 +1,5 @@
 //! Right sides: linked to the mains of nodes of two points, and taken off.
-ghost use Rattle.std.specs.Prelude.{◌≡◌, ◌⊎◌, ◌<◌, true, Some, IsSome, IfErr, OnOk, ◌↔◌, IsTrue};
+ghost use Rattle.std.specs.Prelude.{◌≡◌, ◌⊎◌, ◌<◌, true, Some, IsSome, IfErr, OnOk, OnErr, ◌↔◌, IsTrue};
 ghost use Rattle.inc_terms.specs.Depend.{change, main, subject_of};
 ghost use Rattle.inc_terms.specs.Graph.{Row as ARow};
 ghost use Rattle.inc_terms.specs.Code.{def_of};
@@ -21,7 +21,8 @@ use node_arena::Arena;
 use node_outcomes::{Stage, is_full, is_static, right_side, set_stage};
 
 impl Work {
-    /// Links a main that waits for its node's change, which ran, to its right side.
+    /// Links a main that waits for its node's change, which ran, to its right side. Where it doesn't wait nothing changes,
+    /// and this takes no memory.
     pub fn attach_right(&mut self, arena: &Arena, node: NodeId) -> Result<(), Refused>
         requires row { (r : ARow) × (row_at arena.now node ≡ Some r) × IsSome (subject_of r.def) }
         requires settled { settled_in self.old.round (at self.old.rows (change node)) ≡ true }
@@ -32,7 +33,8 @@ impl Work {
         ensures kept { IsKept arena.now self.new }
         ensures full { OnOk result (IsWaiting self.old node → (stage_in (at self.new.rows (main node)) ≡ Some Stage.Full)
             ⊎ (self.new.retries < self.old.retries)) }
-        ensures stays { (IsWaiting self.old node → ⊥) → self.new ≡ self.old }
+        ensures stays { IsWaiting self.old node ⊎ (self.new ≡ self.old) }
+        ensures waits { OnErr result (IsWaiting self.old node) }
     {
         if !self.is_waiting(node) {
             return Ok(());
@@ -42,10 +44,13 @@ impl Work {
         let Some(row) = arena.get(node) else {
             return Ok(());
         };
-        if let Some(target) = right_side(&self.rows, &self.roots, node, &row.def) {
-            let _on = self.connect(arena, p, Point::main(target))?;
+        let Some(target) = right_side(&self.rows, &self.roots, node, &row.def) else {
+            return Ok(());
+        };
+        match self.connect(arena, p, Point::main(target)) {
+            Ok(_) => Ok(()),
+            Err(refused) => Err(refused),
         }
-        Ok(())
     }
 
     /// Whether a node's main is needed and has all its links.

@@ -16,8 +16,8 @@ use inc_value::{NodeId, Outcome, Point};
 use node_outcomes::{forget_outcome, ran_with, set_outcome};
 
 impl Work {
-    /// Settles a main on an outcome. Where it is another than before, or the cutoff is Never, the points that read it
-    /// are to be recomputed. This takes no memory.
+    /// Settles a main on an outcome. Unless its cutoff stops it, the points that read the main are to be recomputed. This
+    /// takes no memory.
     pub fn settle(&mut self, p: Point, outcome: Outcome)
         requires there { Holds self.old.rows p }
         requires step { IsInStep self.old.graph }

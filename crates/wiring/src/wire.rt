@@ -75,18 +75,22 @@ impl Work {
         }
     }
 
-    /// Gives the points of the worklist the links that they may have by now.
+    /// Gives the points of the worklist the links that they may have by now. Where there is none this takes no memory.
     pub fn wire(&mut self, arena: &Arena) -> Result<(), Refused>
         requires kept { IsKept arena.now self.old }
         ensures wired { OnOk result (Wires arena.now self.old self.new None) }
         ensures refused { IfErr result (WireRefused arena.now self.old self.new None) }
+        ensures listed { OnErr result (self.old.todo.items ≢ []) }
         ensures empty { OnOk result (self.new.todo.items ≡ []) }
         ensures places { KeepsPlaces self.old self.new }
         ensures kept { IsKept arena.now self.new }
     {
         while let Some(p) = self.todo.pop() {
             if self.graph.is_needed(p) {
-                self.wire_one(arena, p)?;
+                match self.wire_one(arena, p) {
+                    Ok(()) => {}
+                    Err(refused) => return Err(refused),
+                }
             }
         }
         Ok(())
@@ -103,10 +107,11 @@ impl Work {
         let Some(row) = arena.get(p.node) else {
             return self.wire_ghost(arena, p);
         };
-        if !self.wire_gate(arena, p, row.scope)? {
-            return Ok(());
+        match self.wire_gate(arena, p, row.scope) {
+            Ok(true) => self.wire_rest(arena, p, &row.def),
+            Ok(false) => Ok(()),
+            Err(refused) => Err(refused),
         }
-        self.wire_rest(arena, p, &row.def)
     }
 
     /// Links a point of a node that died in this round to its gate.
@@ -123,8 +128,10 @@ impl Work {
         if self.graph.reads(p, gate) {
             return Ok(());
         }
-        let _on = self.connect(arena, p, gate)?;
-        Ok(())
+        match self.connect(arena, p, gate) {
+            Ok(_) => Ok(()),
+            Err(refused) => Err(refused),
+        }
     }
 
     /// Links a point that has no links yet to the gate of its scope, if it stands in one. Answers whether it is to have its
@@ -158,10 +165,11 @@ impl Work {
         ensures { GateAnswers arena.now self.old self.new p result }
     {
         set_stage(&mut self.rows, p, Stage::Gated);
-        if !self.connect(arena, p, Point::change(bind))? {
-            return Ok(false);
+        match self.connect(arena, p, Point::change(bind)) {
+            Ok(true) => Ok(self.passes_gate(arena, p, bind)),
+            Ok(false) => Ok(false),
+            Err(refused) => Err(refused),
         }
-        Ok(self.passes_gate(arena, p, bind))
     }
 
     /// Whether the gate of a point that has the link to it alone ran in this round. Where it didn't it is put into the heap.
@@ -200,8 +208,10 @@ impl Work {
             (Part::Main, Some(_)) => self.wire_pair(arena, p.node),
             (Part::Change, Some(subject)) => {
                 set_stage(&mut self.rows, p, Stage::Full);
-                let _on = self.connect(arena, p, Point::main(subject))?;
-                Ok(())
+                match self.connect(arena, p, Point::main(subject)) {
+                    Ok(_) => Ok(()),
+                    Err(refused) => Err(refused),
+                }
             }
             (Part::Change, None) => Ok(()),
         }
@@ -219,8 +229,10 @@ impl Work {
         ensures { WireAnswers arena.now self.old self.new (Some (hand p (map main kids.now))) result }
     {
         for kid in kids {
-            if !self.connect(arena, p, Point::main(*kid))? {
-                return Ok(());
+            match self.connect(arena, p, Point::main(*kid)) {
+                Ok(true) => {}
+                Ok(false) => return Ok(()),
+                Err(refused) => return Err(refused),
             }
         }
         Ok(())
@@ -235,21 +247,27 @@ impl Work {
         requires kept { IsKept arena.now self.old }
         ensures { WireAnswers arena.now self.old self.new (Some (hand (main node) [])) result }
     {
+        let p = Point::main(node);
         let own = Point::change(node);
-        set_stage(&mut self.rows, Point::main(node), Stage::Static);
-        if self.connect(arena, Point::main(node), own)? {
-            self.schedule(own);
+        set_stage(&mut self.rows, p, Stage::Static);
+        match self.connect(arena, p, own) {
+            Ok(true) => {
+                self.schedule(own);
+                Ok(())
+            }
+            Ok(false) => Ok(()),
+            Err(refused) => Err(refused),
         }
-        Ok(())
     }
 
-    /// The points of a bind's scope that wait for the bind's change are to have their links. Without memory nothing
-    /// changes.
+    /// The points of a bind's scope that wait for the bind's change are to have their links. Where none waits this takes
+    /// no memory. Without memory nothing changes.
     pub fn wake_scope(&mut self, bind: NodeId) -> Result<(), AllocError>
         requires quiet { self.old.todo.items ≡ [] }
         ensures woken { OnOk result ((p : APoint) → Among p self.new.todo.items ↔ WaitsFor self.old p (change bind)) }
         ensures rest { self.new ≡ record self.old { todo = self.new.todo } }
         ensures err { OnErr result (self.new.todo.items ≡ []) }
+        ensures waits { OnErr result ((p : APoint) × WaitsFor self.old p (change bind)) }
     {
         match gather_gated(&self.graph, &self.rows, Point::change(bind), &mut self.todo) {
             Ok(()) => Ok(()),
@@ -305,12 +323,16 @@ impl Work {
         ensures rows { self.new.rows ≡ self.old.rows }
         ensures step { IsInStep self.new.graph }
     {
-        self.todo.reserve(1)?;
+        let Ok(()) = self.todo.reserve(1) else {
+            return Err(AllocError);
+        };
         if self.graph.is_there(p) {
             return Ok(false);
         }
-        self.graph.add(p, 0)?;
-        Ok(true)
+        match self.graph.add(p, 0) {
+            Ok(()) => Ok(true),
+            Err(AllocError) => Err(AllocError),
+        }
     }
 }
 
@@ -323,10 +345,13 @@ fn gather_gated(
 ) -> Result<(), AllocError>
     ensures gathered { OnOk result ((p : APoint) → Among p todo.new.items
         ↔ (Among p todo.old.items ⊎ (Reads graph.now.links p gate × (stage_in (at rows.now p) ≡ Some Stage.Gated)))) }
+    ensures waits { OnErr result ((p : APoint) × Reads graph.now.links p gate × (stage_in (at rows.now p) ≡ Some Stage.Gated)) }
 {
     for reader in graph.readers(gate) {
         if is_gated(rows, reader) {
-            todo.push(reader)?;
+            let Ok(()) = todo.push(reader) else {
+                return Err(AllocError);
+            };
         }
     }
     Ok(())

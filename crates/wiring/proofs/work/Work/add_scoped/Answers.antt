@@ -1,7 +1,6 @@
 use Rattle.std.proofs.Common.{List, sym, ap, subst}
 use Rattle.inc_value.specs.Choice.{Among}
 use Rattle.inc_value.specs.declared.node.NodeId.{NodeId}
-use Rattle.link_table.proofs.Lists.{on_err}
 use Rattle.node_lists.specs.Listed.{Listed}
 use Rattle.wiring.proofs.Placing.{among_before, among_last}
 use Rattle.wiring.proofs.work.Work.add_scoped.Goals as goal
@@ -20,6 +19,6 @@ returns-clause-others_scoped c n live listed =
     (among_before n node before (subst (λ (ns : List NodeId). Among n ns) (sym same) (c.reserve.ensures.kept n live listed)))
 
 -- without memory the node isn't listed
-pub returns-in_err-add_node-clause-err_fewer_scoped : goal.returns-in_err-add_node-clause-err_fewer_scoped
-returns-in_err-add_node-clause-err_fewer_scoped c = on_err c.from_residual-in_err-add_node.result (λ n listed.
-    c.reserve.ensures.fewer n (subst (λ (l : Listed). Among n l.nodes) c.add_node.ensures.scoped listed))
+pub returns-in_default-add_node-clause-err_fewer_scoped : goal.returns-in_default-add_node-clause-err_fewer_scoped
+returns-in_default-add_node-clause-err_fewer_scoped c n listed =
+    c.reserve.ensures.fewer n (subst (λ (l : Listed). Among n l.nodes) c.add_node.ensures.scoped listed)

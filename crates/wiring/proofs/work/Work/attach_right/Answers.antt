@@ -1,4 +1,4 @@
-use Rattle.std.proofs.Common.{◌≡◌, ◌<◌, ◌⊎◌, inl, inr, Option, Some, true, false, sym, ap, subst, ◌∙◌, refl}
+use Rattle.std.proofs.Common.{◌≡◌, inl, inr, Option, Some, true, false, sym, ap, subst, ◌∙◌, refl}
 use Rattle.std.specs.Prelude.{IsTrue, IsFalse, Bool}
 use Rattle.inc_value.specs.declared.node.Point.{Point}
 use Rattle.inc_value.specs.declared.node.Part.TheVariants.{Main}
@@ -11,16 +11,18 @@ use Rattle.node_outcomes.specs.Choosing.{right_in}
 use Rattle.node_outcomes.specs.Row.{stage_in}
 use Rattle.node_outcomes.specs.declared.row.Stage.TheVariants as code
 use Rattle.wiring.specs.Kept.{IsKept}
-use Rattle.wiring.specs.Turning.{IsWaiting}
-use Rattle.wiring.specs.Wiring.{Attaches, AttachRefused, IsTarget, MayRead}
+use Rattle.necessary_graph.specs.Part.{Needed}
+use Rattle.wiring.specs.Wiring.{IsTarget, KeepsPlaces, MayRead}
 use Rattle.wiring.specs.declared.work.Work.{Work}
 use Rattle.wiring.proofs.Gating.{main_is_target, stage_rowed}
-use Rattle.wiring.proofs.Raising.{if_refusal, staged_kept}
+use Rattle.std.proofs.lemmas.Option.{none-some}
+use Rattle.wiring.proofs.Raising.{staged_kept, staged_places}
+use Rattle.wiring.proofs.TakingAll.{places_then}
 use Rattle.wiring.proofs.Deciding.{not_both}
 use Rattle.wiring.proofs.Linking.{is_none}
 use Rattle.wiring.proofs.Attaching.{WasRaised, was_raised, stays_off, right_given, none_attached, right_refused, right_gone, right_on, full_in, right_is}
 use Rattle.wiring.proofs.work.Work.attach_right.Goals as goal
-use Rattle.wiring.proofs.work.Work.attach_right.Goals.{in-Some-right_side+in_ok-_on, in_default-right_side, After-right_side}
+use Rattle.wiring.proofs.work.Work.attach_right.Goals.{After-right_side}
 
 by_answer : {P : Type 0} (b : Bool) → (IsTrue b → P) → (IsFalse b → P) → P
 by_answer true on off = on refl
@@ -36,6 +38,9 @@ returns-then-not-is_waiting-clause-attached c =
     (λ need k at_row static. not_both c.is_waiting.result c.if-not-is_waiting.true
     (c.is_waiting.ensures.1 (record { needed = need; stage = ap stage_in at_row ∙ ap (λ x. Some x) static })))
     (c.requires.kept.rows (main n) ∙ ap (λ (x : Option Row). has_part x Main) r.1)
+
+pub returns-then-not-is_waiting-clause-stays : goal.returns-then-not-is_waiting-clause-stays
+returns-then-not-is_waiting-clause-stays c = inr refl
 
 -- ---- one that waits is to have all links
 
@@ -64,66 +69,115 @@ pub connect-requires-clause-kept : goal.connect-requires-clause-kept
 connect-requires-clause-kept c = kept (goal.at.connect-requires-clause-kept c).After-right_side
 
 pub connect-requires-clause-reader : goal.connect-requires-clause-reader
-connect-requires-clause-reader c = subst (λ (x : Point). MayRead (mid (goal.at.connect-requires-clause-reader c).After-right_side) x c.main.result) (sym c.main-p.ensures)
-    (inl (stage_rowed c.set_stage.new.rows (main c.args.node) code.Full (full (goal.at.connect-requires-clause-reader c).After-right_side)))
+connect-requires-clause-reader c =
+    let a = (goal.at.connect-requires-clause-reader c).After-right_side in
+    subst (λ (x : Point). MayRead (mid a) x c.main.result) (sym c.main-p.ensures)
+    (inl (stage_rowed c.set_stage.new.rows (main c.args.node) code.Full (full a)))
 
 pub connect-requires-clause-target : goal.connect-requires-clause-target
 connect-requires-clause-target c =
+    let a = (goal.at.connect-requires-clause-target c).After-right_side in
     let m = c.in-Some-right_side.target in
-    subst (λ (x : Point). IsTarget c.args.arena.now (mid (goal.at.connect-requires-clause-target c).After-right_side) x) (sym c.main.ensures)
-    (main_is_target c.args.arena.now (mid (goal.at.connect-requires-clause-target c).After-right_side) (main m) (kept (goal.at.connect-requires-clause-target c).After-right_side)
-    (right_given c.args.arena.now c.args.node (r (goal.at.connect-requires-clause-target c).After-right_side) c.args.self.now c.set_stage.new.rows (was (goal.at.connect-requires-clause-target c).After-right_side) m (told (goal.at.connect-requires-clause-target c).After-right_side ∙ c.in-Some-right_side.is)) refl)
+    subst (λ (x : Point). IsTarget c.args.arena.now (mid a) x) (sym c.main.ensures)
+    (main_is_target c.args.arena.now (mid a) (main m) (kept a)
+    (right_given c.args.arena.now c.args.node (r a) c.args.self.now c.set_stage.new.rows (was a) m (told a ∙ c.in-Some-right_side.is)) refl)
 
-pub returns-in_err-_on-clause-refused : goal.returns-in_err-_on-clause-refused
-returns-in_err-_on-clause-refused c =
-    let e = c.in_err-_on.field-0.0 in
+pub returns-in-Err-clause-refused : goal.returns-in-Err-clause-refused
+returns-in-Err-clause-refused c =
+    let a = (goal.at.returns-in-Err-clause-refused c).After-right_side in
     let con = c.connect.new.self in
-    if_refusal (AttachRefused c.args.arena.now c.args.self.now con c.args.node) e c.from_residual.result c.from_residual.ensures.1
-    (right_refused c.args.arena.now c.args.node (r (goal.at.returns-in_err-_on-clause-refused c).After-right_side) c.args.self.now c.set_stage.new.rows (was (goal.at.returns-in_err-_on-clause-refused c).After-right_side) c.in-Some-right_side.target
-    (told (goal.at.returns-in_err-_on-clause-refused c).After-right_side ∙ c.in-Some-right_side.is) con e (rw (c.main-p.ensures, c.main.ensures) at c.in_err-_on.ensures.refused))
+    right_refused c.args.arena.now c.args.node (r a) c.args.self.now c.set_stage.new.rows (was a) c.in-Some-right_side.target
+    (told a ∙ c.in-Some-right_side.is) con c.in-Err.refused (rw (c.main-p.ensures, c.main.ensures) at c.in-Err.ensures.refused)
 
-pub returns-clause-kept : goal.returns-clause-kept
-returns-clause-kept c = elim c.match-right_side.branch [
-  | in-Some-right_side+in_ok-_on b ↦ subst (λ (x : Work). IsKept c.args.arena.now x) (sym b.self-is) b.in_ok-_on.ensures.kept
-  | in_default-right_side b ↦ subst (λ (x : Work). IsKept c.args.arena.now x) (sym b.self-is) (kept (goal.at.returns-clause-kept c).After-right_side)
-]
+-- ---- its right side was asked for
 
-pub returns-clause-attached : goal.returns-clause-attached
-returns-clause-attached c =
+pub returns-in-Ok-clause-attached : goal.returns-in-Ok-clause-attached
+returns-in-Ok-clause-attached c =
+    let a = (goal.at.returns-in-Ok-clause-attached c).After-right_side in
     let arena = c.args.arena.now in
     let n = c.args.node in
     let old = c.args.self.now in
     let rows = c.set_stage.new.rows in
-    elim c.match-right_side.branch [
-      | in-Some-right_side+in_ok-_on b ↦
-          let m = b.in-Some-right_side.target in
-          let right = told (goal.at.returns-clause-attached c).After-right_side ∙ b.in-Some-right_side.is in
-          let con = b.connect.new.self in
-          let so = b.in_ok-_on.ensures in
-          subst (λ (x : Work). Attaches arena old x n) (sym b.self-is)
-          (by_answer b.in_ok-_on._on
-          (λ t. right_on arena n (r (goal.at.returns-clause-attached c).After-right_side) old rows (was (goal.at.returns-clause-attached c).After-right_side) m right con (rw (c.main-p.ensures, b.main.ensures) at (so.linked t))
-          (rw c.main-p.ensures at (so.row t)))
-          (λ f. right_gone arena n (r (goal.at.returns-clause-attached c).After-right_side) old rows (was (goal.at.returns-clause-attached c).After-right_side) m right con (rw (c.main-p.ensures, b.main.ensures) at (so.gone f).0)))
-      | in_default-right_side b ↦
-          subst (λ (x : Work). Attaches arena old x n) (sym b.self-is)
-          (none_attached arena n (r (goal.at.returns-clause-attached c).After-right_side) old rows (was (goal.at.returns-clause-attached c).After-right_side) (told (goal.at.returns-clause-attached c).After-right_side ∙ is_none c.right_side.result b.in_default-right_side.not-Some))
-    ]
+    let m = c.in-Some-right_side.target in
+    let right = told a ∙ c.in-Some-right_side.is in
+    let con = c.connect.new.self in
+    let so = c.in-Ok.ensures in
+    by_answer c.in-Ok.field-0
+    (λ t. right_on arena n (r a) old rows (was a) m right con (rw (c.main-p.ensures, c.main.ensures) at (so.linked t))
+    (rw c.main-p.ensures at (so.row t)))
+    (λ f. right_gone arena n (r a) old rows (was a) m right con (rw (c.main-p.ensures, c.main.ensures) at (so.gone f).0))
 
-pub returns-clause-full : goal.returns-clause-full
-returns-clause-full c =
-    let n = c.args.node in
-    let old = c.args.self.now in
+pub returns-in-Ok-clause-full : goal.returns-in-Ok-clause-full
+returns-in-Ok-clause-full c waiting =
+    let con = c.connect.new.self in
     let rows = c.set_stage.new.rows in
-    elim c.match-right_side.branch [
-      | in-Some-right_side+in_ok-_on b ↦
-          let con = b.connect.new.self in
-          let on = b.in_ok-_on.ensures in
-          subst (λ (x : Work). IsWaiting old n → (stage_in (at x.rows (main n)) ≡ Some code.Full) ⊎ (x.retries < old.retries)) (sym b.self-is)
-          (λ waiting. by_answer b.in_ok-_on._on
-          (λ t. inl (ap stage_in (subst (λ (x : Point). at con.rows x ≡ at rows x) c.main-p.ensures (on.row t)) ∙ full (goal.at.returns-clause-full c).After-right_side))
-          (λ f. inr (on.gone f).1))
-      | in_default-right_side b ↦
-          subst (λ (x : Work). IsWaiting old n → (stage_in (at x.rows (main n)) ≡ Some code.Full) ⊎ (x.retries < old.retries)) (sym b.self-is)
-          (λ waiting. inl (full (goal.at.returns-clause-full c).After-right_side))
-    ]
+    let on = c.in-Ok.ensures in
+    by_answer c.in-Ok.field-0
+    (λ t. inl (ap stage_in (subst (λ (x : Point). at con.rows x ≡ at rows x) c.main-p.ensures (on.row t)) ∙ full (goal.at.returns-in-Ok-clause-full c).After-right_side))
+    (λ f. inr (on.gone f).1)
+
+-- ---- it has none
+
+pub returns-in_default-right_side-clause-kept : goal.returns-in_default-right_side-clause-kept
+returns-in_default-right_side-clause-kept c = kept (goal.at.returns-in_default-right_side-clause-kept c).After-right_side
+
+pub returns-in_default-right_side-clause-attached : goal.returns-in_default-right_side-clause-attached
+returns-in_default-right_side-clause-attached c =
+    let a = (goal.at.returns-in_default-right_side-clause-attached c).After-right_side in
+    none_attached c.args.arena.now c.args.node (r a) c.args.self.now c.set_stage.new.rows
+    (was a)
+    (told a ∙ is_none c.right_side.result c.in_default-right_side.not-Some)
+
+pub returns-in_default-right_side-clause-full : goal.returns-in_default-right_side-clause-full
+returns-in_default-right_side-clause-full c waiting = inl (full (goal.at.returns-in_default-right_side-clause-full c).After-right_side)
+
+-- ---- a node that isn't live
+
+pub returns-in_default-clause-kept : goal.returns-in_default-clause-kept
+returns-in_default-clause-kept c = absurd (none-some c.requires.row.0 (c.in_default.ensures ∙ c.requires.row.1))
+
+pub returns-in_default-clause-attached : goal.returns-in_default-clause-attached
+returns-in_default-clause-attached c = absurd (none-some c.requires.row.0 (c.in_default.ensures ∙ c.requires.row.1))
+
+pub returns-in_default-clause-full : goal.returns-in_default-clause-full
+returns-in_default-clause-full c = absurd (none-some c.requires.row.0 (c.in_default.ensures ∙ c.requires.row.1))
+
+pub returns-in_default-clause-stays : goal.returns-in_default-clause-stays
+returns-in_default-clause-stays c = absurd (none-some c.requires.row.0 (c.in_default.ensures ∙ c.requires.row.1))
+
+-- ---- places
+
+module _ (c : After-right_side) where
+  places : KeepsPlaces c.args.self.now (mid c)
+  places = staged_places c.args.self.now c.set_stage.new.rows (main c.args.node) code.Full (was c).rewritten
+
+pub returns-in_default-right_side-clause-places : goal.returns-in_default-right_side-clause-places
+returns-in_default-right_side-clause-places c = places (goal.at.returns-in_default-right_side-clause-places c).After-right_side
+
+pub returns-in-Ok-clause-places : goal.returns-in-Ok-clause-places
+returns-in-Ok-clause-places c =
+    let a = (goal.at.returns-in-Ok-clause-places c).After-right_side in
+    places_then c.args.self.now (mid a) c.connect.new.self (places a) c.connect.ensures.places
+
+pub returns-in-Err-clause-places : goal.returns-in-Err-clause-places
+returns-in-Err-clause-places c =
+    let a = (goal.at.returns-in-Err-clause-places c).After-right_side in
+    places_then c.args.self.now (mid a) c.connect.new.self (places a) c.connect.ensures.places
+
+-- ---- it waited
+
+pub returns-in-Ok-clause-stays : goal.returns-in-Ok-clause-stays
+returns-in-Ok-clause-stays c = inl (c.is_waiting.ensures.0 c.if-not-is_waiting.false)
+
+pub returns-in-Err-clause-stays : goal.returns-in-Err-clause-stays
+returns-in-Err-clause-stays c = inl (c.is_waiting.ensures.0 c.if-not-is_waiting.false)
+
+pub returns-in_default-right_side-clause-stays : goal.returns-in_default-right_side-clause-stays
+returns-in_default-right_side-clause-stays c = inl (c.is_waiting.ensures.0 c.if-not-is_waiting.false)
+
+pub returns-in-Err-clause-waits : goal.returns-in-Err-clause-waits
+returns-in-Err-clause-waits c = c.is_waiting.ensures.0 c.if-not-is_waiting.false
+
+pub connect-requires-clause-needed : goal.connect-requires-clause-needed
+connect-requires-clause-needed c =
+    subst (λ (x : Point). Needed c.args.self.now.graph x) (sym c.main-p.ensures) (c.is_waiting.ensures.0 c.if-not-is_waiting.false).needed

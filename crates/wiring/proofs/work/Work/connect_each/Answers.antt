@@ -9,6 +9,7 @@ use Rattle.node_outcomes.specs.declared.row.Stage.TheVariants as code
 use Rattle.wiring.specs.Wiring.{IsTarget}
 use Rattle.wiring.proofs.Gating.{main_is_target, stage_rowed}
 use Rattle.wiring.proofs.Handing.{IsHanded, IsNext, handed_none, kid_on, kid_gone, kid_refused, handed_last, id_among, next_kid, drop_none}
+use Rattle.wiring.proofs.Deciding.{not_both}
 use Rattle.wiring.proofs.work.Work.connect_each.Goals as goal
 use Rattle.wiring.proofs.work.Work.connect_each.Goals.{After-connect}
 
@@ -29,7 +30,7 @@ connect-requires-clause-spared c part full r row two =
     let q = c.requires.row in
     let same : q.0 ≡ r = same_Some q.0 r (sym q.1 ∙ row) in
     let none : subject_of r.def ≡ None = subst (λ (x : Row). subject_of x.def ≡ None) same q.3 in
-    absurd (let e = sym two ∙ ap is_some none in cc)
+    absurd (not_both (is_some (subject_of r.def)) (ap is_some none) two)
 
 -- ---- the child in hand
 
@@ -47,21 +48,21 @@ module _ (c : After-connect) where
   next = next_kid c.args.arena.now c.args.self.now c.loop-kid.self c.args.p r c.args.kids.now c.loop-kid.kid-index _ c.main.result
       c.requires.row.2 c.main.ensures c.loop-kid-test.true c.loop-kid.invariant
 
-pub returns-in_err-connect : goal.returns-in_err-connect
-returns-in_err-connect c =
-    kid_refused c.args.arena.now c.args.p c.requires.main (r (goal.at.returns-in_err-connect c).After-connect) c.requires.row.1 c.requires.row.3 c.args.self.now c.loop-kid.self c.requires.ran (rest (goal.at.returns-in_err-connect c).After-connect)
-    (all (goal.at.returns-in_err-connect c).After-connect) c.main.result (next (goal.at.returns-in_err-connect c).After-connect).among (next (goal.at.returns-in_err-connect c).After-connect).handed c.connect.new.self c.from_residual.result c.in_err-connect.field-0.0
-    c.from_residual.ensures.1 c.in_err-connect.ensures
+pub returns-in-Err : goal.returns-in-Err
+returns-in-Err c =
+    kid_refused c.args.arena.now c.args.p c.requires.main (r (goal.at.returns-in-Err c).After-connect) c.requires.row.1 c.requires.row.3 c.args.self.now c.loop-kid.self c.requires.ran (rest (goal.at.returns-in-Err c).After-connect)
+    (all (goal.at.returns-in-Err c).After-connect) c.main.result (next (goal.at.returns-in-Err c).After-connect).among (next (goal.at.returns-in-Err c).After-connect).handed c.connect.new.self _ c.in-Err.refused
+    refl c.in-Err.ensures
 
-pub returns-then-not-branch : goal.returns-then-not-branch
-returns-then-not-branch c =
-    kid_gone c.args.arena.now c.args.p c.requires.main (r (goal.at.returns-then-not-branch c).After-connect) c.requires.row.1 c.requires.row.3 c.args.self.now c.loop-kid.self c.requires.ran (rest (goal.at.returns-then-not-branch c).After-connect)
-    (all (goal.at.returns-then-not-branch c).After-connect) c.main.result (next (goal.at.returns-then-not-branch c).After-connect).among (next (goal.at.returns-then-not-branch c).After-connect).handed c.connect.new.self c.in_ok-connect.ensures _ c.if-not-branch.true
+pub returns-in-Ok-false : goal.returns-in-Ok-false
+returns-in-Ok-false c =
+    kid_gone c.args.arena.now c.args.p c.requires.main (r (goal.at.returns-in-Ok-false c).After-connect) c.requires.row.1 c.requires.row.3 c.args.self.now c.loop-kid.self c.requires.ran (rest (goal.at.returns-in-Ok-false c).After-connect)
+    (all (goal.at.returns-in-Ok-false c).After-connect) c.main.result (next (goal.at.returns-in-Ok-false c).After-connect).among (next (goal.at.returns-in-Ok-false c).After-connect).handed c.connect.new.self c.in-Ok-false.ensures _ c.in-Ok-false.field-0-test
 
 pub loop-kid-preserved : goal.loop-kid-preserved
 loop-kid-preserved c =
     kid_on c.args.arena.now c.args.p c.requires.main (r (goal.at.loop-kid-preserved c).After-connect) c.requires.row.1 c.requires.row.3 c.args.self.now c.loop-kid.self c.requires.ran (rest (goal.at.loop-kid-preserved c).After-connect)
-    (all (goal.at.loop-kid-preserved c).After-connect) c.main.result (next (goal.at.loop-kid-preserved c).After-connect).among (next (goal.at.loop-kid-preserved c).After-connect).handed c.connect.new.self c.in_ok-connect.ensures c.if-not-branch.false
+    (all (goal.at.loop-kid-preserved c).After-connect) c.main.result (next (goal.at.loop-kid-preserved c).After-connect).among (next (goal.at.loop-kid-preserved c).After-connect).handed c.connect.new.self c.in-Ok-true.ensures c.in-Ok-true.field-0-test
 
 -- ---- all are on
 

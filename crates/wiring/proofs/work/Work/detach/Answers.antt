@@ -1,4 +1,5 @@
 use Rattle.std.proofs.Common.{inl, inr, refl}
+use Rattle.wiring.proofs.Deciding.{not_both}
 use Rattle.wiring.proofs.Detaching.{entered_change, attached_as, attached_still, detached_rest}
 use Rattle.wiring.proofs.work.Work.detach.Goals as goal
 
@@ -31,7 +32,10 @@ returns-else-is_attached-clause-detached c =
       rest = refl;
       detached = inl (
         refl,
-        λ a. let t = c.is_attached.ensures.1 (attached_still c.args.self.now (record c.args.self.now { graph = c.insert.new.self }) c.args.node refl
-            marked.graph a) in let f = c.if-is_attached.false in cc,
+        λ a. not_both c.is_attached.result c.if-is_attached.false (c.is_attached.ensures.1
+            (attached_still c.args.self.now (record c.args.self.now { graph = c.insert.new.self }) c.args.node refl marked.graph a)),
       );
     }
+
+pub drop_right-requires-clause-attached : goal.drop_right-requires-clause-attached
+drop_right-requires-clause-attached c = c.is_attached.ensures.0 c.if-is_attached.true

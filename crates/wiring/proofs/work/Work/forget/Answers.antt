@@ -3,6 +3,7 @@ use Rattle.std.specs.Prelude.{is_some}
 use Rattle.inc_value.specs.declared.node.Point.{Point}
 use Rattle.inc_terms.specs.Depend.{main, change}
 use Rattle.point_map.specs.Rows.{Rows, at, Holds, Changes}
+use Rattle.necessary_graph.specs.Part.{IsInStep}
 use Rattle.wiring.specs.Scoped.{AreTold, IsPointForgotten}
 use Rattle.wiring.specs.declared.work.Work.{Work}
 use Rattle.wiring.proofs.Forgetting.{height_stays_gone, told_rows, forgotten_alone, forgotten_both, elsewhere_alone, elsewhere_both, roots_alone, roots_both, last_graph, last_rows, row_before, height_before}
@@ -90,3 +91,7 @@ returns-else-holds-clause-absent c p none =
     let t : AreTold old told (main n) = subst (λ (x : Point). AreTold old told x) c.main.ensures c.tell_survivors.ensures.told in
     let b : IsPointForgotten told gone (main n) = subst (λ (x : Point). IsPointForgotten told gone x) c.main-2.ensures c.forget_point.ensures.forgotten in
     height_stays_gone told gone (main n) b p (ap (λ (m : Rows ℕ). at m p) t.graph.heights ∙ none)
+
+pub returns-then-holds-clause-step : goal.returns-then-holds-clause-step
+returns-then-holds-clause-step c =
+    subst (λ (w : Work). IsInStep w.graph) (sym c.forget_root.ensures.rest) c.forget_point-then-holds.ensures.step

@@ -1,4 +1,4 @@
-use Rattle.std.proofs.Common.{◌≡◌, ◌∙◌, ◌∷◌, inl, Some, [], false, refl, sym, ap, subst}
+use Rattle.std.proofs.Common.{◌≡◌, ◌∙◌, ◌∷◌, inl, Some, [], false, Err, refl, sym, ap, subst}
 use Rattle.inc_value.specs.declared.node.Point.{Point}
 use Rattle.inc_terms.specs.Depend.{change}
 use Rattle.inc_terms.specs.Graph.{Row}
@@ -12,6 +12,7 @@ use Rattle.wiring.proofs.Answering.{IsOwed, staged_owed, refusal_gates, gone_gat
 use Rattle.wiring.proofs.Gating.{stage_rowed, is_gated_now, gate_lifts, gate_due, gate_rowed, rowed_target}
 use Rattle.wiring.proofs.Lifting.{DueAfter}
 use Rattle.wiring.proofs.Raising.{staged_kept, staged_there}
+use Rattle.wiring.proofs.Deciding.{gated_not_full}
 use Rattle.wiring.proofs.work.Work.link_gate.Goals as goal
 use Rattle.wiring.proofs.work.Work.link_gate.Goals.{After-set_stage}
 
@@ -51,7 +52,7 @@ connect-requires c = record {
   needed = c.requires.needed;
   reader = inl (staged_there c.args.self.now c.set_stage.new.rows c.args.p code.Gated c.set_stage.ensures c.args.p
       ∙ rowed (goal.at.connect-requires c).After-set_stage);
-  spared = λ part full. absurd (let e = full in let g = gated (goal.at.connect-requires c).After-set_stage in cc);
+  spared = λ part full. absurd (gated_not_full _ (gated (goal.at.connect-requires c).After-set_stage) full);
   target = subst (λ (x : Point). IsTarget c.args.arena.now (mid (goal.at.connect-requires c).After-set_stage) x) (sym c.change.ensures)
       (rowed_target c.args.arena.now (mid (goal.at.connect-requires c).After-set_stage) (change c.args.bind) (kept (goal.at.connect-requires c).After-set_stage)
       (gate_rowed c.args.arena.now (mid (goal.at.connect-requires c).After-set_stage) c.args.p.node c.args.bind (r (goal.at.connect-requires c).After-set_stage) (kept (goal.at.connect-requires c).After-set_stage) c.requires.row.1 c.requires.row.2));
@@ -60,30 +61,30 @@ connect-requires c = record {
 
 -- ---- its gate is asked, unless it has no link
 
-pub returns-in_err-connect : goal.returns-in_err-connect
-returns-in_err-connect c =
-    refusal_gates c.args.arena.now c.args.self.now (mid (goal.at.returns-in_err-connect c).After-set_stage) c.args.p (change c.args.bind) (owed (goal.at.returns-in_err-connect c).After-set_stage) (due (goal.at.returns-in_err-connect c).After-set_stage) c.connect.new.self c.from_residual.result
-    c.in_err-connect.field-0.0 c.from_residual.ensures.1 (rw c.change.ensures at c.in_err-connect.ensures)
+pub returns-in-Err : goal.returns-in-Err
+returns-in-Err c =
+    refusal_gates c.args.arena.now c.args.self.now (mid (goal.at.returns-in-Err c).After-set_stage) c.args.p (change c.args.bind) (owed (goal.at.returns-in-Err c).After-set_stage) (due (goal.at.returns-in-Err c).After-set_stage) c.connect.new.self (Err c.in-Err.refused)
+    c.in-Err.refused refl (rw c.change.ensures at c.in-Err.ensures)
 
-pub returns-then-not-branch : goal.returns-then-not-branch
-returns-then-not-branch c =
-    gone_gates c.args.arena.now c.args.self.now (mid (goal.at.returns-then-not-branch c).After-set_stage) c.args.p (change c.args.bind) (owed (goal.at.returns-then-not-branch c).After-set_stage) (due (goal.at.returns-then-not-branch c).After-set_stage) c.connect.new.self
-    (rw c.change.ensures at c.in_ok-connect.ensures) false c.if-not-branch.true refl
+pub returns-in-Ok-false : goal.returns-in-Ok-false
+returns-in-Ok-false c =
+    gone_gates c.args.arena.now c.args.self.now (mid (goal.at.returns-in-Ok-false c).After-set_stage) c.args.p (change c.args.bind) (owed (goal.at.returns-in-Ok-false c).After-set_stage) (due (goal.at.returns-in-Ok-false c).After-set_stage) c.connect.new.self
+    (rw c.change.ensures at c.in-Ok-false.ensures) false c.in-Ok-false.field-0-test refl
 
 pub passes_gate-requires : goal.passes_gate-requires
 passes_gate-requires c = record {
-  needed = (c.in_ok-connect.ensures.needed c.if-not-branch.false).0;
+  needed = (c.in-Ok-true.ensures.needed c.in-Ok-true.field-0-test).0;
   row = c.requires.row;
-  gated = ap stage_in (c.in_ok-connect.ensures.row c.if-not-branch.false) ∙ gated (goal.at.passes_gate-requires c).After-set_stage;
-  kept = c.in_ok-connect.ensures.kept;
+  gated = ap stage_in (c.in-Ok-true.ensures.row c.in-Ok-true.field-0-test) ∙ gated (goal.at.passes_gate-requires c).After-set_stage;
+  kept = c.in-Ok-true.ensures.kept;
 }
 
-pub returns : goal.returns
-returns c =
-    let on = rw c.change.ensures at c.in_ok-connect.ensures in
-    let t = c.if-not-branch.false in
-    let stays = link_stays c.args.arena.now c.args.self.now (mid (goal.at.returns c).After-set_stage) c.args.p (change c.args.bind) (owed (goal.at.returns c).After-set_stage) (due (goal.at.returns c).After-set_stage) c.connect.new.self on t in
-    let places = link_places c.args.arena.now c.args.self.now (mid (goal.at.returns c).After-set_stage) c.args.p (change c.args.bind) (owed (goal.at.returns c).After-set_stage) (due (goal.at.returns c).After-set_stage) c.connect.new.self on in
-    let grows = link_grows c.args.arena.now c.args.self.now (mid (goal.at.returns c).After-set_stage) c.args.p (change c.args.bind) (owed (goal.at.returns c).After-set_stage) (due (goal.at.returns c).After-set_stage) c.connect.new.self on in
+pub returns-in-Ok-true : goal.returns-in-Ok-true
+returns-in-Ok-true c =
+    let on = rw c.change.ensures at c.in-Ok-true.ensures in
+    let t = c.in-Ok-true.field-0-test in
+    let stays = link_stays c.args.arena.now c.args.self.now (mid (goal.at.returns-in-Ok-true c).After-set_stage) c.args.p (change c.args.bind) (owed (goal.at.returns-in-Ok-true c).After-set_stage) (due (goal.at.returns-in-Ok-true c).After-set_stage) c.connect.new.self on t in
+    let places = link_places c.args.arena.now c.args.self.now (mid (goal.at.returns-in-Ok-true c).After-set_stage) c.args.p (change c.args.bind) (owed (goal.at.returns-in-Ok-true c).After-set_stage) (due (goal.at.returns-in-Ok-true c).After-set_stage) c.connect.new.self on in
+    let grows = link_grows c.args.arena.now c.args.self.now (mid (goal.at.returns-in-Ok-true c).After-set_stage) c.args.p (change c.args.bind) (owed (goal.at.returns-in-Ok-true c).After-set_stage) (due (goal.at.returns-in-Ok-true c).After-set_stage) c.connect.new.self on in
     gate_asked _ c.args.arena.now c.args.self.now c.connect.new.self c.passes_gate.new.self c.args.p c.args.bind stays places grows
-    (c.in_ok-connect.ensures.needed t).0 (ap stage_in (c.in_ok-connect.ensures.row t) ∙ gated (goal.at.returns c).After-set_stage) c.requires.row c.passes_gate.ensures
+    (c.in-Ok-true.ensures.needed t).0 (ap stage_in (c.in-Ok-true.ensures.row t) ∙ gated (goal.at.returns-in-Ok-true c).After-set_stage) c.requires.row c.passes_gate.ensures

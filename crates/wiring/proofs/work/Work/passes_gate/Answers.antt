@@ -1,10 +1,11 @@
-use Rattle.std.proofs.Common.{◌≡◌, false, refl, sym, ap, ◌∙◌}
+use Rattle.std.proofs.Common.{◌≡◌, true, false, refl, sym, ap, ◌∙◌}
 use Rattle.inc_value.specs.declared.node.Point.{Point}
 use Rattle.inc_terms.specs.Depend.{change}
 use Rattle.point_map.specs.Rows.{at}
 use Rattle.node_outcomes.specs.Row.{settled_in}
 use Rattle.wiring.specs.Wiring.{IsMarked}
 use Rattle.wiring.proofs.Answering.{same_places, grows_here}
+use Rattle.wiring.proofs.Deciding.{not_both}
 use Rattle.wiring.proofs.Gating.{gate_rowed, gate_waits}
 use Rattle.wiring.proofs.Scheduling.{marked_kept, marked_places, marked_grows}
 use Rattle.wiring.proofs.work.Work.passes_gate.Goals as goal
@@ -15,7 +16,7 @@ returns-then-was_settled c =
       ran = λ t. ap (λ (x : Point). settled_in self.round (at self.rows x)) (sym c.change-gate.ensures)
           ∙ (sym c.was_settled.ensures ∙ c.if-was_settled.true);
       stays = λ t. refl;
-      left = λ f. absurd (let e = f in cc);
+      left = λ f. absurd (not_both true f refl);
       places = same_places self;
       kept = c.requires.kept;
       pushed = grows_here self;
@@ -32,8 +33,8 @@ returns c =
     ap (λ (x : Point). settled_in old.round (at old.rows x)) (sym gate) ∙ (sym c.was_settled.ensures ∙ c.if-was_settled.false) in
     let rest = c.schedule.ensures.rest in
     let step = c.schedule.ensures.step in record {
-      ran = λ t. absurd (let e = t in cc);
-      stays = λ t. absurd (let e = t in cc);
+      ran = λ t. absurd (not_both false refl t);
+      stays = λ t. absurd (not_both false refl t);
       left = λ f. gate_waits c.args.arena.now c.args.p c.args.bind r.0 r.1 r.2 old new c.requires.kept c.requires.needed c.requires.gated unsettled
           marked rest;
       places = marked_places (change c.args.bind) old new marked rest;

@@ -1,7 +1,7 @@
 use Rattle.wiring.proofs.Deciding.{same_need}
 use Rattle.wiring.proofs.Trying.{levelled_room, levelled_link}
 use Rattle.wiring.proofs.Rooting.{puts_root_on}
-use Rattle.std.proofs.Common.{ap}
+use Rattle.std.proofs.Common.{inr, refl, ap}
 use Rattle.std.specs.Prelude.{is_some}
 use Rattle.point_map.specs.Rows.{Rows, at}
 use Rattle.wiring.proofs.work.Work.root_on.Goals as goal
@@ -34,3 +34,6 @@ returns-in-Err-root_on-clause-levelled c =
     m.ensures.others l.ensures.links c.in-Err-root_on.ensures.err (λ a. ap (λ (h : Rows _). is_some (at h a)) l.ensures.heights)
     (λ a. ap (λ (h : Rows _). is_some (at h a)) l.ensures.heap) d.ensures.closed d.ensures.kept d.ensures.links d.ensures.roots d.ensures.heap
     d.ensures.rest d.ensures.step
+
+pub wake-requires-clause-needed : goal.wake-requires-clause-needed
+wake-requires-clause-needed c = (c.in-Ok-root_on.ensures.needed c.args.p).1 (inr refl)

@@ -14,6 +14,8 @@ use Rattle.node_outcomes.specs.Choosing.{right_in}
 use Rattle.node_outcomes.specs.declared.row.Stage.TheVariants as code
 use Rattle.wiring.specs.Turning.{IsAttached}
 use Rattle.wiring.specs.Wiring.{IsMarked}
+use Rattle.wiring.specs.declared.work.Work.{Work}
+use Rattle.wiring.proofs.Detaching.{attached_still}
 use Rattle.wiring.proofs.GoingBack.{IsLowered, lowered_stays, lowered_confirmed, lowered_behind}
 use Rattle.wiring.proofs.TakingAll.{loses_nothing}
 use Rattle.wiring.proofs.TakingOne.{nothing_taken, one_taken, loose_lowered, right_has_subject, spared_rows}
@@ -98,3 +100,8 @@ pub returns-then-is_some-clause-behind : goal.returns-then-is_some-clause-behind
 returns-then-is_some-clause-behind c =
     lowered_behind c.args.arena.now c.args.self.now c.drop_right.new.self (main c.args.node) (change c.args.node) code.Static (back c).0 (back c).1
     (inr (attached c).stage)
+
+pub drop_right-requires-clause-attached : goal.drop_right-requires-clause-attached
+drop_right-requires-clause-attached c =
+    attached_still c.args.self.now c.schedule.new.self c.args.node (ap (λ (w : Work). w.rows) c.schedule.ensures.rest)
+    c.schedule.ensures.scheduled.graph (c.is_attached.ensures.0 c.if-is_attached.true)

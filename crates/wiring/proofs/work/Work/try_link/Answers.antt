@@ -1,3 +1,4 @@
+use Rattle.std.proofs.Common.{inr, refl, ◌∙◌}
 use Rattle.height_order.specs.Levels.{level}
 use Rattle.wiring.proofs.Telling.{tells}
 use Rattle.wiring.proofs.Deciding.{same_need}
@@ -41,3 +42,12 @@ returns-in-Err-link c =
     d.ensures.heap d.ensures.rest d.ensures.step) c.requires.kept
     (tells d.new.self m.new.self.graph.links (level m.new.self.graph.heights) m.ensures.step.rises c.args.p c.args.q links c.in-Err-link.fault e.path
     e.path_once e.over e.over_length e.over_no_path)
+
+pub link-requires-clause-needed : goal.link-requires-clause-needed
+link-requires-clause-needed c = (c.make_room.ensures.looks.needed c.args.p).1 c.requires.needed
+
+pub wake-requires-clause-needed : goal.wake-requires-clause-needed
+wake-requires-clause-needed c = (c.in-Ok-link.ensures.needed c.args.q).1 (inr refl)
+
+pub close-requires-clause-there : goal.close-requires-clause-there
+close-requires-clause-there c = c.link.ensures.points c.args.q ∙ c.in-Ok.ensures.there

@@ -6,6 +6,7 @@ use Rattle.node_outcomes.specs.Choosing.{right_in}
 use Rattle.node_outcomes.specs.Row.{IsRewritten, with_outcome}
 use Rattle.wiring.specs.Turning.{IsDetached}
 use Rattle.wiring.specs.declared.work.Work.{Work}
+use Rattle.wiring.proofs.Deciding.{not_both}
 use Rattle.wiring.proofs.Detaching.{BeforeIt, turned}
 use Rattle.wiring.proofs.work.Work.turn.Goals as goal
 use Rattle.wiring.proofs.work.Work.turn.Goals.{then-not-ran_with+then-is_attached, else-not-ran_with, else-not-ran_with-via-then-not-ran_with+else-is_attached, else-not-ran_with-via-else-not-ran_with}
@@ -24,11 +25,11 @@ returns c =
       | then-not-ran_with+then-is_attached w ↦ inr (
         subst (λ (x : Work). IsDetached old x n right) (sym w.self-is) w.drop_right.ensures.detached,
         w.is_attached.ensures.0 w.if-is_attached.true,
-        λ e. let t = c.ran_with.ensures.1 e in let f = w.if-not-ran_with.true in cc,
+        λ e. not_both c.ran_with.result w.if-not-ran_with.true (c.ran_with.ensures.1 e),
       )
       | else-not-ran_with w ↦ elim w.else-not-ran_with.branch [
         | else-not-ran_with-via-then-not-ran_with+else-is_attached v ↦
-            inl (w.self-is, inr (λ a. let t = v.is_attached.ensures.1 a in let f = v.if-is_attached.false in cc))
+            inl (w.self-is, inr (λ a. not_both v.is_attached.result v.if-is_attached.false (v.is_attached.ensures.1 a)))
         | else-not-ran_with-via-else-not-ran_with v ↦ inl (w.self-is, inl (c.ran_with.ensures.0 v.if-not-ran_with.false))
       ]
     ] in

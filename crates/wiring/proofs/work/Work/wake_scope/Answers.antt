@@ -17,3 +17,8 @@ returns-in-Ok-clause-woken c p =
     waits_for old p (change c.args.bind) items c.requires.quiet
     (subst (λ (x : Point). Among p items ↔ (Among p old.todo.items ⊎ (Reads old.graph.links p x × (stage_in (at old.rows p) ≡ Some Gated))))
     c.change.ensures (c.in-Ok.ensures.gathered p))
+
+pub returns-in-Err-clause-waits : goal.returns-in-Err-clause-waits
+returns-in-Err-clause-waits c =
+    let w = c.in-Err.ensures.waits in
+    (w.0, record { reads = subst (λ (x : Point). Reads c.args.self.now.graph.links w.0 x) c.change.ensures w.1; stage = w.2 })

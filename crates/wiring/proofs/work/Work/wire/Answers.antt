@@ -1,7 +1,6 @@
-use Rattle.wiring.specs.Wiring.{WireRefused}
-use Rattle.wiring.proofs.Raising.{if_refusal}
-use Rattle.wiring.proofs.Leaving.{todo_kept, wiring_first, wiring_skip, wiring_one, wiring_refused, wiring_last, looks_empty, one_less}
-use Rattle.std.proofs.Common.{None, ◌∙◌, append-nil}
+use Rattle.wiring.proofs.Deciding.{not_both}
+use Rattle.wiring.proofs.Leaving.{todo_kept, wiring_first, wiring_skip, wiring_one, wiring_refused, wiring_last, looks_empty, one_less, was_listed}
+use Rattle.std.proofs.Common.{◌∙◌, append-nil}
 use Rattle.wiring.proofs.work.Work.wire.Goals as goal
 
 pub loop-p-init : goal.loop-p-init
@@ -10,27 +9,30 @@ loop-p-init c = wiring_first c.args.arena.now c.args.self.now c.requires.kept
 pub wire_one-requires-clause-kept : goal.wire_one-requires-clause-kept
 wire_one-requires-clause-kept c = todo_kept c.args.arena.now c.loop-p.self c.pop.new.self c.loop-p.invariant.kept
 
-pub returns-in_err-wire_one-clause-refused : goal.returns-in_err-wire_one-clause-refused
-returns-in_err-wire_one-clause-refused c =
-    let e = c.in_err-wire_one.field-0.0 in
-    if_refusal (WireRefused c.args.arena.now c.args.self.now c.wire_one.new.self None) e c.from_residual.result c.from_residual.ensures.1
-    (wiring_refused c.args.arena.now c.args.self.now c.loop-p.self c.pop.new.self c.in-Some.p c.loop-p.invariant
-    c.in-Some.ensures.items c.wire_one.new.self e c.in_err-wire_one.ensures.refused)
+pub returns-in-Err-clause-refused : goal.returns-in-Err-clause-refused
+returns-in-Err-clause-refused c =
+    wiring_refused c.args.arena.now c.args.self.now c.loop-p.self c.pop.new.self c.in-Some.p c.loop-p.invariant
+    c.in-Some.ensures.items c.wire_one.new.self c.in-Err.refused c.in-Err.ensures.refused
 
-pub loop-p-smaller-in-Continue-1 : goal.loop-p-smaller-in-Continue-1
-loop-p-smaller-in-Continue-1 c =
+pub returns-in-Err-clause-listed : goal.returns-in-Err-clause-listed
+returns-in-Err-clause-listed c =
+    was_listed c.args.arena.now c.args.self.now c.loop-p.self c.pop.new.self c.in-Some.p c.loop-p.invariant
+    c.in-Some.ensures.items
+
+pub loop-p-smaller-in-Ok : goal.loop-p-smaller-in-Ok
+loop-p-smaller-in-Ok c =
     one_less c.args.arena.now c.args.self.now c.loop-p.self c.pop.new.self c.in-Some.p c.loop-p.invariant
-    c.in-Some.ensures.items c.wire_one.new.self c.in_ok-wire_one.ensures.pushed
+    c.in-Some.ensures.items c.wire_one.new.self c.in-Ok.ensures.pushed
 
-pub loop-p-preserved-in-Continue-1 : goal.loop-p-preserved-in-Continue-1
-loop-p-preserved-in-Continue-1 c =
+pub loop-p-preserved-in-Ok : goal.loop-p-preserved-in-Ok
+loop-p-preserved-in-Ok c =
     wiring_one c.args.arena.now c.args.self.now c.loop-p.self c.pop.new.self c.in-Some.p c.loop-p.invariant
-    c.in-Some.ensures.items c.wire_one.new.self c.in_ok-wire_one.ensures.wired c.wire_one.ensures.places c.wire_one.ensures.kept
+    c.in-Some.ensures.items c.wire_one.new.self c.in-Ok.ensures.wired c.wire_one.ensures.places c.wire_one.ensures.kept
 
 pub loop-p-preserved : goal.loop-p-preserved
 loop-p-preserved c =
     wiring_skip c.args.arena.now c.args.self.now c.loop-p.self c.pop.new.self c.in-Some.p c.loop-p.invariant
-    c.in-Some.ensures.items (λ need. let f = c.is_needed.ensures.1 need in let g = c.if-is_needed.false in cc)
+    c.in-Some.ensures.items (λ need. not_both c.is_needed.result c.if-is_needed.false (c.is_needed.ensures.1 need))
 
 pub returns-clause-wired : goal.returns-clause-wired
 returns-clause-wired c =
@@ -39,3 +41,6 @@ returns-clause-wired c =
 
 pub returns-clause-kept : goal.returns-clause-kept
 returns-clause-kept c = todo_kept c.args.arena.now c.loop-p.self c.pop.new.self c.loop-p.invariant.kept
+
+pub wire_one-requires-clause-needed : goal.wire_one-requires-clause-needed
+wire_one-requires-clause-needed c = c.is_needed.ensures.0 c.if-is_needed.true

@@ -1,4 +1,4 @@
-use Rattle.std.proofs.Common.{◌≡◌, ◌∷◌, inr, Some, [], true, false, sym, subst, ◌∙◌}
+use Rattle.std.proofs.Common.{◌≡◌, ◌∷◌, inr, Some, [], true, false, Err, refl, sym, subst, ◌∙◌}
 use Rattle.std.proofs.lemmas.Option.{none-some}
 use Rattle.inc_value.specs.declared.node.Point.{Point}
 use Rattle.inc_terms.specs.Depend.{change}
@@ -54,16 +54,16 @@ module _ (c : After-connect) where
   due : DueAfter c.args.arena.now c.args.self.now c.args.self.now c.args.p (change c.in-Some.bind)
   due = ghost_due c.args.arena.now c.args.self.now c.args.p c.requires.dead c.requires.kept c.in-Some.bind died
 
-pub returns-in_err-_on : goal.returns-in_err-_on
-returns-in_err-_on c =
-    refusal_answers c.args.arena.now c.args.self.now c.args.self.now c.args.p (change c.in-Some.bind) (owed (goal.at.returns-in_err-_on c).After-connect) (due (goal.at.returns-in_err-_on c).After-connect) c.connect.new.self
-    c.from_residual.result c.in_err-_on.field-0.0 c.from_residual.ensures.1 (rw c.change-gate.ensures at c.in_err-_on.ensures)
+pub returns-in-Err : goal.returns-in-Err
+returns-in-Err c =
+    refusal_answers c.args.arena.now c.args.self.now c.args.self.now c.args.p (change c.in-Some.bind) (owed (goal.at.returns-in-Err c).After-connect) (due (goal.at.returns-in-Err c).After-connect) c.connect.new.self
+    (Err c.in-Err.refused) c.in-Err.refused refl (rw c.change-gate.ensures at c.in-Err.ensures)
 
-pub returns : goal.returns
-returns c =
-    let so = c.in_ok-_on.ensures in
+pub returns-in-Ok : goal.returns-in-Ok
+returns-in-Ok c =
+    let so = c.in-Ok.ensures in
     let gate = c.change-gate.ensures in
-    link_answers c.args.arena.now c.args.self.now c.args.self.now c.args.p (change c.in-Some.bind) (owed (goal.at.returns c).After-connect) (due (goal.at.returns c).After-connect) c.connect.new.self _ c.in_ok-_on._on
+    link_answers c.args.arena.now c.args.self.now c.args.self.now c.args.p (change c.in-Some.bind) (owed (goal.at.returns-in-Ok c).After-connect) (due (goal.at.returns-in-Ok c).After-connect) c.connect.new.self _ c.in-Ok.field-0
     (rw gate at so)
     (λ t. ghost_wires c.args.arena.now c.connect.new.self c.args.p c.requires.dead so.kept c.in-Some.bind
-    (died_same c.args.self.now c.connect.new.self so.places.deaths c.args.p.node ∙ died (goal.at.returns c).After-connect) (so.needed t).0 (rw gate at (so.reads t)))
+    (died_same c.args.self.now c.connect.new.self so.places.deaths c.args.p.node ∙ died (goal.at.returns-in-Ok c).After-connect) (so.needed t).0 (rw gate at (so.reads t)))

@@ -21,28 +21,27 @@ pub wire_gate-requires-clause-there : goal.wire_gate-requires-clause-there
 wire_gate-requires-clause-there c =
     live_rowed c.args.arena.now c.args.self.now c.args.p (row_of c.in-Some.row.now) c.requires.kept c.requires.needed (sym c.in-Some.ensures)
 
-pub returns-in_err-wire_gate : goal.returns-in_err-wire_gate
-returns-in_err-wire_gate c =
-    gate_refused c.from_residual.result c.in_err-wire_gate.field-0.0 c.args.arena.now c.args.self.now c.wire_gate.new.self c.args.p
-    c.from_residual.ensures.1 c.in_err-wire_gate.ensures
+pub returns-in-Err : goal.returns-in-Err
+returns-in-Err c =
+    gate_refused _ c.in-Err.refused c.args.arena.now c.args.self.now c.wire_gate.new.self c.args.p refl c.in-Err.ensures
 
-pub returns-then-not-branch : goal.returns-then-not-branch
-returns-then-not-branch c =
-    gate_left _ _ c.args.arena.now c.args.self.now c.wire_gate.new.self c.args.p c.if-not-branch.true c.in_ok-wire_gate.ensures
+pub returns-in-Ok-false : goal.returns-in-Ok-false
+returns-in-Ok-false c =
+    gate_left _ _ c.args.arena.now c.args.self.now c.wire_gate.new.self c.args.p c.in-Ok-false.field-0-test c.in-Ok-false.ensures
 
 pub wire_rest-requires : goal.wire_rest-requires
 wire_rest-requires c =
-    let pass = c.in_ok-wire_gate.ensures.passes c.if-not-branch.false in record {
+    let pass = c.in-Ok-true.ensures.passes c.in-Ok-true.field-0-test in record {
       needed = pass.needed;
       row = (row_of c.in-Some.row.now, sym c.in-Some.ensures, refl);
-      there = c.in_ok-wire_gate.ensures.places.rows c.args.p
+      there = c.in-Ok-true.ensures.places.rows c.args.p
           ∙ live_rowed c.args.arena.now c.args.self.now c.args.p (row_of c.in-Some.row.now) c.requires.kept c.requires.needed (sym c.in-Some.ensures);
       lacking = pass.lacking;
       ran = pass.ran;
-      kept = c.in_ok-wire_gate.ensures.kept;
+      kept = c.in-Ok-true.ensures.kept;
     }
 
-pub returns : goal.returns
-returns c =
-    gate_passed c.wire_rest.result _ c.args.arena.now c.args.self.now c.wire_gate.new.self c.wire_rest.new.self c.args.p c.if-not-branch.false
-    c.in_ok-wire_gate.ensures c.wire_rest.ensures
+pub returns-in-Ok-true : goal.returns-in-Ok-true
+returns-in-Ok-true c =
+    gate_passed c.wire_rest.result _ c.args.arena.now c.args.self.now c.wire_gate.new.self c.wire_rest.new.self c.args.p c.in-Ok-true.field-0-test
+    c.in-Ok-true.ensures c.wire_rest.ensures

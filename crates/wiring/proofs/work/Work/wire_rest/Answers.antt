@@ -1,4 +1,4 @@
-use Rattle.std.proofs.Common.{◌≡◌, ◌∙◌, ◌∷◌, inl, List, None, Some, [], map, refl, sym, ap, subst}
+use Rattle.std.proofs.Common.{◌≡◌, ◌∙◌, ◌∷◌, inl, List, None, Some, [], map, Err, refl, sym, ap, subst}
 use Rattle.std.specs.Prelude.{is_some}
 use Rattle.inc_value.specs.declared.node.NodeId.{NodeId}
 use Rattle.inc_value.specs.declared.node.Point.{Point}
@@ -19,6 +19,7 @@ use Rattle.wiring.proofs.Gating.{main_is_target}
 use Rattle.wiring.proofs.Handing.{Reads, main_reads, main_of, never_alone, kid_is_given, subject_is_given, change_reads_subject, full_lifts, full_due}
 use Rattle.wiring.proofs.Raising.{staged_kept, staged_now, staged_ran, staged_there}
 use Rattle.wiring.proofs.Lifting.{DueAfter, full_wires}
+use Rattle.wiring.proofs.Deciding.{not_main}
 use Rattle.wiring.proofs.work.Work.wire_rest.Goals as goal
 use Rattle.wiring.proofs.work.Work.wire_rest.Goals.{After-set_stage, After-set_stage-in-Change-Some}
 
@@ -132,7 +133,7 @@ connect-requires c =
     let q = c.requires in record {
       needed = q.needed;
       reader = inl (staged_there c.args.self.now c.set_stage-in-Change-Some.new.rows p code.Full c.set_stage-in-Change-Some.ensures p ∙ q.there);
-      spared = λ part. absurd (let e = part in let is = c.in-Change-Some.is-0 in cc);
+      spared = λ part. absurd (not_main c.args.p.part c.in-Change-Some.is-0 part);
       target = subst (λ (x : Point). IsTarget arena (mid (goal.at.connect-requires c).After-set_stage-in-Change-Some) x) (sym c.main.ensures)
           (main_is_target arena (mid (goal.at.connect-requires c).After-set_stage-in-Change-Some) (link (goal.at.connect-requires c).After-set_stage-in-Change-Some) (kept (goal.at.connect-requires c).After-set_stage-in-Change-Some)
           (subject_is_given arena.given c.args.def.now (subst (NamesGiven arena.given) q.row.2 (q.kept.sound.names p.node (r (goal.at.connect-requires c).After-set_stage-in-Change-Some) q.row.1))
@@ -140,16 +141,16 @@ connect-requires c =
       kept = kept (goal.at.connect-requires c).After-set_stage-in-Change-Some;
     }
 
-pub returns-in_err-_on-in-Change-Some : goal.returns-in_err-_on-in-Change-Some
-returns-in_err-_on-in-Change-Some c =
-    refusal_answers c.args.arena.now c.args.self.now (mid (goal.at.returns-in_err-_on-in-Change-Some c).After-set_stage-in-Change-Some) c.args.p (link (goal.at.returns-in_err-_on-in-Change-Some c).After-set_stage-in-Change-Some) (owed (goal.at.returns-in_err-_on-in-Change-Some c).After-set_stage-in-Change-Some) (due (goal.at.returns-in_err-_on-in-Change-Some c).After-set_stage-in-Change-Some) c.connect.new.self c.from_residual.result
-    c.in_err-_on-in-Change-Some.field-0.0 c.from_residual.ensures.1 (rw c.main.ensures at c.in_err-_on-in-Change-Some.ensures)
+pub returns-in-Err : goal.returns-in-Err
+returns-in-Err c =
+    refusal_answers c.args.arena.now c.args.self.now (mid (goal.at.returns-in-Err c).After-set_stage-in-Change-Some) c.args.p (link (goal.at.returns-in-Err c).After-set_stage-in-Change-Some) (owed (goal.at.returns-in-Err c).After-set_stage-in-Change-Some) (due (goal.at.returns-in-Err c).After-set_stage-in-Change-Some) c.connect.new.self (Err c.in-Err.refused)
+    c.in-Err.refused refl (rw c.main.ensures at c.in-Err.ensures)
 
-pub returns-in_ok-_on-in-Change-Some : goal.returns-in_ok-_on-in-Change-Some
-returns-in_ok-_on-in-Change-Some c =
+pub returns-in-Ok : goal.returns-in-Ok
+returns-in-Ok c =
     let q = c.requires in
-    let on = c.in_ok-_on-in-Change-Some.ensures in
-    link_answers c.args.arena.now c.args.self.now (mid (goal.at.returns-in_ok-_on-in-Change-Some c).After-set_stage-in-Change-Some) c.args.p (link (goal.at.returns-in_ok-_on-in-Change-Some c).After-set_stage-in-Change-Some) (owed (goal.at.returns-in_ok-_on-in-Change-Some c).After-set_stage-in-Change-Some) (due (goal.at.returns-in_ok-_on-in-Change-Some c).After-set_stage-in-Change-Some) c.connect.new.self _ c.in_ok-_on-in-Change-Some._on
+    let on = c.in-Ok.ensures in
+    link_answers c.args.arena.now c.args.self.now (mid (goal.at.returns-in-Ok c).After-set_stage-in-Change-Some) c.args.p (link (goal.at.returns-in-Ok c).After-set_stage-in-Change-Some) (owed (goal.at.returns-in-Ok c).After-set_stage-in-Change-Some) (due (goal.at.returns-in-Ok c).After-set_stage-in-Change-Some) c.connect.new.self _ c.in-Ok.field-0
     (rw c.main.ensures at on)
     (λ t. full_wires c.args.arena.now c.connect.new.self c.args.p (ap stage_in (on.row t)
     ∙ staged_now c.args.self.now c.set_stage-in-Change-Some.new.rows c.args.p code.Full c.set_stage-in-Change-Some.ensures q.there))
