@@ -5,3 +5,4 @@ pub mod Steps
 pub mod Turned
 pub mod Moves
 pub mod Again
+pub mod Lacking

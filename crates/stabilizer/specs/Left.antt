@@ -19,7 +19,6 @@ use Rattle.inc_terms.specs.Term.{Functions}
 use Rattle.inc_terms.specs.Within.{Given}
 use Rattle.inc_terms.specs.Work.{WithinWork, taken_by}
 use Rattle.height_order.specs.Chains.{StartsAt, EndsAt}
-use Rattle.node_outcomes.specs.Row.{is_never}
 use Rattle.stabilize_round.specs.Calling.{Reason, IsAnswer, cost_at, costs_of}
 use Rattle.stabilize_round.specs.Calls.{arguments_of}
 use Rattle.stabilize_round.specs.Counts.{RoseBy, RoseAtMost}
@@ -30,11 +29,11 @@ use Rattle.wiring.specs.Stands.{Counts}
 use Rattle.wiring.specs.declared.refused.Refused.{Refused}
 use Rattle.wiring.specs.declared.refused.Refused.TheVariants.{Height, Cycle, Full, Memory}
 
--- what stands beside a graph: what is needed is held for these observers, each node's last arguments are kept, and who has cutoff Never
+-- what stands beside a graph: what is needed is held for these observers, each node's last arguments are kept, and its cutoff
 pub record StoodBeside (before : Beside) (look : Look) (observers : List Observed) : Type 0 where
   pub held : (p : Point) → IsNeeded look p → Held before observers p
   pub last : (n : NodeId) → before.last n ≡ arguments_of (look.last n)
-  pub never : (n : NodeId) → before.never n ≡ is_never (look.cutoff n)
+  pub cutoff : (n : NodeId) → before.cutoff n ≡ look.cutoff n
 
 -- ---- over the graph that a round left, those who died in it, and the nodes that are observed
 
@@ -76,7 +75,7 @@ module _ (F : Functions) (G : Graph) (died : NodeId → Option NodeId) where
   -- ---- why a function is called
 
   -- a node's function was due: the node is met, its children give these values, and either it wasn't called on these last before the round, or a child
-  -- of cutoff Never was settled in it; none was made stale
+  -- was settled in it that tells even of an outcome that stays; none was made stale
   pub record WasDueIn (old new : Look) (observed : List NodeId) (n : NodeId) : Type 0 where
     pub row : Row
     pub kids : List NodeId
@@ -84,7 +83,7 @@ module _ (F : Functions) (G : Graph) (died : NodeId → Option NodeId) where
     pub is_row : G.row n ≡ Some row
     pub takes : taken_by G n row.def ≡ Some kids
     pub gives : GiveAll F G kids values
-    pub reason : Reason old.last (λ (m : NodeId). is_never (old.cutoff m)) new.settled (λ (m : NodeId). false) n kids values
+    pub reason : Reason old.last old.cutoff new.settled (λ (m : NodeId). false) n kids values
     pub met : IsMetIn old observed (main n)
 
   -- ---- accepted

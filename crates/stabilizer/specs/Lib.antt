@@ -4,6 +4,7 @@ pub mod Building
 pub mod Rebuilding
 pub mod Settling
 pub mod Stepping
+pub mod Lacking
 pub mod Look
 pub mod Left
 pub mod Round

@@ -11,7 +11,7 @@ use Rattle.map_nodes.specs.declared.cutoff.Cutoff.{Cutoff}
 use Rattle.necessity.specs.Need.{root_times}
 use Rattle.node_arena.specs.Arena.{Arena}
 use Rattle.node_outcomes.specs.Computing.{seen}
-use Rattle.node_outcomes.specs.Row.{cutoff_in, is_never, settled_in, outcome_in}
+use Rattle.node_outcomes.specs.Row.{cutoff_in, settled_in, outcome_in}
 use Rattle.node_outcomes.specs.declared.row.Progress.{Progress}
 use Rattle.point_map.specs.Rows.{at}
 use Rattle.stabilize_round.specs.State.{Call, count}
@@ -33,10 +33,6 @@ last_call work n = last_of (at work.rows (main n))
 -- the node's cutoff, Equal of one that has no row
 abbrev pub cutoff_at : Work → NodeId → Cutoff
 cutoff_at work n = cutoff_in (at work.rows (main n))
-
--- it is Never
-abbrev pub never_at : Work → NodeId → Bool
-never_at work n = is_never (cutoff_at work n)
 
 -- ---- a look
 

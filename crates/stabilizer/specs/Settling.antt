@@ -6,17 +6,16 @@ use Rattle.inc_value.specs.declared.outcome.Outcome.{Outcome}
 use Rattle.inc_terms.specs.Depend.{main}
 use Rattle.point_map.specs.Rows.{at, Holds}
 use Rattle.link_table.specs.Links.{Reads}
-use Rattle.map_nodes.specs.declared.cutoff.Cutoff.TheVariants.{Equal}
+use Rattle.map_nodes.specs.Cutoff.{IsStopped}
 use Rattle.stabilize_round.specs.State.{Call}
 use Rattle.node_outcomes.specs.Computing.{ran_then}
-use Rattle.node_outcomes.specs.Row.{settled_in, is_never}
+use Rattle.node_outcomes.specs.Row.{settled_in}
 use Rattle.wiring.specs.Wiring.{KeepsGraph}
 use Rattle.node_outcomes.specs.declared.row.Progress.{Progress}
 use Rattle.wiring.specs.declared.work.Work.{Work}
 
--- a main of the heap was settled on an outcome, with this last call, for which so many calls were made. It left the heap, and where its outcome is another than before, or its cutoff is
--- Never, the points that read it and weren't settled came in. Where its outcome is the one before and its cutoff Equal, none came in. All binds
--- keep their roots, and none died
+-- a main of the heap was settled on an outcome, with this last call, for which so many calls were made. It left the heap, and where its cutoff doesn't stop
+-- the outcome, the points that read it and weren't settled came in. Where it does, none came in. All binds keep their roots, and none died
 pub record IsSettled (old new : Work) (n : NodeId) (o : Outcome) (last : Option Call) (calls : ℕ) : Type 0 where
   pub row : Progress
   pub was : at old.rows (main n) ≡ Some row
@@ -25,11 +24,11 @@ pub record IsSettled (old new : Work) (n : NodeId) (o : Outcome) (last : Option 
   pub graph : KeepsGraph old.graph new.graph
   pub kept : (p : Point) → p ≢ main n → Holds old.graph.heap p → Holds new.graph.heap p
   pub out : Holds new.graph.heap (main n) → Reads old.graph.links (main n) (main n)
-  pub told : (row.outcome ≡ Some o → ⊥) ⊎ (is_never row.cutoff ≡ true) → (p : Point) → Reads old.graph.links p (main n)
+  pub told : (IsStopped row.cutoff row.outcome o → ⊥) → (p : Point) → Reads old.graph.links p (main n)
       → Holds new.graph.heap p ⊎ (settled_in old.round (at old.rows p) ≡ true)
   pub only : (p : Point) → p ≢ main n → Holds new.graph.heap p
       → Holds old.graph.heap p ⊎ (Reads old.graph.links p (main n) × (settled_in old.round (at old.rows p) ≡ false))
-  pub stops : row.outcome ≡ Some o → row.cutoff ≡ Equal → (p : Point) → p ≢ main n → Holds new.graph.heap p → Holds old.graph.heap p
+  pub stops : IsStopped row.cutoff row.outcome o → (p : Point) → p ≢ main n → Holds new.graph.heap p → Holds old.graph.heap p
   pub roots : new.roots ≡ old.roots
   pub deaths : new.deaths ≡ old.deaths
   pub ran : new.ran.items ≡ ran_then calls old.ran.items n

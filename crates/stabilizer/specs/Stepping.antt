@@ -3,6 +3,7 @@ use Rattle.std.specs.Prelude.{◌≡◌, ◌≢◌, ◌⊎◌, ◌↔◌, ◌<�
 use Rattle.inc_value.specs.declared.node.NodeId.{NodeId}
 use Rattle.inc_value.specs.declared.node.Point.{Point}
 use Rattle.inc_value.specs.declared.outcome.Outcome.{Outcome}
+use Rattle.inc_value.specs.declared.outcome.Outcome.TheVariants.{Invalid}
 use Rattle.inc_value.specs.Choice.{Among}
 use Rattle.inc_terms.specs.Depend.{main, change, subject_of}
 use Rattle.inc_value.specs.declared.function.FnRef.{FnRef}
@@ -101,7 +102,7 @@ pub record ChangeIsTurned (arena : Arena) (old new : Work) (n : NodeId) : Type 0
   pub given : Outcome
   pub is_row : row_at arena n ≡ Some row
   pub is_subject : subject_of row.def ≡ Some subject
-  pub sees : (seen old.rows (main subject) ≡ Some given) ⊎ (seen old.rows (main subject) ≡ None)
+  pub sees : (seen old.rows (main subject) ≡ Some given) ⊎ ((seen old.rows (main subject) ≡ None) × (given ≡ Invalid))
   pub built : (left : NodeId) (f : FnRef) (captures : List NodeId) → row.def ≡ Bind left f captures → outcome_in (at old.rows (change n)) ≡ Some given
   pub woken : Work
   pub wakes : AreWoken old woken n

@@ -1,7 +1,9 @@
 //! Steps and rounds.
-ghost use Rattle.std.specs.Prelude.{◌≡◌, [], None, Some, map, All, true};
+ghost use Rattle.std.specs.Prelude.{◌≡◌, ◌≢◌, List, [], None, Some, map, All, true};
 ghost use Rattle.std.specs.Prelude.{IfOk, OnOk, OnErr, IfErr, IfSome, IsTrue, IsFalse};
+ghost use Rattle.inc_value.specs.declared.function.FnRef.{FnRef as AFunction};
 ghost use Rattle.inc_value.specs.declared.node.NodeId.{NodeId};
+ghost use Rattle.inc_value.specs.declared.node.Point.{Point as APoint};
 ghost use Rattle.inc_terms.specs.Code.{def_of};
 ghost use Rattle.inc_terms.specs.Depend.{main, change};
 ghost use Rattle.inc_terms.specs.Graph.{Row as ARow};
@@ -13,8 +15,9 @@ ghost use Rattle.node_arena.specs.Arena.{row_at};
 ghost use Rattle.node_outcomes.specs.Meaning.{functions_of, meaning_of};
 ghost use Rattle.node_outcomes.specs.Row.{settled_in, outcome_in};
 ghost use Rattle.wiring.specs.Kept.{IsKept};
-ghost use Rattle.wiring.specs.Wiring.{PutsRoots, RootRefused};
+ghost use Rattle.wiring.specs.Wiring.{PutsRoots, RootRefused, WaitsFor};
 ghost use Rattle.stabilizer.specs.Kept.{PartsKept, KeepsMeaning, StaysFlat, WantsTell, counts_by};
+ghost use Rattle.stabilizer.specs.Lacking.{MainLacks, ChangeLacks, StepLacks, SettleLacks, RoundLacks};
 ghost use Rattle.stabilizer.specs.Rebuilding.{BuildRefused};
 ghost use Rattle.stabilizer.specs.Round.{IsReady};
 ghost use Rattle.stabilizer.specs.Round.{IsInRound, RootsMore, OnlyRoots, Settles, SettleRefused};
@@ -52,6 +55,7 @@ impl Stabilizer {
         ensures quiet { OnOk result (parts.new.work.todo.items ≡ []) }
         ensures stays { RoundStays F.Functions functions.old functions.new parts.old parts.new }
         ensures wants { WantsTell result (F.wants functions.old) (F.wants functions.new) }
+        ensures lacks { OnErr result (StepLacks parts.old (F.wants functions.old) (F.wants functions.new)) }
     {
         let Some(p) = parts.work.graph.pop_least() else {
             return Ok(false);
@@ -85,6 +89,8 @@ impl Stabilizer {
         ensures refused { IfErr result (RoundStops F.Functions functions.old functions.new parts.old parts.new roots.now) }
         ensures leaves { RoundLeaves F.Functions functions.old functions.new parts.old parts.new }
         ensures wants { WantsTell result (F.wants functions.old) (F.wants functions.new) }
+        ensures lacks { OnErr result (RoundLacks (meaning_of F.Functions functions.old) parts.old roots.now
+            (counts_by F.Functions functions.old) (F.wants functions.old) (F.wants functions.new)) }
     {
         let Some(next) = parts.work.round.checked_add(1) else {
             return Err(Refused::Memory);
@@ -106,6 +112,7 @@ fn put_roots(work: &mut Work, arena: &Arena, roots: &[NodeId]) -> Result<(), Ref
     ensures roots { OnlyRoots work.old.graph.roots work.new.graph.roots (map main roots.now) }
     ensures wired { OnOk result (PutsRoots arena.now work.old work.new) }
     ensures refused { IfErr result (RootRefused arena.now work.old work.new) }
+    ensures some { OnErr result (roots.now ≢ []) }
     ensures quiet { OnOk result (work.new.todo.items ≡ []) }
     ensures round { work.new.round ≡ work.old.round }
     ensures kept { IsKept arena.now work.new }
@@ -132,6 +139,8 @@ fn settle_all<F: Functions>(parts: &mut Parts, functions: &mut F) -> Result<(), 
     ensures quiet { OnOk result (parts.new.work.todo.items ≡ []) }
     ensures stays { RoundStays F.Functions functions.old functions.new parts.old parts.new }
     ensures wants { WantsTell result (F.wants functions.old) (F.wants functions.new) }
+    ensures lacks { OnErr result (SettleLacks (meaning_of F.Functions functions.old) parts.old
+        (counts_by F.Functions functions.old) (F.wants functions.old) (F.wants functions.new)) }
 {
     while Stabilizer::step(parts, functions)? {}
     Ok(())
@@ -151,6 +160,7 @@ fn step_main<F: Functions>(
     ensures refused { OnErr result (MainIsLeft parts.old.arena parts.old.work parts.new.work node
         (counts_by F.Functions functions.old) (counts_by F.Functions functions.new)) }
     ensures memory { IfErr result (λ e. e ≡ Refused.Memory) }
+    ensures lacks { OnErr result (MainLacks parts.old.arena parts.old.work node (F.wants functions.old) (F.wants functions.new)) }
     ensures rest { parts.new ≡ record parts.old { work = parts.new.work } }
     ensures kept { PartsKept parts.new }
     ensures functions { KeepsMeaning F.Functions functions.old functions.new }
@@ -191,6 +201,7 @@ fn step_change<F: Functions>(
     ensures refused { IfErr result (ChangeIsLeft (meaning_of F.Functions functions.old) (F.right functions.new) parts.old parts.new node
         (counts_by F.Functions functions.old) (counts_by F.Functions functions.new)) }
     ensures quiet { OnOk result (parts.new.work.todo.items ≡ []) }
+    ensures lacks { OnErr result (ChangeLacks parts.old node) }
     ensures stays { RoundStays F.Functions functions.old functions.new parts.old parts.new }
     ensures wants { F.wants functions.new ≡ F.wants functions.old }
 {
@@ -223,6 +234,7 @@ fn turn_change<F: Functions>(
     ensures row { (r : ARow) → row_at parts.old.arena node ≡ Some r → row_at parts.new.arena node ≡ Some r }
     ensures there { Holds parts.new.work.rows (change node) }
     ensures quiet { OnErr result (parts.new.work.todo.items ≡ []) }
+    ensures lacks { OnErr result (ChangeLacks parts.old node) }
     ensures stays { RoundStays F.Functions functions.old functions.new parts.old parts.new }
     ensures wants { F.wants functions.new ≡ F.wants functions.old }
 {
@@ -258,6 +270,8 @@ fn due_recipe(
     ensures due { IfOk result (λ due. IfSome due (λ r. IsUnbuiltBind (def_of def.now) r.function r.captures
         (outcome_in (at rows.now (change node))) given.now)) }
     ensures built { IfOk result (λ due. due ≡ None → IsBuiltFor (def_of def.now) (outcome_in (at rows.now (change node))) given.now) }
+    ensures lacks { OnErr result ((f : AFunction) × (captures : List NodeId)
+        × IsUnbuiltBind (def_of def.now) f captures (outcome_in (at rows.now (change node))) given.now) }
 {
     match def {
         Def::Bind {
@@ -281,6 +295,7 @@ fn turn_as_built(work: &mut Work, node: NodeId, def: &Def, given: Outcome) -> Re
     requires quiet { work.old.todo.items ≡ [] }
     ensures turned { OnOk result (IsTurnedAwake work.old work.new node (def_of def.now) given) }
     ensures refused { IfErr result (IsAsleep work.old work.new) }
+    ensures waits { OnErr result ((p : APoint) × WaitsFor work.old p (change node)) }
 {
     match work.wake_scope(node) {
         Ok(()) => {

@@ -33,7 +33,7 @@ use Rattle.node_outcomes.specs.Meaning.{Meaning}
 use Rattle.node_outcomes.specs.Choosing.{built_by}
 use Rattle.node_outcomes.specs.Computing.{has_part}
 use Rattle.node_outcomes.proofs.Held.{built_live, built_parts}
-use Rattle.node_outcomes.specs.Row.{outcome_in, settled_in, stage_of, never_in}
+use Rattle.node_outcomes.specs.Row.{outcome_in, settled_in, stage_of, cutoff_in}
 use Rattle.stabilize_round.specs.State as machine
 use Rattle.stabilize_round.specs.State.{State, Start, count, planned, plan_at, live_plan, all_retries}
 use Rattle.stabilize_round.proofs.Freezing.{other_rests}
@@ -261,7 +261,7 @@ state_of need arena work = record {
   builds = 0;
   adds = 0;
   given = arena.given;
-  never = λ n. never_in (at work.rows (main n));
+  cutoff = λ n. cutoff_in (at work.rows (main n));
   stale = λ n. false;
 }
 
@@ -272,7 +272,7 @@ start_of M need work = record {
   calls = 0;
   known = M.known;
   ids = M.ids;
-  never = λ n. never_in (at work.rows (main n));
+  cutoff = λ n. cutoff_in (at work.rows (main n));
   stale = λ n. false;
 }
 
@@ -317,7 +317,7 @@ module _ (M : Meaning) (arena : Arena) (work : Work) (b : IsBetween M.functions 
     graph = refl;
     out = λ p k e. ap outcome_in e;
     last = λ n k e. ap last_of e;
-    never = λ n k e. ap never_in e;
+    cutoff = λ n k e. ap cutoff_in e;
     stale = λ n. refl;
     links = λ p q. refl;
     root = λ p. refl;
@@ -366,7 +366,7 @@ module _ (M : Meaning) (arena : Arena) (work : Work) (b : IsBetween M.functions 
     died = λ n. refl;
     held = λ p. refl;
     last = λ n. refl;
-    never = λ n. refl;
+    cutoff = λ n. refl;
     stale = λ n. refl;
     unfired = λ n. other_rests now n (λ r kid f row is. no_freeze arena n r kid f row is);
     calls = refl;

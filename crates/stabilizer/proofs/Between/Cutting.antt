@@ -18,10 +18,10 @@ use Rattle.stabilize_round.proofs.Points.{same_or_other, node_or_other}
 use Rattle.wiring.specs.Kept.{IsKept}
 use Rattle.wiring.specs.Places.{ChangesNode, for_parts}
 use Rattle.stabilizer.specs.Kept.{PartsKept, graph_in}
-use Rattle.stabilizer.specs.Look.{never_at, cutoff_at}
+use Rattle.stabilizer.specs.Look.{cutoff_at}
 use Rattle.stabilizer.specs.Round.{IsReady}
 use Rattle.stabilizer.specs.declared.parts.Parts.{Parts}
-use Rattle.node_outcomes.specs.Row.{IsRewritten, with_cutoff, settled_in, stage_of, never_in, cutoff_in}
+use Rattle.node_outcomes.specs.Row.{IsRewritten, with_cutoff, settled_in, stage_of, cutoff_in}
 use Rattle.wiring.specs.Stands.{MatchesState, counts_of}
 use Rattle.node_outcomes.specs.declared.row.Progress.{Progress}
 use Rattle.wiring.specs.declared.work.Work.{Work}
@@ -98,17 +98,17 @@ module _ (old new : Parts) (id : NodeId) (c : Cutoff) (kept : PartsKept old) (w 
 
   module _ (M : Meaning) (ready : IsReady M old) where
     abbrev state : State
-    state = record ready.state { never = never_at work }
+    state = record ready.state { cutoff = cutoff_at work }
 
     abbrev start : Start
-    start = record ready.start { never = never_at work }
+    start = record ready.start { cutoff = cutoff_at work }
 
     stands : MatchesState arena work (counts_of state) None state
     stands = record {
       graph = ready.stands.graph ∙ sym (graph_rewritten arena old.work work (main id) (with_cutoff c) w (λ k is. refl) refl);
       out = λ p k e. let b = was p k e in ready.stands.out p b.row b.was ∙ sym b.outcome;
       last = λ n k e. let b = was (main n) k e in ready.stands.last n b.row b.was ∙ sym b.last;
-      never = λ n k e. ap never_in e;
+      cutoff = λ n k e. ap cutoff_in e;
       stale = ready.stands.stale;
       links = ready.stands.links;
       root = ready.stands.root;

@@ -35,7 +35,7 @@ use Rattle.stabilize_round.proofs.Planned.{looks_main}
 use Rattle.stabilize_round.proofs.Points.{node_or_other, at_same, at_other, same_or_other}
 use Rattle.node_outcomes.specs.Choosing.{built_in}
 use Rattle.node_outcomes.specs.Computing.{has_part}
-use Rattle.node_outcomes.specs.Row.{outcome_in, stage_in, stage_of, without_outcome, settled_in, is_never}
+use Rattle.node_outcomes.specs.Row.{outcome_in, stage_in, stage_of, without_outcome, settled_in}
 use Rattle.node_outcomes.specs.declared.row.Progress.{Progress}
 use Rattle.node_outcomes.specs.declared.row.Stage.TheVariants as code
 use Rattle.wiring.specs.Graph.{held_at, died_at}
@@ -543,10 +543,10 @@ module _ (F : Functions) (z : Start) (t : State) (b : NodeId) (now : Outcome) (c
     last_is n k (own e row is) = absurd (main_change n b (sym e))
     last_is n k (kept lt notin ne row) = a.stands.last n k row
 
-    never_is : (n : NodeId) (k : Progress) → IsRowAfter t b cut (main n) k → t.never n ≡ is_never k.cutoff
-    never_is n k (new le e) = a.given.never n le ∙ sym (ap (λ (y : Progress). is_never y.cutoff) e)
-    never_is n k (own e row is) = absurd (main_change n b (sym e))
-    never_is n k (kept lt notin ne row) = a.stands.never n k row
+    cutoff_is : (n : NodeId) (k : Progress) → IsRowAfter t b cut (main n) k → t.cutoff n ≡ k.cutoff
+    cutoff_is n k (new le e) = a.given.cutoff n le ∙ sym (ap (λ (y : Progress). y.cutoff) e)
+    cutoff_is n k (own e row is) = absurd (main_change n b (sym e))
+    cutoff_is n k (kept lt notin ne row) = a.stands.cutoff n k row
 
     stage_is : (p : Point) (k : Progress) → IsRowAfter t b cut p k → stage_after t p ≡ stage_of k.stage
     stage_is p k (new le e) = stage_new t p le ∙ sym (ap (λ (y : Progress). stage_of y.stage) e)
@@ -582,7 +582,7 @@ module _ (F : Functions) (z : Start) (t : State) (b : NodeId) (now : Outcome) (c
       graph = refl;
       out = λ p k e. out_is p k (row_case p k e);
       last = λ n k e. last_is n k (row_case (main n) k e);
-      never = λ n k e. never_is n k (row_case (main n) k e);
+      cutoff = λ n k e. cutoff_is n k (row_case (main n) k e);
       stale = a.stands.stale;
       links = λ p q. a.stands.links p q ∙ ap (λ (l : Links). times l p q) (sym links_as);
       root = λ p. a.stands.root p ∙ ap (λ (r : Roots). root_times r p) (sym roots_as);

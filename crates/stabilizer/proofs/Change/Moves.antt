@@ -267,7 +267,7 @@ module _ (M : Meaning) (old turned : Parts) (n : NodeId) (counts : Counts) (all 
   seen_now : shown s.graph s.out (main m.subject) ≡ Some m.given
   seen_now = elim m.sees [
     | inl e ↦ sees s arena whole counts whole_kept st m.subject ∙ e
-    | inr none ↦ absurd (none-some subject_known.0 (sym none ∙ (sym (sees s arena whole counts whole_kept st m.subject) ∙ subject_known.1)))
+    | inr none ↦ absurd (none-some subject_known.0 (sym none.0 ∙ (sym (sees s arena whole counts whole_kept st m.subject) ∙ subject_known.1)))
   ]
 
   -- ---- the state in which it is settled

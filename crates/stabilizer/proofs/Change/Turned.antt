@@ -144,7 +144,7 @@ module _ (s : State) (arena : Arena) (old new : Work) (counts : Counts) (st : Ma
       | inr ne ↦ at_other (change n) (Some given) s.out a ne ∙ st.out a k (other_row a k ne e)
     ];
     last = λ m k e. st.last m k (main_row_still m k e);
-    never = λ m k e. st.never m k (main_row_still m k e);
+    cutoff = λ m k e. st.cutoff m k (main_row_still m k e);
     stale = st.stale;
     links = λ a b. st.links a b ∙ ap (λ (l : Links). times l a b) (sym run.graph.links);
     root = λ a. st.root a ∙ ap (λ (r : Roots). root_times r a) (sym run.graph.roots);
@@ -497,7 +497,7 @@ module _ (arena : Arena) (taken woken turned : Work) (n k : NodeId) (r : Row) (g
       given = given;
       is_row = live;
       is_subject = sub;
-      sees = elim shows [ inl e ↦ inl e | inr x ↦ inr x.0 ];
+      sees = shows;
       built = ran;
       woken = woken;
       wakes = record { listed = listed; rest = wakes };

@@ -27,9 +27,9 @@ use Rattle.stabilize_round.specs.Invariant.{Recalls, IsUnmarked}
 use Rattle.stabilize_round.specs.Machine.{Entry}
 use Rattle.stabilize_round.specs.State.{State, Start, Call}
 use Rattle.wiring.specs.Kept.{IsKept}
-use Rattle.stabilizer.specs.Look.{last_of, last_call, never_at}
+use Rattle.stabilizer.specs.Look.{last_of, last_call, cutoff_at}
 use Rattle.stabilizer.specs.Round.{IsReady}
-use Rattle.node_outcomes.specs.Row.{never_in, is_never}
+use Rattle.node_outcomes.specs.Row.{cutoff_in}
 use Rattle.wiring.specs.Stands.{MatchesState, Counts}
 use Rattle.stabilizer.specs.declared.parts.Parts.{Parts}
 use Rattle.wiring.specs.declared.work.Work.{Work}
@@ -82,7 +82,7 @@ pub record Begun (F : Functions) (parts : Parts) (counts : Counts) : Type 0 wher
   pub entry : Entry F start state
   pub calls : start.calls ≡ counts.calls
   pub last : (n : NodeId) → start.last n ≡ last_call parts.work n
-  pub never : (n : NodeId) → start.never n ≡ never_at parts.work n
+  pub cutoff : (n : NodeId) → start.cutoff n ≡ cutoff_at parts.work n
   pub stale : (n : NodeId) → start.stale n ≡ false
   pub held : (p : Point) → (start.held p ≡ true) ↔ Needed parts.work.graph p
 
@@ -108,7 +108,7 @@ module _ (M : Meaning) (parts : Parts) (ready : IsReady M parts) (counts : Count
   old = ready.state
 
   abbrev state : State
-  state = record old { calls = counts.calls; builds = counts.builds; adds = counts.adds; last = last_call work; never = never_at work }
+  state = record old { calls = counts.calls; builds = counts.builds; adds = counts.adds; last = last_call work; cutoff = cutoff_at work }
 
   abbrev start : Start
   start = record ready.start {
@@ -117,7 +117,7 @@ module _ (M : Meaning) (parts : Parts) (ready : IsReady M parts) (counts : Count
     calls = counts.calls;
     last = last_call work;
     held = old.needed;
-    never = never_at work;
+    cutoff = cutoff_at work;
   }
 
   -- of a live node the state knew this last call
@@ -135,8 +135,8 @@ module _ (M : Meaning) (parts : Parts) (ready : IsReady M parts) (counts : Count
   stands : MatchesState arena work counts None state
   stands =
       let last : (n : NodeId) (k : Progress) → at work.rows (main n) ≡ Some k → last_call work n ≡ k.last = (λ n k e. ap last_of e) in
-      let never : (n : NodeId) (k : Progress) → at work.rows (main n) ≡ Some k → never_at work n ≡ is_never k.cutoff = (λ n k e. ap never_in e) in
-      assumption (last, never, ready.stands)
+      let cutoff : (n : NodeId) (k : Progress) → at work.rows (main n) ≡ Some k → cutoff_at work n ≡ k.cutoff = (λ n k e. ap cutoff_in e) in
+      assumption (last, cutoff, ready.stands)
 
   fresh : (p : Point) (r : Row) → old.graph.row p.node ≡ Some r → old.needed p ≡ true
       → (old.heap p ≡ true) ⊎ (Agrees F old.graph old.out p × Recalls old.graph (shown old.graph old.out) (last_call work) p × IsUnmarked old.stale p)
@@ -184,7 +184,7 @@ module _ (M : Meaning) (parts : Parts) (ready : IsReady M parts) (counts : Count
     names = refl;
     held = λ p h. needed_given p ((ready.stands.needed p).0 h);
     last = λ n le. ap last_of (row_none n le);
-    never = λ n le. ap never_in (row_none n le);
+    cutoff = λ n le. ap cutoff_in (row_none n le);
     stale = λ n le. ready.entry.stale n ∙ ready.stands.stale n;
   }
 
@@ -205,7 +205,7 @@ module _ (M : Meaning) (parts : Parts) (ready : IsReady M parts) (counts : Count
     needed = λ p h. as_given p (needed_given p ((ready.stands.needed p).0 h));
     rooted = λ p h. as_given p (root_given p h);
     last = λ n le. ap last_of (row_none n (not_given n le));
-    never = λ n le. ap never_in (row_none n (not_given n le));
+    cutoff = λ n le. ap cutoff_in (row_none n (not_given n le));
     stale = λ n le. ready.stands.stale n;
     start = subst (λ (k : ℕ). IsStartOf M.known M.ids k start) (sym ready.stands.given) begins;
   }
@@ -219,7 +219,7 @@ module _ (M : Meaning) (parts : Parts) (ready : IsReady M parts) (counts : Count
       entry = entry;
       calls = refl;
       last = λ n. refl;
-      never = λ n. refl;
+      cutoff = λ n. refl;
       stale = λ n. ready.entry.stale n ∙ ready.stands.stale n;
       held = ready.stands.needed;
     };

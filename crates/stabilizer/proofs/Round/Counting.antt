@@ -11,7 +11,7 @@ use Rattle.inc_terms.specs.Graph.{Graph}
 use Rattle.inc_terms.specs.Need.{IsRoot, Beside, Observed, nodes_of, Held, Met, from_root, from_held}
 use Rattle.inc_terms.specs.Term.{Functions}
 use Rattle.inc_terms.specs.Work.{Visit, HasReason, other, passed, IsDueVisit, WithinWork}
-use Rattle.node_outcomes.specs.Row.{is_never}
+use Rattle.map_nodes.specs.Cutoff.{TellsAgain}
 use Rattle.stabilize_round.specs.Calling as why
 use Rattle.stabilize_round.specs.Calling.{Reason, cost_at, costs_of}
 use Rattle.stabilize_round.proofs.Calling.{kids_taken, cost_of_taken}
@@ -47,11 +47,11 @@ module _ (F : Functions) (G : Graph) (died : NodeId → Option NodeId) (old new 
   unfolding visit_of
   reason_of n c = by_reason c.0.due.reason
     where
-      by_reason : Reason old.last (λ (m : NodeId). is_never (old.cutoff m)) new.settled (λ (m : NodeId). false) n c.0.due.kids c.0.due.values
+      by_reason : Reason old.last old.cutoff new.settled (λ (m : NodeId). false) n c.0.due.kids c.0.due.values
           → HasReason G before (visit_of n c)
       by_reason (why.other differs) = other (λ last. other_arguments n c differs (old.last n) refl last)
-      by_reason (why.forced {kid} a never settled) = passed {r = c.0.due.row} {kid = kid} c.0.due.is_row
-          (subst (λ (ks : List NodeId). Among kid ks) (sym (kids_taken G n c.0.due.row.def c.0.due.kids c.0.due.takes)) a) (stood.never kid ∙ never)
+      by_reason (why.forced {kid} a tells settled) = passed {r = c.0.due.row} kid c.0.due.is_row
+          (subst (λ (ks : List NodeId). Among kid ks) (sym (kids_taken G n c.0.due.row.def c.0.due.kids c.0.due.takes)) a) (subst TellsAgain (sym (stood.cutoff kid)) tells)
       by_reason (why.made_stale marked) = absurd (cc)
 
   due : (n : NodeId) (c : Called n) → IsDueVisit F G died observers before (visit_of n c)

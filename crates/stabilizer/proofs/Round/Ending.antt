@@ -28,7 +28,6 @@ use Rattle.inc_terms.proofs.Evaluation.{one_outcome}
 use Rattle.inc_terms.proofs.Local.{needed_more}
 use Rattle.inc_terms.proofs.Plan.{among_left, among_right, among_parts, among_map}
 use Rattle.map_nodes.specs.declared.cutoff.Cutoff.{Cutoff}
-use Rattle.map_nodes.specs.declared.cutoff.Cutoff.TheVariants.{Equal, Never}
 use Rattle.point_map.specs.Rows.{at}
 use Rattle.link_table.specs.Links.{times, Reads}
 use Rattle.height_order.specs.Levels.{level, or_zero}
@@ -40,7 +39,7 @@ use Rattle.node_arena.specs.Graph.{AllCallFit, Holdings, graph_of}
 use Rattle.node_outcomes.specs.Choosing.{built_by, built_in}
 use Rattle.node_outcomes.specs.Computing.{seen, seen_of, has_part}
 use Rattle.node_outcomes.specs.Meaning.{Meaning}
-use Rattle.node_outcomes.specs.Row.{settled_in, is_never, cutoff_in, outcome_in}
+use Rattle.node_outcomes.specs.Row.{settled_in, cutoff_in, outcome_in}
 use Rattle.node_outcomes.specs.declared.row.Progress.{Progress}
 use Rattle.stabilize_round.specs.Calling.{cost_at, costs_of}
 use Rattle.stabilize_round.specs.Runs.{IsBuiltRight}
@@ -132,18 +131,11 @@ last_case : (x : Option Progress) (y : Option Row) (r : Row) (c : Option Call) �
 last_case None y r c same e is = absurd (let k = same ∙ ap is_some e in cc)
 last_case (Some k) y r c same e is = sym (is k refl)
 
--- a cutoff is told by whether it is Never
-same_cutoff : (a b : Cutoff) → is_never a ≡ is_never b → a ≡ b
-same_cutoff Equal Equal is = refl
-same_cutoff Equal Never is = absurd (cc)
-same_cutoff Never Equal is = absurd (cc)
-same_cutoff Never Never is = refl
-
 -- who has a row has this cutoff
-pub cutoff_live : (x : Option Progress) (c : Cutoff) → is_some x ≡ true → ((k : Progress) → x ≡ Some k → is_never k.cutoff ≡ is_never c)
+pub cutoff_live : (x : Option Progress) (c : Cutoff) → is_some x ≡ true → ((k : Progress) → x ≡ Some k → k.cutoff ≡ c)
     → cutoff_in x ≡ c
 cutoff_live None c there is = absurd (cc)
-cutoff_live (Some k) c there is = same_cutoff k.cutoff c (is k refl)
+cutoff_live (Some k) c there is = is k refl
 
 -- what nodes give that show what they give, put together
 gathered_by : (F : Functions) (G : Graph) (out : Point → Option Outcome) (ns : List NodeId) (vs : List Value) → GiveAll F G ns vs
@@ -287,7 +279,7 @@ module _ (F : Functions) (z : Start) (t : State) (inv : Invariant F z t) (quiet 
     held = λ p. refl;
     last = λ n. refl;
     calls = refl;
-    never = λ n. refl;
+    cutoff = λ n. refl;
     stale = λ n. refl;
     answers = inv.accounts.answers;
     unfired = still;
@@ -360,7 +352,7 @@ module _ (M : Meaning) (old mid : Parts) (before after : Counts) (first : PartsK
   -- cutoffs stay
   cutoffs : (n : NodeId) (r : Row) → row_at arena n ≡ Some r → cutoff_at work n ≡ cutoff_at old.work n
   cutoffs n r row = cutoff_live (at work.rows (main n)) (cutoff_at old.work n) (main_there arena work kept.work n ∙ ap is_some row)
-      (λ k e. sym (stands.never n k e) ∙ (inv.accounts.cutoffs n ∙ b.never n))
+      (λ k e. sym (stands.cutoff n k e) ∙ (inv.accounts.cutoffs n ∙ b.cutoff n))
 
   -- the count of calls rose by what each costs
   pub counted : RoseBy before.calls (costs_of G work.ran.items) after.calls
@@ -422,7 +414,7 @@ module _ (M : Meaning) (old mid : Parts) (before after : Counts) (first : PartsK
       graph = stands.graph;
       out = stands.out;
       last = stands.last;
-      never = stands.never;
+      cutoff = stands.cutoff;
       stale = stands.stale;
       links = λ p q. refl;
       root = λ p. stands.root p ∙ sym (r.sweep.roots p);
@@ -583,7 +575,7 @@ module _ (M : Meaning) (old mid : Parts) (before after : Counts) (first : PartsK
           is_row = c.is_row;
           takes = c.takes;
           gives = c.gives;
-          reason = reason_more settled_then (since_start (b.last n) b.never (b.stale n) c.reason);
+          reason = reason_more settled_then (since_start (b.last n) b.cutoff (b.stale n) c.reason);
           met = is_met (main n) c.met;
         };
         result = c.result;

@@ -88,7 +88,7 @@ module _ (M : Meaning) (old new : Parts) (before after : Counts) (e : Refused) (
   pub paused_cutoffs : (n : NodeId) (r : Row) → row_at new.arena n ≡ Some r → cutoff_at new.work n ≡ cutoff_at old.work n
   paused_cutoffs n r row = cutoff_live (at new.work.rows (main n)) (cutoff_at old.work n) (main_there new.arena new.work p.kept.work n
       ∙ ap is_some row)
-      (λ x is. sym (stands.never n x is) ∙ (ap (λ (s : State). s.never n) holds.2 ∙ (holds.1.accounts.cutoffs n ∙ b.never n)))
+      (λ x is. sym (stands.cutoff n x is) ∙ (ap (λ (s : State). s.cutoff n) holds.2 ∙ (holds.1.accounts.cutoffs n ∙ b.cutoff n)))
 
   -- ---- what is shown
 
@@ -156,7 +156,7 @@ module _ (M : Meaning) (old new : Parts) (before after : Counts) (e : Refused) (
         is_row = d.is_row;
         takes = d.takes;
         gives = d.gives;
-        reason = reason_more (λ q settled. sym (stands.settled q) ∙ settled) (since_start (b.last n) b.never (b.stale n) d.reason);
+        reason = reason_more (λ q settled. sym (stands.settled q) ∙ settled) (since_start (b.last n) b.cutoff (b.stale n) d.reason);
         met = met_as F old new before after b k.left u stands nodes observed only rooted (main n) d.met;
       }
 

@@ -12,8 +12,7 @@ use Rattle.stabilize_round.specs.Counts.{last_count}
 use Rattle.inc_terms.specs.Graph.{Row, Built, Def, Graph}
 use Rattle.inc_terms.specs.Term.{Functions}
 use Rattle.inc_terms.specs.Depend.{main, change}
-use Rattle.map_nodes.specs.declared.cutoff.Cutoff.{Cutoff}
-use Rattle.map_nodes.specs.declared.cutoff.Cutoff.TheVariants.{Equal, Never}
+use Rattle.map_nodes.specs.Cutoff.{IsStopped}
 use Rattle.point_map.specs.Rows.{Rows, at, Holds, KeepsRows}
 use Rattle.link_table.specs.Links.{Reads, Links, times}
 use Rattle.height_order.specs.Levels.{level}
@@ -26,7 +25,7 @@ use Rattle.stabilize_round.specs.Moves.{calls_of, Enqueues, computed, ran_more}
 use Rattle.node_outcomes.specs.Choosing.{built_by, built_in}
 use Rattle.node_outcomes.specs.Computing.{Computes, NotComputed, noted, KeepsTypes, has_part, ran_then}
 use Rattle.wiring.specs.Kept.{IsKept}
-use Rattle.node_outcomes.specs.Row.{IsRewritten, with_last, with_outcome, settled_in, is_never, outcome_in, stage_of}
+use Rattle.node_outcomes.specs.Row.{IsRewritten, with_last, with_outcome, settled_in, outcome_in, stage_of}
 use Rattle.stabilizer.specs.Settling.{IsSettled}
 use Rattle.stabilizer.specs.Stepping.{MainIsSettled, MainIsLeft, IsOfBuilds}
 use Rattle.wiring.specs.Stands.{Counts, MatchesState, counts_of}
@@ -91,10 +90,10 @@ module _ (s : State) (arena : Arena) (old new : Work) (counts counts' : Counts) 
       | inl h ↦ subst (λ (x : NodeId). at_node n false s.stale x ≡ false) h (node_same n false s.stale)
       | inr ne ↦ node_other n false s.stale m ne ∙ st.stale m
     ];
-    never = λ m k e. elim (node_or_other n m) [
-      | inl h ↦ subst (λ (x : NodeId). s.never x ≡ is_never k.cutoff) h
-          (st.never n w.row w.was ∙ ap (λ (x : Progress). is_never x.cutoff) (row_now k (subst (λ (x : NodeId). at new.rows (main x) ≡ Some k) (sym h) e)))
-      | inr ne ↦ st.never m k (row_other (main m) k (λ h. ne (ap (λ (x : Point). x.node) h)) e)
+    cutoff = λ m k e. elim (node_or_other n m) [
+      | inl h ↦ subst (λ (x : NodeId). s.cutoff x ≡ k.cutoff) h
+          (st.cutoff n w.row w.was ∙ ap (λ (x : Progress). x.cutoff) (row_now k (subst (λ (x : NodeId). at new.rows (main x) ≡ Some k) (sym h) e)))
+      | inr ne ↦ st.cutoff m k (row_other (main m) k (λ h. ne (ap (λ (x : Point). x.node) h)) e)
     ];
     links = λ a b. st.links a b ∙ ap (λ (l : Links). times l a b) (sym w.graph.links);
     root = λ a. st.root a ∙ ap (λ (r : Roots). root_times r a) (sym w.graph.roots);
@@ -125,7 +124,7 @@ module _ (s : State) (arena : Arena) (old new : Work) (counts counts' : Counts) 
   -- the readers that were told, in the machine's words
   pub settled_enqueues : (s.links (main n) (main n) ≡ 0)
       → Enqueues s (at_point (main n) false s.heap) heap' (λ (q : Point). Linked s q (main n))
-      (λ (q : Point). Linked s q (main n) × ((s.out (main n) ≡ Some o → ⊥) ⊎ (s.never n ≡ true)))
+      (λ (q : Point). Linked s q (main n) × (IsStopped (s.cutoff n) (s.out (main n)) o → ⊥))
   settled_enqueues no_loop = record {
     kept = λ a h. elim (same_or_other (main n) a) [
       | inl e ↦ absurd (let f = at_same (main n) false s.heap in
@@ -146,9 +145,8 @@ module _ (s : State) (arena : Arena) (old new : Work) (counts counts' : Counts) 
     ];
   }
     where
-      must : (s.out (main n) ≡ Some o → ⊥) ⊎ (s.never n ≡ true) → (w.row.outcome ≡ Some o → ⊥) ⊎ (is_never w.row.cutoff ≡ true)
-      must (inl other) = inl (λ e. other (st.out (main n) w.row w.was ∙ e))
-      must (inr never) = inr (sym (st.never n w.row w.was) ∙ never)
+      must : (IsStopped (s.cutoff n) (s.out (main n)) o → ⊥) → IsStopped w.row.cutoff w.row.outcome o → ⊥
+      must told stopped = told (rw (st.cutoff n w.row w.was, st.out (main n) w.row w.was) stopped)
 
       linked_as : (a : Point) → Reads old.graph.links a (main n) → Linked s a (main n)
       linked_as a r = subst (λ (k : ℕ). 0 < k) (sym (st.links a (main n))) r
@@ -236,7 +234,7 @@ module _ (F : Functions) (arena : Arena) (old mid new : Work) (n : NodeId) (p : 
       | inl k ↦ inl (before_in p k)
       | inr k ↦ inr (reads p k.0, sym (settled_as p ne) ∙ k.1)
     ];
-    stops = λ is equal p ne h. before_in p (told.stops (with_last c.last c.computed.kept, between, (equal, is)) p h);
+    stops = λ stopped p ne h. before_in p (told.stops (with_last c.last c.computed.kept, between, stopped) p h);
     roots = round.roots ∙ rest.roots;
     deaths = round.deaths ∙ rest.deaths;
     ran = round.ran ∙ c.ran;
@@ -248,13 +246,8 @@ module _ (F : Functions) (arena : Arena) (old mid new : Work) (n : NodeId) (p : 
       its : (s : Stops mid (main n) o) → with_last c.last c.computed.kept ≡ s.0
       its s = same_Some (with_last c.last c.computed.kept) s.0 (sym between ∙ s.1)
 
-      equal_stops : (x : Cutoff) → x ≡ Equal → is_never x ≡ true → ⊥
-      equal_stops Equal is never = cc
-      equal_stops Never is never = cc
-
-      unstopped : (c.computed.kept.outcome ≡ Some o → ⊥) ⊎ (is_never c.computed.kept.cutoff ≡ true) → Stops mid (main n) o → ⊥
-      unstopped (inl other) s = other (ap (λ (x : Progress). x.outcome) (its s) ∙ s.2.1)
-      unstopped (inr never) s = equal_stops c.computed.kept.cutoff (ap (λ (x : Progress). x.cutoff) (its s) ∙ s.2.0) never
+      unstopped : (IsStopped c.computed.kept.cutoff c.computed.kept.outcome o → ⊥) → Stops mid (main n) o → ⊥
+      unstopped told s = told (subst (λ (x : Progress). IsStopped x.cutoff x.outcome o) (sym (its s)) s.2)
 
   pub main_settled : MainIsSettled F arena old new n before after
   main_settled = record { outcome = o; last = c.last; called = c.called; computed = c.computed; settled = is_settled; count = c.count; rest = more }

@@ -64,7 +64,7 @@ module _ (old new : Work) (g : NecessaryPart) (p : Point) (n : NodeId) (o : Outc
       | inl k ↦ inl (sym (ap is_some (heap_as a ne)) ∙ k)
       | inr k ↦ inr (subst (λ (l : Links). Reads l a (main n)) graph.links k.0, k.1)
     ];
-    stops = λ is equal a ne h. sym (ap is_some (heap_as a ne)) ∙ w.stops is equal a ne h;
+    stops = λ stopped a ne h. sym (ap is_some (heap_as a ne)) ∙ w.stops stopped a ne h;
     roots = w.roots;
     deaths = w.deaths;
     ran = w.ran;
@@ -232,7 +232,7 @@ module _ (arena : Arena) (old mid : Work) (g g' : NecessaryPart) (p : Point) (n 
     graph = st.graph ∙ sym (graph_rows arena old back left.rows left.roots);
     out = λ a k e. st.out a k (sym (left.rows a) ∙ e);
     last = λ m k e. st.last m k (sym (left.rows (main m)) ∙ e);
-    never = λ m k e. st.never m k (sym (left.rows (main m)) ∙ e);
+    cutoff = λ m k e. st.cutoff m k (sym (left.rows (main m)) ∙ e);
     stale = st.stale;
     links = λ a b. st.links a b ∙ ap (λ (l : Links). times l a b) (sym same_graph.links);
     root = λ a. st.root a ∙ ap (λ (r : Roots). root_times r a) (sym same_graph.roots);

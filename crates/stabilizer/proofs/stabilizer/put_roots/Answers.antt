@@ -1,8 +1,9 @@
-use Rattle.std.proofs.Common.{◌≢◌, ◌≡◌, map, subst}
+use Rattle.std.proofs.Common.{◌≢◌, ◌≡◌, length, map, ap, subst, arith}
 use Rattle.std.proofs.lemmas.List.{take_all}
 use Rattle.inc_value.specs.declared.node.NodeId.{NodeId}
 use Rattle.inc_value.specs.declared.node.Point.{Point}
 use Rattle.necessity.specs.Need.{OneRootMore, root_times}
+use Rattle.necessity.proofs.Sound.{on_err}
 use Rattle.inc_terms.specs.Depend.{main}
 use Rattle.stabilizer.specs.Round.{RootsMore}
 use Rattle.wiring.specs.Wiring.{RootRefused}
@@ -39,6 +40,11 @@ returns-in_err-put_root-clause-roots c =
     (subst (λ (p : Point). (a : Point) → a ≢ p → root_times c.put_root.new.self.graph.roots a ≡ root_times c.loop-node.work.graph.roots a)
     c.main.ensures
     c.put_root.ensures.others)
+
+pub returns-in_err-put_root-clause-some : goal.returns-in_err-put_root-clause-some
+returns-in_err-put_root-clause-some c =
+    let index = c.loop-node-test.true in
+    on_err c.from_residual.result (λ none. let k : length c.args.roots.now ≡ 0 = ap length none in omega (arith, k, index))
 
 pub returns-clause-roots : goal.returns-clause-roots
 returns-clause-roots c =

@@ -1,7 +1,8 @@
-use Rattle.std.proofs.Common.{◌∙◌, refl, arith}
+use Rattle.std.proofs.Common.{◌∙◌, ℕ, refl, subst, arith}
 use Rattle.node_outcomes.specs.Meaning.{meaning_of}
 use Rattle.stabilizer.specs.Kept.{counts_by}
 use Rattle.stabilizer.specs.Giving.{StopsFull}
+use Rattle.stabilizer.specs.Lacking.{SettleLacks, StepLacks}
 use Rattle.stabilizer.specs.Round.{SettleRefused}
 use Rattle.stabilizer.proofs.Step.Giving.{none_gives, gives_next, few_next, full_next}
 use Rattle.stabilizer.proofs.Step.MeaningKept.{means_still, wants_handed, wants_from}
@@ -89,6 +90,20 @@ returns-in_err-step-clause-wants g c =
     wants_handed c.from_residual.result c.in_err-step.field-0.0 _ _ c.from_residual.ensures.1
     (wants_from c.in_err-step.field-0.0 _ _ _ c.loop.invariant.wants c.in_err-step.ensures.wants)
 
+pub returns-in_err-step-clause-lacks : goal.returns-in_err-step-clause-lacks
+returns-in_err-step-clause-lacks g c =
+    let K = g.F.Functions in
+    let left = c.loop.parts in
+    let lacks : SettleLacks (meaning_of K c.args.functions.now) c.args.parts.now (counts_by K c.args.functions.now) (K.wants c.args.functions.now)
+    (K.wants c.step.new.functions) = record {
+      left = left;
+      counts = counts_by K c.loop.functions;
+      settles = c.loop.invariant.so.settled;
+      lacks = subst (λ (wants : ℕ). StepLacks left wants (K.wants c.step.new.functions)) c.loop.invariant.wants
+          c.in_err-step.ensures.lacks;
+    } in
+    on_err c.from_residual.result lacks
+
 pub returns-in_err-step-clause-stays : goal.returns-in_err-step-clause-stays
 returns-in_err-step-clause-stays g c =
     stays_on g.F.Functions _ _ _ c.args.parts.now c.loop.parts c.step.new.parts c.loop.invariant.stays c.step.ensures.stays
@@ -110,4 +125,5 @@ returns g c =
       quiet = step.quiet;
       stays = stays_on g.F.Functions _ _ _ c.args.parts.now c.loop.parts c.step.new.parts i.stays c.step.ensures.stays;
       wants = step.wants ∙ i.wants;
+      lacks = tt;
     }

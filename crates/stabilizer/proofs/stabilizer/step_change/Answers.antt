@@ -1,4 +1,5 @@
-use Rattle.std.proofs.Common.{refl, ap, subst, ◌∙◌}
+use Rattle.std.proofs.Common.{inl, inr, refl, ap, subst, ◌∙◌}
+use Rattle.necessity.proofs.Sound.{on_err}
 use Rattle.inc_value.specs.declared.node.Point.{Point}
 use Rattle.necessity.specs.Need.{Roots, root_times}
 use Rattle.node_outcomes.specs.Meaning.{meaning_of}
@@ -9,6 +10,7 @@ use Rattle.stabilizer.specs.Kept.{counts_by}
 use Rattle.stabilizer.specs.Stepping.{ChangeIsLeft, unattached, unwired}
 use Rattle.stabilizer.proofs.Change.Again.{left_again, again_kept, two_points}
 use Rattle.stabilizer.proofs.Change.Changing.{on_ok, if_err}
+use Rattle.stabilizer.proofs.Change.Lacking.{err_as, waits_lacks, listed_lacks}
 use Rattle.stabilizer.proofs.Step.Staying.{work_moved}
 use Rattle.stabilizer.proofs.stabilizer.step_change.Goals as goal
 
@@ -53,6 +55,27 @@ returns-clause-settled g c = on_ok c.wire.result (λ wires. record {
 pub returns-clause-refused : goal.returns-clause-refused
 returns-clause-refused g c = if_err c.wire.result (λ e refused. unwired {turned = c.turn_change.new.parts} {attached = c.attach_right.new.self}
     c.in-Ok.ensures.turned c.in_ok-attach_right.ensures.attached refused refl) c.wire.ensures.refused
+
+-- ---- what was lacking
+
+pub returns-in_err-attach_right-clause-lacks : goal.returns-in_err-attach_right-clause-lacks
+returns-in_err-attach_right-clause-lacks g c =
+    on_err c.from_residual.result (waits_lacks (meaning_of g.F.Functions c.args.functions.now) c.args.parts.now c.turn_change.new.parts c.args.node
+    (counts_by g.F.Functions c.args.functions.now) (counts_by g.F.Functions c.turn_change.new.functions) c.in-Ok.ensures.turned
+    c.in_err-attach_right.ensures.waits)
+
+pub returns-clause-lacks : goal.returns-clause-lacks
+returns-clause-lacks g c =
+    let M = meaning_of g.F.Functions c.args.functions.now in
+    let old = c.args.parts.now in
+    let mid = c.turn_change.new.parts in
+    let before = counts_by g.F.Functions c.args.functions.now in
+    let after = counts_by g.F.Functions c.turn_change.new.functions in
+    let turns = c.in-Ok.ensures.turned in
+    err_as c.wire.result (λ listed. elim c.attach_right.ensures.stays [
+      | inl waiting ↦ waits_lacks M old mid c.args.node before after turns waiting
+      | inr same ↦ listed_lacks M old mid c.args.node before after turns (λ none. listed (ap (λ (w : Work). w.todo.items) same ∙ none))
+    ]) c.wire.ensures.listed
 
 -- ---- what stays
 

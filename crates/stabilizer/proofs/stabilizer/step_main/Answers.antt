@@ -36,7 +36,8 @@ returns-in-Err g c =
         clock = c.requires.may.kept.clock;
       };
       functions = meaning_kept K c.args.functions.now c.compute-computed.new.functions c.compute-computed.ensures.functions;
-      wants = elim c.in-Err.ensures.wants [ inl same ↦ inl same | inr rose ↦ inr (refl, rose) ];
+      wants = elim c.in-Err.ensures.wants [ inl same ↦ inl same.0 | inr rose ↦ inr (refl, rose) ];
+      lacks = elim c.in-Err.ensures.wants [ inl lacking ↦ inr lacking.1 | inr rose ↦ inl rose ];
       flat = λ none. refl;
     }
 
@@ -56,6 +57,7 @@ returns-in-Ok g c =
           c.in-Ok.outcome before after c.requires.may.kept.work c.requires.taken noted computed tally s.row s.graph s.told s.round s.todo;
       refused = tt;
       memory = tt;
+      lacks = tt;
       rest = refl;
       kept = record {
         work = main_kept (functions_of K c.args.functions.now) c.args.parts.now.arena old mid c.settle.new.self c.args.node c.main.result c.main.ensures

@@ -1,4 +1,4 @@
-use Rattle.std.proofs.Common.{refl, ap, subst, ◌∙◌}
+use Rattle.std.proofs.Common.{[], ◌∷◌, length, length-append, arith, refl, ap, subst, ◌∙◌}
 use Rattle.inc_value.specs.declared.node.Point.{Point}
 use Rattle.timed_nodes.specs.Timed.{Timed}
 use Rattle.stabilizer.specs.declared.parts.Parts.{Parts}
@@ -30,3 +30,7 @@ loop-node-preserved c =
             work = record p.work { graph = c.schedule.new.self.graph };
           }) i.rest);
     }
+
+pub loop-node-smaller : goal.loop-node-smaller
+loop-node-smaller c =
+    let one = ap length c.in-Some.ensures.some ∙ length-append c.next_stale.new.self.stale (c.in-Some.node ∷ []) in omega (arith, one)

@@ -4,6 +4,7 @@ use Rattle.node_outcomes.specs.Meaning.{meaning_of}
 use Rattle.wiring.specs.declared.refused.Refused.TheVariants.{Memory}
 use Rattle.stabilizer.specs.Ended.{RoundStops}
 use Rattle.stabilizer.specs.Kept.{counts_by}
+use Rattle.stabilizer.specs.Lacking.{of_number, of_roots, of_step}
 use Rattle.stabilizer.specs.declared.parts.Parts.{Parts}
 use Rattle.stabilizer.proofs.Round.Ended.{paused_stops, paused_leaves, round_ends, round_leaves}
 use Rattle.stabilizer.proofs.Step.Giving.{none_few}
@@ -16,6 +17,7 @@ use Rattle.stabilizer.proofs.stabilizer.Stabilizer.run.Given.{Over}
 use Rattle.stabilizer.proofs.stabilizer.Stabilizer.run.Goals.{After-end_round}
 use Rattle.stabilizer.proofs.stabilizer.Stabilizer.run.Goals as goal
 use Rattle.necessary_graph.proofs.Linking.{exit_is}
+use Rattle.necessity.proofs.Sound.{on_err}
 
 -- ---- what is called
 
@@ -46,6 +48,7 @@ returns-in_default g c =
           (none_few (K.right fs) old.arena.given old.arena (omega arith)) tt;
       leaves = paused_leaves K fs fs old old Memory paused c.requires.fit (nothing_meant K fs c.requires.sound) (λ none. refl);
       wants = inl refl;
+      lacks = of_number (let last = c.in_default.ensures in omega (arith, last));
     }
 
 -- ---- a root was refused
@@ -79,7 +82,15 @@ returns-in_err-put_roots-clause-leaves g c =
 pub returns-in_err-put_roots-clause-wants : goal.returns-in_err-put_roots-clause-wants
 returns-in_err-put_roots-clause-wants g c = wants_stay c.from_residual.result _ _ refl
 
+pub returns-in_err-put_roots-clause-lacks : goal.returns-in_err-put_roots-clause-lacks
+returns-in_err-put_roots-clause-lacks g c = on_err c.from_residual.result (of_roots c.in_err-put_roots.ensures.some)
+
 -- ---- a step was refused
+
+pub returns-in_err-settle_all-clause-lacks : goal.returns-in_err-settle_all-clause-lacks
+returns-in_err-settle_all-clause-lacks g c =
+    on_err c.from_residual-in_err-settle_all.result
+    (of_step {rooted = c.put_roots.new.work} c.in_ok-put_roots.ensures.wired c.in_err-settle_all.ensures.lacks)
 
 pub returns-in_err-settle_all-clause-refused : goal.returns-in_err-settle_all-clause-refused
 returns-in_err-settle_all-clause-refused g c =
@@ -156,4 +167,5 @@ returns g c =
       leaves = round_leaves K c.args.functions.now c.settle_all.new.functions old rooted c.requires.ready p.wired settled s.settled s.stays s.quiet
           s.empty last (ended g c);
       wants = s.wants;
+      lacks = tt;
     }

@@ -1,10 +1,16 @@
 use Rattle.std.proofs.Common.{refl, sym, ap, subst, ◌∙◌}
+use Rattle.inc_value.specs.declared.node.Point.{Point}
+use Rattle.point_map.specs.Rows.{Holds}
+use Rattle.necessity.proofs.Sound.{on_err}
 use Rattle.necessity.specs.Need.{KeepsRoots, root_times}
 use Rattle.necessary_graph.specs.Part.{NecessaryPart, Needed}
 use Rattle.node_arena.specs.Arena.{Arena}
 use Rattle.stabilizer.specs.Weights.{SidesFit}
 use Rattle.node_outcomes.specs.Meaning.{meaning_of}
 use Rattle.stabilizer.specs.Kept.{counts_by}
+use Rattle.stabilizer.specs.Lacking as lacking
+use Rattle.stabilizer.specs.Lacking.{StepLacks}
+use Rattle.stabilizer.proofs.Change.Lacking.{lacks_before}
 use Rattle.stabilizer.specs.Stepping.{of_main, of_change, StepIsRefused}
 use Rattle.stabilizer.proofs.Change.Steps.{change_steps, change_stops, change_full}
 use Rattle.stabilizer.proofs.Step.Falling.{steps_leave_less}
@@ -22,6 +28,15 @@ use Rattle.stabilizer.proofs.stabilizer.Stabilizer.step.Goals as goal
 use Rattle.stabilizer.proofs.Between.Alone.{main_is, change_is}
 
 -- ---- a change
+
+pub returns-in_err-step_change-in-Change-clause-lacks : goal.returns-in_err-step_change-in-Change-clause-lacks
+returns-in_err-step_change-in-Change-clause-lacks g c =
+    let old = c.args.parts.now in
+    let p = c.in-Some.p in
+    let lacks : StepLacks old (g.F.Functions.wants c.args.functions.now) (g.F.Functions.wants c.step_change.new.functions) =
+    lacking.of_change p.node (subst (λ (x : Point). Holds old.work.graph.heap x) (change_is p c.in-Change.is) c.in-Some.ensures.was)
+    (lacks_before old c.pop_least.new.self p.node c.pop_least.ensures.rest c.in_err-step_change-in-Change.ensures.lacks) in
+    on_err c.from_residual.result lacks
 
 pub step_change-requires-clause-may : goal.step_change-requires-clause-may
 step_change-requires-clause-may g c = taken_may g.F.Functions c.args.functions.now c.args.parts.now c.pop_least.new.self c.in-Some.p c.requires
@@ -233,3 +248,8 @@ returns-in-Err-clause-stays g c =
       round = c.in-Err.ensures.refused.round;
       ran = ap (λ (x : Parts). x.ran) m.rest;
     }
+
+pub returns-in-Err-clause-lacks : goal.returns-in-Err-clause-lacks
+returns-in-Err-clause-lacks g c =
+    let p = c.in-Some.p in
+    lacking.of_main p.node (subst (λ (x : Point). Holds c.args.parts.now.work.graph.heap x) (main_is p c.in-Main.is) c.in-Some.ensures.was) c.in-Err.ensures.lacks
