@@ -108,7 +108,7 @@ module _ (F F' : Functions) (known : FnRef → Bool) (values : (f : FnRef) → I
     held = e.held;
     last = e.last;
     calls = e.calls;
-    never = e.never;
+    cutoff = e.cutoff;
     stale = e.stale;
     answers = λ n r kids c row takes last. answer_same r.def c.arguments c.result (all n r row) (e.answers n r kids c row takes last);
     unfired = e.unfired;

@@ -10,8 +10,8 @@ use Rattle.inc_value.specs.declared.ty.Ty.{Ty}
 use Rattle.inc_terms.specs.Depend.{main, change, right_of, root_for, subject_of}
 use Rattle.inc_terms.specs.Graph.{Def, Built, Row, Bind}
 use Rattle.inc_terms.proofs.Same.{outcome_decides}
-use Rattle.point_map.specs.Rows.{at}
-use Rattle.necessity.specs.Need.{root_times}
+use Rattle.point_map.specs.Rows.{Rows, at}
+use Rattle.necessity.specs.Need.{Roots, root_times}
 use Rattle.node_arena.specs.Arena.{Arena, row_at, Changes, NamesGiven}
 use Rattle.node_arena.specs.Typing.{Fits, Makes, BindMakes}
 use Rattle.node_outcomes.specs.Computing.{seen_of}
@@ -19,6 +19,7 @@ use Rattle.node_outcomes.specs.Meaning.{Meaning}
 use Rattle.node_outcomes.specs.Row.{outcome_in, cutoff_in}
 use Rattle.node_outcomes.proofs.Held.{built_live, built_parts}
 use Rattle.stabilize_round.specs.Invariant.{Rooted}
+use Rattle.stabilizer.specs.Between.{StaysButHeap}
 use Rattle.stabilizer.specs.Kept.{graph_in}
 use Rattle.stabilizer.specs.Round.{IsReady}
 use Rattle.node_outcomes.specs.declared.row.Progress.{Progress}
@@ -182,18 +183,32 @@ answer_fit known right sides old new def ty (Err e) a calls sound keeps work kep
 
 module _ (M : Meaning) (old new : Parts) (observers : List Observer) (rooted : ℕ)
     (refused : Option Refused) (sound : FitsInside M old observers rooted refused) where
-  pub sound_still : refused ≡ None → (IsReady M old → IsReady M new)
+  -- where the mains of observed nodes keep their rows
+  pub sound_observed : refused ≡ None → (IsReady M old → IsReady M new)
       → ((p : Point) → root_times new.work.graph.roots p ≡ root_times old.work.graph.roots p)
       → (old.arena.given ≤ new.arena.given)
-      → ((n : NodeId) → Given old.arena.given n → at new.work.rows (main n) ≡ at old.work.rows (main n))
+      → (CanStabilize M old observers rooted → (n : NodeId) → Among n (in_use (take rooted observers))
+      → at new.work.rows (main n) ≡ at old.work.rows (main n))
       → FitsInside M new observers rooted refused
-  sound_still still ready roots given rows = record {
+  sound_observed still ready roots given rows = record {
     few = sound.few;
     earlier = sound.earlier;
     kept = (ready (sound.unbroken still).ready).kept;
     built = ready_built M new (ready (sound.unbroken still).ready);
     inside = (ready (sound.unbroken still).ready).inside;
-    unbroken = λ whole. let can = sound.unbroken whole in
-        can_still M old new observers rooted can (ready can.ready) roots given
-        (λ n among. rows n (can.given n (front_is_among observers rooted n among)));
+    unbroken = λ whole. let can = sound.unbroken whole in can_still M old new observers rooted can (ready can.ready) roots given (rows can);
   }
+
+  pub sound_still : refused ≡ None → (IsReady M old → IsReady M new)
+      → ((p : Point) → root_times new.work.graph.roots p ≡ root_times old.work.graph.roots p)
+      → (old.arena.given ≤ new.arena.given)
+      → ((n : NodeId) → Given old.arena.given n → at new.work.rows (main n) ≡ at old.work.rows (main n))
+      → FitsInside M new observers rooted refused
+  sound_still still ready roots given rows = sound_observed still ready roots given
+      (λ can n among. rows n (can.given n (front_is_among observers rooted n among)))
+
+  -- where all but the heap, and what nodes are, stays
+  pub sound_but_heap : refused ≡ None → StaysButHeap old new → FitsInside M new observers rooted refused
+  sound_but_heap still stays = let given = stays.given in
+      sound_still still (stays.ready M) (λ p. ap (λ (r : Roots). root_times r p) stays.roots) (omega (arith, given))
+      (λ n given. ap (λ (m : Rows Progress). at m (main n)) stays.rows)

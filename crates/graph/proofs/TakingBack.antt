@@ -25,7 +25,7 @@ use Rattle.graph.proofs.Fitting.{fit_left}
 use Rattle.graph.specs.Standing.{GraphView, IsNeeded, in_use}
 use Rattle.graph.specs.Inside.{FitsInside}
 use Rattle.graph.specs.declared.observer.Observer.{Observer}
-use Rattle.graph.proofs.Sound.{can_still, ready_built}
+use Rattle.graph.proofs.Sound.{sound_observed}
 use Rattle.graph.proofs.Unobserving.{mains_among}
 use Rattle.graph.proofs.Needing.{needed_root, needed_linked, needed_has}
 use Rattle.necessary_graph.proofs.Reaching.{root_needed}
@@ -54,16 +54,9 @@ module _ (M : Meaning) (old new : Parts) (observers : List Observer) (rooted : �
       → ((n : NodeId) → n.gen_ < count → at new.work.rows (main n) ≡ at old.work.rows (main n))
       → ((p : Point) → Needed old.work.graph p → p.node.gen_ < count)
       → FitsInside M new observers rooted refused
-  sound_back still ready roots given rows low = record {
-    few = sound.few;
-    earlier = sound.earlier;
-    kept = (ready (sound.unbroken still).ready).kept;
-    built = ready_built M new (ready (sound.unbroken still).ready);
-    inside = (ready (sound.unbroken still).ready).inside;
-    unbroken = λ whole. let can = sound.unbroken whole in
-        can_still M old new observers rooted can (ready can.ready) (λ p. ap (λ (r : Roots). root_times r p) roots)
-        (omega (arith, given)) (λ n among. rows n (young_roots old.work (in_use (take rooted observers)) count can.roots low n among));
-  }
+  sound_back still ready roots given rows low = sound_observed M old new observers rooted refused sound still ready
+      (λ p. ap (λ (r : Roots). root_times r p) roots) (omega (arith, given))
+      (λ can n among. rows n (young_roots old.work (in_use (take rooted observers)) count can.roots low n among))
 
 -- where none that was given since the count stands in a scope, those in scopes and their binds are older
 pub scoped_before : (arena : Arena) (work : Work) (count : ℕ) → IsKept arena work → NoneScopedSince arena count

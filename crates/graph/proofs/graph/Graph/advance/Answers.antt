@@ -3,22 +3,16 @@ use Rattle.std.specs.Prelude.{IsErrOf, OnOk, ◌↔◌}
 use Rattle.std.proofs.lemmas.Int.{ints}
 use Rattle.clock_nodes.specs.declared.clock.AdvanceFault.TheVariants as advance
 use Rattle.timed_nodes.specs.Timed.{IsMovedTo}
-use Rattle.necessity.specs.Need.{Roots, root_times}
-use Rattle.point_map.specs.Rows.{Rows, at}
-use Rattle.inc_terms.specs.Depend.{main}
-use Rattle.node_outcomes.specs.declared.row.Progress.{Progress}
 use Rattle.graph.proofs.Moving.{Passes, passed_back, passed_fault, moved_fit, answer_moves, answer_stays}
-use Rattle.graph.proofs.Sound.{sound_still}
+use Rattle.graph.proofs.Sound.{sound_but_heap}
 use Rattle.graph.proofs.graph.Graph.advance.Goals as goal
 use Rattle.graph.proofs.graph.Graph.advance.Goals.{in-Ok, in-Err}
 
 pub invariant_of-self : goal.invariant_of-self
 invariant_of-self g c = (
   c.self.invariant.0,
-  (let a = c.advance.ensures in
-      sound_still _ c.self.inside.parts c.advance.new.self c.self.inside.observers.items c.self.inside.rooted c.self.inside.refused c.self.invariant.1
-      (rw (← c.self.view_is) at c.in_ok-check.ensures.unbroken) (a.stays.ready _) (λ p. ap (λ (r : Roots). root_times r p) a.stays.roots)
-      (omega (arith, a.stays.given)) (λ n given. ap (λ (m : Rows Progress). at m (main n)) a.stays.rows)),
+  sound_but_heap _ c.self.inside.parts c.advance.new.self c.self.inside.observers.items c.self.inside.rooted c.self.inside.refused c.self.invariant.1
+      (rw (← c.self.view_is) at c.in_ok-check.ensures.unbroken) c.advance.ensures.stays,
   c.self.invariant.2,
   (let a = c.advance.ensures in
       moved_fit (g.F.Functions.known c.self.inside.functions) (g.F.Functions.right c.self.inside.functions) c.self.inside.parts c.advance.new.self _

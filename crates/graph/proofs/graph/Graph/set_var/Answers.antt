@@ -1,5 +1,4 @@
 use Rattle.std.proofs.Common.{inl, Err, refl, sym, ap, subst, ◌∙◌, arith}
-use Rattle.necessity.specs.Need.{Roots, root_times}
 use Rattle.node_arena.specs.declared.arena.variable.SetFault.TheVariants as set
 use Rattle.node_arena.specs.Arena.{IsSet, IsVariable}
 use Rattle.inc_value.specs.declared.node.NodeId.{NodeId}
@@ -13,7 +12,7 @@ use Rattle.inc_terms.specs.Within.{Given}
 use Rattle.node_outcomes.specs.Row.{cutoff_in}
 use Rattle.graph.proofs.Seeing.{beside_as, built_set}
 use Rattle.graph.proofs.Fitting.{set_answer_fit}
-use Rattle.graph.proofs.Sound.{sound_still}
+use Rattle.graph.proofs.Sound.{sound_but_heap}
 use Rattle.graph.proofs.graph.Graph.set_var.Goals as goal
 use Rattle.graph.proofs.graph.Graph.set_var.Goals.{in-Ok-set_var, in-Err-set_var}
 
@@ -41,10 +40,8 @@ returns-clause-wrong_type g c = rw (← c.self.view_is) (passed c.set_var.result
 pub invariant_of-self : goal.invariant_of-self
 invariant_of-self g c = (
   c.self.invariant.0,
-  (let a = c.set_var.ensures in
-      sound_still _ c.self.inside.parts c.set_var.new.self c.self.inside.observers.items c.self.inside.rooted c.self.inside.refused c.self.invariant.1
-      (rw (← c.self.view_is) at c.in-Ok.ensures.unbroken) (a.stays.ready _) (λ p. ap (λ (r : Roots). root_times r p) a.stays.roots)
-      (omega (arith, a.stays.given)) (λ n given. ap (λ (m : Rows Progress). at m (main n)) a.stays.rows)),
+  sound_but_heap _ c.self.inside.parts c.set_var.new.self c.self.inside.observers.items c.self.inside.rooted c.self.inside.refused c.self.invariant.1
+      (rw (← c.self.view_is) at c.in-Ok.ensures.unbroken) c.set_var.ensures.stays,
   c.self.invariant.2,
   (let a = c.set_var.ensures in
       set_answer_fit (g.F.Functions.known c.self.inside.functions) (g.F.Functions.right c.self.inside.functions) c.self.inside.parts c.set_var.new.self
