@@ -1,21 +1,15 @@
 -- What is looked for in formulas is what the table of refusals asks of their times, spans and forms of the top.
-use Rattle.std.proofs.Common.{◌≡◌, ℕ, ◌+◌, Bool, true, false, not, ◌&&◌, ◌||◌, List, [], ◌∷◌, ◌++◌, drop, is_none, Some, None, refl, ap, sym, ◌∙◌, flat_map}
+use Rattle.std.proofs.Common.{◌≡◌, ℕ, Bool, true, false, not, ◌&&◌, ◌||◌, List, [], ◌∷◌, ◌++◌, drop, is_none, Some, None, refl, ap, sym, ◌∙◌, flat_map}
 use Rattle.std.proofs.lemmas.List.Folds.{list_any-append}
 use Rattle.std.specs.List.{list_any}
-use Rattle.script_model.specs.Check.{has_falling_times, is_empty_interval, is_past, is_top_form, own_times, times_rise, trees_in, trees_in_all}
-use Rattle.script_model.specs.Grammar.{Tree, Time, TimedLiteral, Literal, Name, Call, If, Bind, Join, Fold, At, Now, Steps, Freeze, After, Every}
+use Rattle.script_model.specs.Check.{has_falling_times, is_empty_interval, is_past, is_top_form, own_times, trees_in, trees_in_all}
+use Rattle.script_model.specs.Grammar.{Tree, Time, Literal, Name, Call, If, Bind, Join, Fold, At, Now, Steps, Freeze, After, Every}
 use Rattle.script_model.specs.Here.{is_plain}
-use Rattle.line_times.specs.Sought.{freeze_has, is_sought, rises_to}
+use Rattle.line_times.specs.Sought.{freeze_has, is_sought}
 use Rattle.line_times.specs.declared.search.Sought.{Sought}
 use Rattle.line_times.specs.declared.search.Sought.TheVariants as sought
 use Rattle.line_times.proofs.Mentions.{or_nothing}
 use Rattle.line_parser.specs.TreeView.{frozen}
-
--- ---- times that rise
-
-pub rise_further : (s : TimedLiteral) (steps : List TimedLiteral) → times_rise (s ∷ steps) ≡ (rises_to s.time steps && times_rise steps)
-rise_further s [] = refl
-rise_further s (t ∷ steps) = refl
 
 -- ---- what is sought in several formulas
 

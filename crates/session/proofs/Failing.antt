@@ -1,6 +1,6 @@
 -- What holds where a call has failed, or has not.
-use Rattle.std.proofs.Common.{◌≡◌, true, false, Option, None, Some, refl, subst}
-use Rattle.std.specs.Prelude.{Result, Ok, Err, is_err, IfNone, IfSome}
+use Rattle.std.proofs.Common.{◌≡◌, Option, None, Some, refl, subst}
+use Rattle.std.specs.Prelude.{Result, Ok, Err, IfNone, IfSome}
 use Rattle.std.specs.Result.{IfOk, OnErr, OnOk}
 
 -- what follows from what a call ensures, by how it ended
@@ -23,15 +23,6 @@ err_from (Err e) p f = f p
 pub if_some_from : {T : Type 0} {P Q : T → Type 0} (o : Option T) → IfSome o P → ((x : T) → P x → Q x) → IfSome o Q
 if_some_from None p f = tt
 if_some_from (Some x) p f = f x p
-
--- what a call that failed doesn't owe
-pub no_ok : {T E : Type 0} (r : Result T E) (P : T → Type 0) → is_err r ≡ true → IfOk r P
-no_ok (Ok x) P is = absurd (cc)
-no_ok (Err e) P is = tt
-
-pub no_err : {T E : Type 0} (r : Result T E) (P : Type 0) → is_err r ≡ false → OnErr r P
-no_err (Ok x) P is = tt
-no_err (Err e) P is = absurd (cc)
 
 -- what is none of the values that there may be is none
 pub none_of : {A : Type 0} (o : Option A) → ((x : A) → o ≡ Some x → ⊥) → o ≡ None
