@@ -1,9 +1,10 @@
-//! What stands for the kit's memory, `Vec`, `Slab`, `SmallVec`, `IndexMap` and texts in crates that were translated to
+//! What stands for the kit's memory, `Vec`, `Slab`, `SmallVec`, `IndexMap`, `HashMap` and texts in crates that were translated to
 //! plain Rust, as far as they use these.
 
 use std::cell::Cell;
-use std::collections::HashMap;
+use std::collections;
 use std::fmt::Display;
+use std::hash::{BuildHasher, Hash};
 use std::ops::{Deref, DerefMut, Index};
 
 #[derive(Clone, Copy, Debug, PartialEq, Eq)]
@@ -241,12 +242,12 @@ impl<T> IntoIterator for Vec<T> {
 /// Values by keys of bytes, in the order in which these came; the last key takes the place of one that is taken off.
 pub struct IndexMap<K, V> {
     entries: std::vec::Vec<(K, V)>,
-    places: HashMap<std::vec::Vec<u8>, usize>,
+    places: collections::HashMap<std::vec::Vec<u8>, usize>,
 }
 
 impl<V> IndexMap<Vec<u8>, V> {
     pub fn new(_: Global) -> IndexMap<Vec<u8>, V> {
-        IndexMap { entries: std::vec::Vec::new(), places: HashMap::new() }
+        IndexMap { entries: std::vec::Vec::new(), places: collections::HashMap::new() }
     }
 
     pub fn len(&self) -> usize {
@@ -292,6 +293,38 @@ impl<V> Index<usize> for IndexMap<Vec<u8>, V> {
 
     fn index(&self, place: usize) -> &V {
         &self.entries[place].1
+    }
+}
+
+/// Values by key, in no order.
+pub struct HashMap<K, V, S>(collections::HashMap<K, V, S>);
+
+impl<K: Eq + Hash, V, S: BuildHasher> HashMap<K, V, S> {
+    pub fn with_hasher(_: Global, hasher: S) -> HashMap<K, V, S> {
+        HashMap(collections::HashMap::with_hasher(hasher))
+    }
+
+    pub fn reserve(&mut self, more: usize) -> Result<(), AllocError> {
+        if more > self.0.capacity() - self.0.len() {
+            take_memory()?;
+        }
+        self.0.reserve(more);
+        Ok(())
+    }
+
+    pub fn get(&self, key: &K) -> Option<&V> {
+        self.0.get(key)
+    }
+
+    pub fn insert(&mut self, key: K, value: V) -> Result<Option<V>, AllocError> {
+        if !self.0.contains_key(&key) {
+            self.reserve(1)?;
+        }
+        Ok(self.0.insert(key, value))
+    }
+
+    pub fn remove(&mut self, key: &K) -> Option<V> {
+        self.0.remove(key)
     }
 }
 
@@ -350,6 +383,7 @@ impl<T> Slab<T> {
         if self.room - self.len() < more {
             take_memory()?;
             self.room = (self.len() + more).max(2 * self.room);
+            self.places.reserve_exact(self.room - self.places.len());
         }
         Ok(())
     }

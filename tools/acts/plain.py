@@ -21,7 +21,7 @@ LEFT_OUT = re.compile(r"impl\b.* (Model|Drop) for ")
 CHANGES = [
     (r"#!?\[(tactic|cycle|error)\(.*\)\]", ""),
     (r"use (std::marker::Model|std::convert::AsStr|thiserror::Error);", ""),
-    (r"use (std::alloc|slab|smallvec|indexmap|itoa)::", "use kit::"),
+    (r"use (std::alloc|std::collections|slab|smallvec|indexmap|itoa)::", "use kit::"),
     (r"(derive\([^)]*), (Drop|Error)\)", r"\1)"),
     (r"#\[derive\(Drop\)\]", ""),
     (r"<R: Drop>", "<R>"),
