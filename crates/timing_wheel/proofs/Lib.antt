@@ -5,5 +5,6 @@ mod Queue
 mod Rows
 mod Settling
 mod Slots
+mod Staying
 mod Turning
 mod Counting

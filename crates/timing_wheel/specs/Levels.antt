@@ -3,7 +3,7 @@ use Rattle.std.specs.Prelude.{◌≡◌, ◌≢◌, ◌⊎◌, Bool, true, false
 use Rattle.index_lists.specs.Lists.{Lists, list_at, Has}
 use Rattle.timing_wheel.specs.declared.levels.Timer.{Timer}
 use Rattle.timing_wheel.specs.Slots.{slot}
-use Rattle.timing_wheel.specs.Timers.{due_at, keys_of}
+use Rattle.timing_wheel.specs.Timers.{due_at, keys_of, LeavesSlot}
 
 -- the timers of a slot
 abbrev pub rows : List (ℕ × Timer) → List Timer
@@ -49,6 +49,14 @@ pub record InPlace (now : ℕ) (v : Lists Timer) : Type 0 where
   pub after : (at place : ℕ) (t : Timer) → Has (list_at v at) place t → now < t.deadline
   pub placed : (at place : ℕ) (t : Timer) → Has (list_at v at) place t → slot now t.deadline ≡ at
   pub range : (at place : ℕ) (t : Timer) → Has (list_at v at) place t → t.deadline < 2 ^ 64
+
+-- a timer leaves its slot, or is due, as now moves on to a tick
+pub record MovesOne (now tick : ℕ) (v : Lists Timer) : Type 0 where
+  pub at : ℕ
+  pub place : ℕ
+  pub timer : Timer
+  pub has : Has (list_at v at) place timer
+  pub leaves : LeavesSlot now tick timer
 
 -- a key's timer
 pub record HasKey (v : Lists Timer) (key place : ℕ) : Type 0 where

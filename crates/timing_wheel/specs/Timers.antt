@@ -1,7 +1,9 @@
 -- What a contract sees of timers, whose deadlines are ticks.
-use Rattle.std.specs.Prelude.{ℕ, ◌≡◌, ◌⊎◌, [], ◌∷◌, ◌==◌, nat_le, nat_lt, Bool, not, List, map, filter, Option, option_map, slice_get}
+use Rattle.std.specs.Prelude.{ℕ, ◌≡◌, ◌≢◌, ◌⊎◌, ◌<◌, ◌≤◌, [], ◌∷◌, ◌==◌, nat_le, nat_lt, Bool, not, List, map, filter, Option, option_map, slice_get}
+use Rattle.inc_value.specs.Choice.{Among}
 use Rattle.timing_wheel.specs.declared.levels.Timer.{Timer}
 use Rattle.timing_wheel.specs.Queue.{in_order}
+use Rattle.timing_wheel.specs.Slots.{slot}
 
 -- the first is due no later than the second
 abbrev pub no_later : Timer → Timer → Bool
@@ -44,3 +46,21 @@ pub record Pending : Type 0 where
   pub time : ℕ
   pub timers : List Timer
   pub spare : ℕ
+
+-- the timer is due after a tick, and its slot then is that of now
+pub record StaysInSlot (now tick : ℕ) (t : Timer) : Type 0 where
+  pub later : tick < t.deadline
+  pub same : slot tick t.deadline ≡ slot now t.deadline
+
+-- the timer, due after now, is due by a tick, or its slot then is another than that of now
+pub record LeavesSlot (now tick : ℕ) (t : Timer) : Type 0 where
+  pub ahead : now < t.deadline
+  pub leaves : (t.deadline ≤ tick) ⊎ (slot tick t.deadline ≢ slot now t.deadline)
+
+-- moving now on to a tick leaves each timer in its slot
+abbrev pub AllStay : Pending → ℕ → Type 0
+AllStay p tick = (t : Timer) → Among t p.timers → StaysInSlot p.time tick t
+
+-- moving now on to a tick takes a timer out of its slot
+abbrev pub OneLeaves : Pending → ℕ → Type 0
+OneLeaves p tick = (t : Timer) × Among t p.timers × LeavesSlot p.time tick t

@@ -1,9 +1,9 @@
-ghost use Rattle.std.specs.Prelude.{◌≡◌, ℕ, ◌+◌, ◌<◌, ◌≤◌, ◌^◌, true, false, List, ◌++◌, length, ◌⊎◌, ◌≢◌, OnOk, OnErr, IsOk, IsTrue, OnSome, IfSome, IfNone, [], vec_len, vec_capacity};
+ghost use Rattle.std.specs.Prelude.{◌≡◌, ℕ, ◌+◌, ◌<◌, ◌≤◌, ◌^◌, true, false, List, ◌++◌, length, ◌⊎◌, ◌≢◌, OnOk, OnErr, IsOk, IsTrue, IsFalse, OnSome, IfSome, IfNone, [], vec_len, vec_capacity};
 ghost use Rattle.timing_wheel.specs.Places.{place_of};
 ghost use Rattle.index_lists.specs.Lists.{count, list_at, Has};
 ghost use Rattle.timing_wheel.specs.Slots.{slot};
 ghost use Rattle.timing_wheel.specs.declared.levels.Timer.{Timer};
-ghost use Rattle.timing_wheel.specs.Levels.{NoneBelow, IsFilled, IsDrained, KeepsLater, fired, IsFirstLater, InPlace, KeepsTimers, AreMade};
+ghost use Rattle.timing_wheel.specs.Levels.{NoneBelow, IsFilled, IsDrained, KeepsLater, fired, IsFirstLater, InPlace, MovesOne, KeepsTimers, AreMade};
 
 use crate::levels::Timer;
 use crate::places::give_up;
@@ -61,7 +61,8 @@ pub(crate) fn is_later(lists: &IndexLists<Timer>, at: usize, tick: u64) -> bool
 pub(crate) fn is_still(lists: &IndexLists<Timer>, least: usize, tick: u64) -> bool
     requires below { NoneBelow lists.now least }
     requires within { least ≤ length lists.now.lists }
-    ensures { IsTrue result → (now : ℕ) → InPlace now lists.now → now ≤ tick → InPlace tick lists.now }
+    ensures stays { IsTrue result → (now : ℕ) → InPlace now lists.now → now ≤ tick → InPlace tick lists.now }
+    ensures moves { IsFalse result → (now : ℕ) → InPlace now lists.now → MovesOne now tick lists.now }
 {
     let slot = first_filled(lists, least);
     if slot == lists.width() {

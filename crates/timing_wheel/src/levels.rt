@@ -1,5 +1,5 @@
-ghost use Rattle.std.specs.Prelude.{◌≡◌, ◌↔◌, length, IsTrue, ℕ, ◌+◌, ◌<◌, ◌≤◌, ◌++◌, ◌∷◌, [], None, Some, IsSome, IsOk, IfOk, OnOk, OnErr, map, vec_len};
-ghost use Rattle.timing_wheel.specs.Timers.{Pending, by_deadline, due_by, due_after, but, keys_of, first_due, IsPending};
+ghost use Rattle.std.specs.Prelude.{◌≡◌, ◌↔◌, length, IsTrue, IsFalse, ℕ, ◌+◌, ◌<◌, ◌≤◌, ◌++◌, ◌∷◌, [], None, Some, IsSome, IsOk, IsErr, IfOk, OnOk, OnErr, map, vec_len};
+ghost use Rattle.timing_wheel.specs.Timers.{Pending, by_deadline, due_by, due_after, but, keys_of, first_due, IsPending, AllStay, OneLeaves};
 
 use crate::drain::{drain, earliest, first_filled, is_later, is_still, make_room};
 use crate::places::{give_up, holds, keep, make_place};
@@ -124,16 +124,18 @@ impl Levels {
         let _timer = self.lists.remove(place);
     }
 
-    /// Whether no timer is due by a tick, as far as the slots tell without looking at each.
+    /// Whether moving now on to a tick leaves each timer in its slot, so that none is due by then. False just where one leaves it.
     pub(crate) fn is_quiet(&self, to: u64) -> bool
         requires forward { self.now.time ≤ to }
-        ensures { IsTrue result → due_by to self.now.timers ≡ [] }
+        ensures quiet { IsTrue result → due_by to self.now.timers ≡ [] }
+        ensures stays { IsTrue result → AllStay self.now to }
+        ensures leaves { IsFalse result → OneLeaves self.now to }
     {
         is_still(&self.lists, self.least, to)
     }
 
     /// Moves now on to a tick. The keys that are due by then are put behind those of a list, and their timers are taken off.
-    /// Without memory for them nothing changes. Where no timer leaves its slot none is needed.
+    /// Fails only where a timer leaves its slot and there is no memory for the keys, and then nothing changes.
     pub(crate) fn advance(&mut self, to: u64, due: &mut Vec<u64>) -> Result<(), AllocError>
         requires forward { self.old.time ≤ to }
         ensures now { OnOk result (self.new.time ≡ to) }
@@ -142,6 +144,7 @@ impl Levels {
         ensures spare { self.new.spare + vec_len due.old ≡ self.old.spare + vec_len due.new }
         ensures err { OnErr result (self.new ≡ self.old) }
         ensures err_due { OnErr result (due.new.items ≡ due.old.items) }
+        ensures memory { IsErr result → OneLeaves self.old to }
     {
         let first = first_filled(&self.lists, self.least);
         self.least = first;

@@ -1,5 +1,5 @@
-ghost use Rattle.std.specs.Prelude.{◌≡◌, ◌↔◌, length, IsTrue, ◌+◌, ◌<◌, ◌≤◌, ◌++◌, ◌∷◌, [], ◌<ℤ◌, ◌≤ℤ◌, vec_len, IsOk, IfOk, OnOk, OnErr};
-ghost use Rattle.timing_wheel.specs.Alarms.{by_deadline, due_by, due_after, but, keys_of, first_due, IsPending};
+ghost use Rattle.std.specs.Prelude.{◌≡◌, ◌↔◌, length, IsTrue, IsFalse, ◌+◌, ◌<◌, ◌≤◌, ◌++◌, ◌∷◌, [], ◌<ℤ◌, ◌≤ℤ◌, vec_len, IsOk, IsErr, IfOk, OnOk, OnErr};
+ghost use Rattle.timing_wheel.specs.Alarms.{by_deadline, due_by, due_after, but, keys_of, first_due, IsPending, AllStay, OneLeaves};
 
 use crate::levels::Levels;
 use crate::ticks::{tick_of, time_of};
@@ -87,18 +87,20 @@ impl Wheel {
         self.levels.remove(key);
     }
 
-    /// Whether no alarm is due by a time in nanoseconds, not before the present one. False also where alarms would have to be looked
-    /// at one by one.
+    /// Whether moving the time on to one in nanoseconds, not before the present one, leaves each alarm in its slot, so that none is
+    /// due by then. False just where one leaves it. Only one alarm is looked at.
     pub fn is_quiet(&self, to: i64) -> bool
         requires forward { self.now.time ≤ℤ to }
-        ensures { IsTrue result → due_by to self.now.alarms ≡ [] }
+        ensures quiet { IsTrue result → due_by to self.now.alarms ≡ [] }
+        ensures stays { IsTrue result → AllStay self.now to }
+        ensures leaves { IsFalse result → OneLeaves self.now to }
     {
         self.levels.is_quiet(tick_of(to))
     }
 
     /// Moves the time on to one in nanoseconds, not before the present one. The keys of the alarms that are due by then are put
-    /// behind those of the list, by deadline and then in order of adding, and these alarms are taken off. Fails only where the
-    /// list can't have room for as many keys as there are alarms, and then nothing changes.
+    /// behind those of the list, by deadline and then in order of adding, and these alarms are taken off. Fails only where an
+    /// alarm leaves its slot and the list can't have room for as many keys as there are alarms, and then nothing changes.
     pub fn advance(&mut self, to: i64, due: &mut Vec<u64>) -> Result<(), AllocError>
         requires forward { self.old.time ≤ℤ to }
         ensures time { OnOk result (self.new.time ≡ to) }
@@ -107,6 +109,7 @@ impl Wheel {
         ensures spare { self.new.spare + vec_len due.old ≡ self.old.spare + vec_len due.new }
         ensures err { OnErr result (self.new ≡ self.old) }
         ensures err_due { OnErr result (due.new.items ≡ due.old.items) }
+        ensures memory { IsErr result → OneLeaves self.old to }
     {
         self.levels.advance(tick_of(to), due)
     }

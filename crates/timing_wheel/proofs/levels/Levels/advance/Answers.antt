@@ -1,10 +1,11 @@
 use Rattle.std.proofs.Common.{◌≡◌, ◌≢◌, ◌∙◌, ◌⊎◌, ◌++◌, ◌≤◌, sym, ap, subst, arith}
 use Rattle.timing_wheel.specs.Places.{place_of}
 use Rattle.timing_wheel.specs.Slots.{slot}
-use Rattle.timing_wheel.specs.Timers.{by_deadline, due_by, due_after, keys_of}
+use Rattle.timing_wheel.specs.Timers.{by_deadline, due_by, due_after, keys_of, OneLeaves}
 use Rattle.timing_wheel.specs.Levels.{timers_of, NoneBelow, InPlace, IsFirstLater}
 use Rattle.timing_wheel.proofs.Queue.{after_after, by_deadline_order}
 use Rattle.timing_wheel.proofs.Turning.{drain_start, later_start, fired_start, queue_start, drain_inplace, drain_queue, moves_on, moved_from, moves_forward, told, empty_inplace, queue_later}
+use Rattle.timing_wheel.proofs.Staying.{one_leaves}
 use Rattle.std.proofs.Common.{append-nil}
 use Rattle.timing_wheel.proofs.levels.Levels.advance.Goals.{then-slot-width-via-then-slot-width, then-slot-width-via-else-slot-width+then-is_later}
 use Rattle.timing_wheel.proofs.levels.Levels.advance.Goals as goal
@@ -135,7 +136,7 @@ returns-clause-rest c =
 pub invariant_of-self : goal.invariant_of-self
 invariant_of-self c =
     let forward = subst (λ w. w.time ≤ c.args.to) (sym c.self.view_is) c.requires.forward in (
-      c.is_still.ensures c.if-is_still.true c.self.inside.time c.self.invariant.0 forward,
+      c.is_still.ensures.stays c.if-is_still.true c.self.inside.time c.self.invariant.0 forward,
       c.self.invariant.1,
       c.first_filled-first.ensures.below,
       c.first_filled-first.ensures.within,
@@ -146,7 +147,7 @@ invariant_of-self c =
 pub returns-then-is_still-clause-due : goal.returns-then-is_still-clause-due
 returns-then-is_still-clause-due c =
     let forward = subst (λ w. w.time ≤ c.args.to) (sym c.self.view_is) c.requires.forward in
-    let inplace = c.is_still.ensures c.if-is_still.true c.self.inside.time c.self.invariant.0 forward in
+    let inplace = c.is_still.ensures.stays c.if-is_still.true c.self.inside.time c.self.invariant.0 forward in
     sym (append-nil c.args.due.now.items)
     ∙ ap (λ l. c.args.due.now.items ++ keys_of l) (sym (queue_later c.args.to c.self.inside.lists inplace).0)
     ∙ ap (λ w. c.args.due.now.items ++ keys_of (due_by c.args.to w.timers)) c.self.view_is
@@ -154,5 +155,12 @@ returns-then-is_still-clause-due c =
 pub returns-then-is_still-clause-rest : goal.returns-then-is_still-clause-rest
 returns-then-is_still-clause-rest c =
     let forward = subst (λ w. w.time ≤ c.args.to) (sym c.self.view_is) c.requires.forward in
-    let inplace = c.is_still.ensures c.if-is_still.true c.self.inside.time c.self.invariant.0 forward in
+    let inplace = c.is_still.ensures.stays c.if-is_still.true c.self.inside.time c.self.invariant.0 forward in
     sym (queue_later c.args.to c.self.inside.lists inplace).1 ∙ ap (λ w. due_after c.args.to w.timers) c.self.view_is
+
+pub returns-in_err-reserve-clause-memory : goal.returns-in_err-reserve-clause-memory
+returns-in_err-reserve-clause-memory c = λ _.
+    let v = c.self.inside.lists in
+    let now = c.self.inside.time in
+    subst (λ w. OneLeaves w c.args.to) c.self.view_is
+    (one_leaves now c.args.to v.spare v c.self.invariant.0 (c.is_still.ensures.moves c.if-is_still.false now c.self.invariant.0))

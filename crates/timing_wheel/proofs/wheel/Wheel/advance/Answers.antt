@@ -1,9 +1,10 @@
-use Rattle.std.proofs.Common.{◌≡◌, ◌∙◌, ◌++◌, sym, ap, w64}
+use Rattle.std.proofs.Common.{◌≡◌, ◌∙◌, ◌++◌, sym, ap, subst, w64}
 use Rattle.std.proofs.lemmas.Result.{on_ok_weaker}
 use Rattle.std.proofs.lemmas.Int.{to_z-of_z}
-use Rattle.timing_wheel.specs.Alarms.{time_at, alarms_of, due_by, due_after, keys_of}
+use Rattle.timing_wheel.specs.Alarms.{time_at, alarms_of, due_by, due_after, keys_of, OneLeaves}
 use Rattle.timing_wheel.specs.Timers.{due_by as timers_due_by}
 use Rattle.timing_wheel.proofs.Alarms.{seen_due, seen_rest, seen_keys}
+use Rattle.timing_wheel.proofs.Staying.{seen, leaves_seen}
 use Rattle.timing_wheel.proofs.wheel.Wheel.advance.Goals as goal
 
 pub returns-clause-due : goal.returns-clause-due
@@ -23,3 +24,10 @@ returns-clause-rest c =
     (λ e. ap alarms_of e ∙ sym (seen_rest ts c.tick_of.result) ∙ ap (λ t. due_after t (alarms_of ts)) tick
     ∙ ap (λ w. due_after c.args.to w.alarms) c.self.view_is)
     c.advance.ensures.rest
+
+pub returns-clause-memory : goal.returns-clause-memory
+returns-clause-memory c = λ failed.
+    let p = c.self.inside.levels in
+    let tick : time_at c.tick_of.result ≡ c.args.to = c.tick_of.ensures ∙ to_z-of_z w64 c.args.to c.ranges.to in
+    subst (λ w. OneLeaves w c.args.to) c.self.view_is
+    (subst (OneLeaves (seen p)) tick (leaves_seen p c.tick_of.result (c.advance.ensures.memory failed)))
