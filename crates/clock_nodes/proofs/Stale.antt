@@ -1,5 +1,5 @@
 -- Which nodes are told.
-use Rattle.std.proofs.Common.{◌≡◌, ◌≢◌, ◌∙◌, ℕ, ℤ, ◌==◌, Bool, true, false, List, [], ◌∷◌, ◌++◌, ◌⊎◌, inl, inr, Option, None, Some, refl, sym, ap, subst, if◌then◌else◌}
+use Rattle.std.proofs.Common.{◌≡◌, ◌≢◌, ◌∙◌, ℕ, ℤ, ◌<ℤ◌, ◌==◌, Bool, true, false, List, [], ◌∷◌, ◌++◌, ◌⊎◌, inl, inr, Option, None, Some, IsSome, refl, sym, ap, subst, if◌then◌else◌}
 use Rattle.std.specs.Bool.{Decides}
 use Rattle.std.proofs.lemmas.Bool.Decides.{Decides-eqb}
 use Rattle.std.proofs.lemmas.List.{append_assoc, append-nil}
@@ -9,11 +9,12 @@ use Rattle.inc_value.specs.declared.node.NodeId.{NodeId}
 use Rattle.inc_terms.specs.Clock.{clock_value}
 use Rattle.inc_terms.specs.Graph.{Def}
 use Rattle.inc_terms.proofs.Plan.{among_left}
-use Rattle.clock_nodes.specs.Clock.{Clock, Rows, row_at, own, watched, IsFree, IsStale, ListsStale}
+use Rattle.timing_wheel.specs.Alarms.{Alarm, Wheel, OneLeaves}
+use Rattle.clock_nodes.specs.Clock.{Clock, Rows, row_at, own, watched, IsFree, IsStale, ListsStale, MayYetTurn}
 use Rattle.clock_nodes.specs.Kinds.{watch_def, watch_slot}
-use Rattle.clock_nodes.specs.Keeping.{IsStaleIn, TellsOne, TellsDue}
+use Rattle.clock_nodes.specs.Keeping.{IsAwake, IsStaleIn, TellsOne, TellsDue}
 use Rattle.clock_nodes.specs.declared.watch.Watch.{Watch}
-use Rattle.clock_nodes.proofs.Alarms.{among_cases, among_last, once_last, once_pushed}
+use Rattle.clock_nodes.proofs.Alarms.{has_key, among_cases, among_last, once_last, once_pushed}
 
 abbrev id_of : ℕ → ℕ → NodeId
 id_of s g = record { slot = s; gen_ = g }
@@ -124,6 +125,27 @@ free_row c n free = go (row_at c.rows n.gen_) refl
         let none : watched c node ≡ None = free node refl in
         let some : watched c node ≡ Some (watch_def x) = ap (λ o. and_then o (own node)) e ∙ is_own node x refl in
         absurd (let e' = sym none ∙ some in cc)
+
+-- an alarm that leaves its slot is that of a node that may come to show another value
+pub may_yet_turn : (c : Clock) (w : Wheel) (to : ℤ) → IsAwake c.rows w [] → c.time ≡ w.time → OneLeaves w to → MayYetTurn c
+may_yet_turn c w to awake same h =
+    there (row_at c.rows a.key) refl (awake.kept a.key (has_key w.alarms a a.key h.1 refl))
+  where
+    a : Alarm
+    a = h.0
+
+    there : (o : Option Watch) → row_at c.rows a.key ≡ o → IsSome o → MayYetTurn c
+    there None is some = absurd (let e = some in cc)
+    there (Some x) is some =
+        let node = id_of (watch_slot x) a.key in
+        record {
+          node = node;
+          def = watch_def x;
+          is = ap (λ o. and_then o (own node)) is ∙ is_own node x refl;
+          time = a.deadline;
+          later = subst (λ t. t <ℤ a.deadline) (sym same) h.2.ahead;
+          turns = awake.turns a x h.1 is;
+        }
 
 module _ (c : Clock) (before time : ℤ) where
   stale_in : (n : NodeId) → IsStale c before time n → IsStaleIn c.rows before time n

@@ -1,9 +1,9 @@
 -- What a contract sees of a clock.
-use Rattle.std.specs.Prelude.{◌≡◌, ◌≢◌, ◌==◌, ◌++◌, ℕ, ℤ, if◌then◌else◌, nat_eq, List, Option, None, Some}
+use Rattle.std.specs.Prelude.{◌≡◌, ◌≢◌, ◌==◌, ◌++◌, ◌<ℤ◌, ℕ, ℤ, if◌then◌else◌, nat_eq, List, Option, None, Some}
 use Rattle.std.specs.Map.{lookup}
 use Rattle.inc_value.specs.Choice.{Among, NoRepeats, and_then}
 use Rattle.inc_value.specs.declared.node.NodeId.{NodeId}
-use Rattle.inc_terms.specs.Clock.{clock_value}
+use Rattle.inc_terms.specs.Clock.{clock_value, MayTurn}
 use Rattle.inc_terms.specs.Graph.{Def}
 use Rattle.clock_nodes.specs.Kinds.{watch_def, watch_slot}
 use Rattle.clock_nodes.specs.declared.watch.Watch.{Watch}
@@ -55,3 +55,12 @@ pub record ListsStale (c : Clock) (before time : ℤ) (old new : List NodeId) : 
   pub once : NoRepeats nodes
   pub are : (n : NodeId) → Among n nodes → IsStale c before time n
   pub all : (n : NodeId) → IsStale c before time n → Among n nodes
+
+-- a watched node may come to show another value at a later time than the present one
+pub record MayYetTurn (c : Clock) : Type 0 where
+  pub node : NodeId
+  pub def : Def
+  pub is : watched c node ≡ Some def
+  pub time : ℤ
+  pub later : c.time <ℤ time
+  pub turns : MayTurn def time

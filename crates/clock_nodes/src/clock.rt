@@ -6,7 +6,7 @@ ghost use Rattle.inc_value.specs.Value.{type_of};
 ghost use Rattle.inc_value.specs.declared.node.NodeId.{NodeId};
 ghost use Rattle.inc_value.specs.declared.ty.Ty.TheVariants as ty;
 ghost use Rattle.inc_value.specs.declared.value.Value.{Value as AValue};
-ghost use Rattle.clock_nodes.specs.Clock.{watched, IsFree, KeepsWatched, ListsStale, Watches};
+ghost use Rattle.clock_nodes.specs.Clock.{watched, IsFree, KeepsWatched, ListsStale, MayYetTurn, Watches};
 
 use crate::generations::Generations;
 use crate::settle::{arm, disarm, make_room, settle_due};
@@ -142,9 +142,11 @@ impl Clock {
 
     /// Moves the time on, or leaves it where it is. Just the watched nodes that show another value then than now are put
     /// behind those of a list, each once, in no promised order. Fails only where the time is before the present one, or
-    /// there is no memory for the list, and then nothing changes.
+    /// there is no memory for the list, and then nothing changes. Memory is needed only where a watched node may
+    /// come to show another value after the present time.
     pub fn advance(&mut self, to: i64, stale: &mut Vec<NodeId>) -> Result<(), AdvanceFault>
         ensures back { IsErrOf result AdvanceFault.Back ↔ (to <ℤ self.old.time) }
+        ensures memory { IsErrOf result AdvanceFault.Memory → MayYetTurn self.old }
         ensures time { OnOk result (self.new.time ≡ to) }
         ensures watched { KeepsWatched self.old self.new }
         ensures stale { OnOk result (ListsStale self.old self.old.time to stale.old.items stale.new.items) }

@@ -1,6 +1,6 @@
 //! Alarms, which are set for a node, taken off with it, and set anew once they were due.
-ghost use Rattle.std.specs.Prelude.{◌≡◌, ◌+◌, ◌<◌, ◌≤◌, ◌≤ℤ◌, ◌<ℤ◌, IfSome, IfNone, IsOk, OnOk, OnErr, ◌++◌, ◌∷◌, [], ℕ, pos, length, IsTrue, IsFalse, vec_len, vec_capacity};
-ghost use Rattle.timing_wheel.specs.Alarms.{by_deadline, but, due_by, keys_of, IsPending};
+ghost use Rattle.std.specs.Prelude.{◌≡◌, ◌+◌, ◌<◌, ◌≤◌, ◌≤ℤ◌, ◌<ℤ◌, IfSome, IfNone, IsOk, IsErr, OnOk, OnErr, ◌++◌, ◌∷◌, [], ℕ, pos, length, IsTrue, IsFalse, vec_len, vec_capacity};
+ghost use Rattle.timing_wheel.specs.Alarms.{by_deadline, but, due_by, keys_of, OneLeaves, IsPending};
 ghost use Rattle.clock_nodes.specs.Keeping.{IsAwake, TellsOne, TellsDue, WereTimed};
 
 use crate::generations::Generations;
@@ -51,10 +51,12 @@ fn settle_last(
     true
 }
 
-/// Makes room in a list for the nodes whose alarms are due by a time, where some may be.
+/// Makes room in a list for the nodes whose alarms are due by a time, where some may be. This takes memory only where an alarm
+/// leaves its slot.
 pub(crate) fn make_room(wheel: &Wheel, to: i64, list: &mut Vec<NodeId>) -> Result<(), AllocError>
     requires forward { wheel.now.time ≤ℤ to }
     ensures items { list.new.items ≡ list.old.items }
+    ensures memory { IsErr result → OneLeaves wheel.now to }
     ensures room { OnOk result (vec_len list.new + length (keys_of (due_by to wheel.now.alarms)) ≤ vec_capacity list.new) }
 {
     if wheel.is_quiet(to) {

@@ -1,14 +1,14 @@
-use Rattle.std.proofs.Common.{arith, rules, ◌≡◌, ◌∙◌, ◌≤◌, ◌+◌, ◌≤ℤ◌, ℕ, ℤ, pos, List, [], ◌++◌, length, sym, ap, subst, FitsSigned, to_z, of_z, w64}
+use Rattle.std.proofs.Common.{arith, rules, ◌≡◌, ◌∙◌, ◌≤◌, ◌+◌, ◌≤ℤ◌, ℕ, ℤ, pos, List, [], ◌++◌, length, refl, sym, ap, subst, FitsSigned, to_z, of_z, w64}
 use Rattle.std.proofs.lemmas.Int.{ints}
 use Rattle.inc_value.specs.declared.node.NodeId.{NodeId}
 use Rattle.inc_terms.specs.Clock.{IsTimed}
 use Rattle.timing_wheel.specs.Alarms.{due_by, keys_of}
-use Rattle.clock_nodes.specs.Clock.{Clock, ListsStale}
+use Rattle.clock_nodes.specs.Clock.{Clock, ListsStale, MayYetTurn}
 use Rattle.clock_nodes.specs.Kinds.{watch_def}
 use Rattle.clock_nodes.specs.Keeping.{IsAwake, TellsDue}
 use Rattle.clock_nodes.proofs.Alarms.{among_or_not}
 use Rattle.clock_nodes.proofs.Awake.{moved, value_same}
-use Rattle.clock_nodes.proofs.Stale.{lists_stale}
+use Rattle.clock_nodes.proofs.Stale.{lists_stale, may_yet_turn}
 use Rattle.clock_nodes.proofs.clock.Clock.advance.Goals as goal
 
 pub invariant_of-self-in-Err-advance : goal.invariant_of-self-in-Err-advance
@@ -71,3 +71,17 @@ returns-in-Ok-advance-clause-stale c =
     (λ k. among_or_not k (keys_of (due_by to w.alarms))) in
     let end : to ≡ c.args.to = omega (arith, ints, c.ranges.to) in
     subst (λ (z : Clock). ListsStale z z.time c.args.to old new) c.self.view_is (subst (λ t. ListsStale clock w.time t old new) end lists)
+
+pub returns-in-Err-clause-memory : goal.returns-in-Err-clause-memory
+returns-in-Err-clause-memory c = λ _.
+    let w = c.self.inside.wheel in
+    let clock : Clock = record { time = w.time; rows = c.self.inside.rows.entries } in
+    subst MayYetTurn c.self.view_is
+    (may_yet_turn clock w (to_z w64 (of_z w64 c.args.to)) c.self.invariant.0 refl (c.in-Err.ensures.memory refl))
+
+pub returns-in-Err-advance-clause-memory : goal.returns-in-Err-advance-clause-memory
+returns-in-Err-advance-clause-memory c = λ _.
+    let w = c.self.inside.wheel in
+    let clock : Clock = record { time = w.time; rows = c.self.inside.rows.entries } in
+    subst MayYetTurn c.self.view_is
+    (may_yet_turn clock w (to_z w64 (of_z w64 c.args.to)) c.self.invariant.0 refl (c.in-Err-advance.ensures.memory refl))
