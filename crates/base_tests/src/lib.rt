@@ -14,6 +14,8 @@ mod needed_graph;
 #[cfg(test)]
 mod nested_scopes;
 #[cfg(test)]
+mod observing;
+#[cfg(test)]
 mod point_maps;
 #[cfg(test)]
 mod rows_of_lists;
