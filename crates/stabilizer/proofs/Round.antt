@@ -16,3 +16,4 @@ pub mod LeftBy
 pub mod BuiltFor
 pub mod Alive
 pub mod Ended
+pub mod Telling

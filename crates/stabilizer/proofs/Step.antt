@@ -9,3 +9,5 @@ pub mod MeaningKept
 pub mod StillFit
 pub mod Giving
 pub mod Staying
+pub mod Showing
+pub mod Noting

@@ -17,6 +17,8 @@ use Rattle.node_outcomes.specs.Computing.{seen}
 use Rattle.node_outcomes.specs.Lacking.{NodeLacksRoom}
 use Rattle.node_outcomes.specs.Meaning.{Meaning}
 use Rattle.node_outcomes.specs.Row.{outcome_in}
+use Rattle.observers.specs.Observers.{AllLight}
+use Rattle.observers.specs.declared.observer.Observer.{Observer}
 use Rattle.stabilize_round.specs.Counts.{last_count}
 use Rattle.wiring.specs.Stands.{Counts}
 use Rattle.wiring.specs.Turning.{IsAttached, IsWaiting}
@@ -24,6 +26,7 @@ use Rattle.wiring.specs.Wiring.{PutsRoots, WaitsFor}
 use Rattle.wiring.specs.declared.work.Work.{Work}
 use Rattle.stabilizer.specs.Rebuilding.{IsSeenOf, IsToBuild}
 use Rattle.stabilizer.specs.Round.{Settles}
+use Rattle.stabilizer.specs.Telling.{shows_of}
 use Rattle.stabilizer.specs.declared.parts.Parts.{Parts}
 
 -- why computing a main found no memory: a function found none, and was counted, or the node lacks room
@@ -73,9 +76,24 @@ pub record SettleLacks (M : Meaning) (old : Parts) (before : Counts) (wants want
   pub settles : Settles M old left before counts
   pub lacks : StepLacks left wants wants'
 
--- why a round was refused: it has the last number, it puts roots on, or one of its steps was refused
-pub data RoundLacks (M : Meaning) (old : Parts) (nodes : List NodeId) (before : Counts) (wants wants' : ℕ) : Type 0 where
-  of_number : last_count ≤ old.work.round → RoundLacks M old nodes before wants wants'
-  of_roots : nodes ≢ [] → RoundLacks M old nodes before wants wants'
+-- all steps were made, in which no function found no memory, and telling these observers needs memory: one of them shows or is told of a text
+pub record TellingLacks (M : Meaning) (old : Parts) (made : List Observer) (before : Counts) (wants wants' : ℕ) : Type 0 where
+  pub left : Parts
+  pub counts : Counts
+  pub settles : Settles M old left before counts
+  pub unwanted : wants' ≡ wants
+  pub heavy : ¬ AllLight (shows_of left) made
+
+-- why steps and what is told behind them were refused: one of the steps was, or telling observers
+pub data SettleOrTellLacks (M : Meaning) (old : Parts) (made : List Observer) (before : Counts) (wants wants' : ℕ) : Type 0 where
+  in_step : SettleLacks M old before wants wants' → SettleOrTellLacks M old made before wants wants'
+  in_telling : TellingLacks M old made before wants wants' → SettleOrTellLacks M old made before wants wants'
+
+-- why a round was refused that tells these observers: it has the last number, it puts roots on, one of its steps was refused, or telling was
+pub data RoundLacks (M : Meaning) (old : Parts) (nodes : List NodeId) (made : List Observer) (before : Counts) (wants wants' : ℕ) : Type 0 where
+  of_number : last_count ≤ old.work.round → RoundLacks M old nodes made before wants wants'
+  of_roots : nodes ≢ [] → RoundLacks M old nodes made before wants wants'
   of_step : {rooted : Work} → PutsRoots old.arena old.work rooted → SettleLacks M (record old { work = rooted }) before wants wants'
-      → RoundLacks M old nodes before wants wants'
+      → RoundLacks M old nodes made before wants wants'
+  of_telling : {rooted : Work} → PutsRoots old.arena old.work rooted → TellingLacks M (record old { work = rooted }) made before wants wants'
+      → RoundLacks M old nodes made before wants wants'

@@ -16,3 +16,4 @@ pub mod Rooted
 pub mod Staying
 pub mod Ended
 pub mod Clock
+pub mod Telling

@@ -151,6 +151,12 @@ Steps M old new before after =
     (z : Start) (s : State) → IsRoundOf M z s → Quiet s → MatchesState old.arena old.work before None s
     → (t : State) × Step M.functions z s t × MatchesState new.arena new.work after None t
 
+-- so it is of a step that takes the point
+abbrev pub StepsAt : Meaning → Parts → Parts → Counts → Counts → Point → Type 0
+StepsAt M old new before after p =
+    (z : Start) (s : State) → IsRoundOf M z s → Quiet s → MatchesState old.arena old.work before None s
+    → (t : State) × (k : Step M.functions z s t) × MatchesState new.arena new.work after None t × (k.point ≡ p)
+
 -- the function of a least point was due, and some of the calls were made that it takes
 pub record HasCalledDue (s : State) (before after : Counts) : Type 0 where
   pub node : NodeId
@@ -215,9 +221,9 @@ StepFalls M old new before =
 
 -- ---- what a step says
 
--- a point was settled, as a step of the round; so less is left
-pub record StepIsMade (M : Meaning) (old new : Parts) (before after : Counts) : Type 0 where
-  pub stepped : Steps M old new before after
+-- the point was taken and settled, as a step of the round; so less is left
+pub record StepIsMade (M : Meaning) (old new : Parts) (before after : Counts) (p : Point) : Type 0 where
+  pub stepped : StepsAt M old new before after p
   pub settled : SettlesLeast M old new before after
   pub falls : StepFalls M old new before
   pub more : ¬ IsEmpty old.work.graph.heap

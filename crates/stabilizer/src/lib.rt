@@ -3,6 +3,7 @@
 
 mod build;
 mod kill;
+mod news;
 mod parts;
 mod rebuild;
 mod stabilizer;

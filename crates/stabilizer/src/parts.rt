@@ -30,6 +30,7 @@ use inc_value::{NodeId, Outcome, Point, Ty, Value};
 use map_nodes::Cutoff;
 use node_arena::{AddFault, Arena, Row, SetFault};
 use node_outcomes::set_cutoff;
+use observers::Sight;
 use point_map::PointMap;
 use scopes::Scopes;
 use std::alloc::{AllocError, Global};
@@ -340,5 +341,15 @@ fn forget_root(roots: &mut PointMap<NodeId>, p: Point)
 {
     if roots.holds(p) {
         let _root = roots.remove(p);
+    }
+}
+
+impl Sight for Parts {
+    ghost use Rattle.stabilizer.specs.Telling.{shows_of};
+
+    ghost shows = { shows_of };
+
+    fn outcome_of(&self, node: NodeId) -> Option<&Outcome> {
+        self.outcome(node)
     }
 }

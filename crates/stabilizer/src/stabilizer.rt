@@ -1,6 +1,6 @@
 //! Steps and rounds.
 ghost use Rattle.std.specs.Prelude.{◌≡◌, ◌≢◌, List, [], None, Some, map, All, true};
-ghost use Rattle.std.specs.Prelude.{IfOk, OnOk, OnErr, IfErr, IfSome, IsTrue, IsFalse};
+ghost use Rattle.std.specs.Prelude.{IfOk, OnOk, OnErr, IfErr, IfSome, IfNone};
 ghost use Rattle.inc_value.specs.declared.function.FnRef.{FnRef as AFunction};
 ghost use Rattle.inc_value.specs.declared.node.NodeId.{NodeId};
 ghost use Rattle.inc_value.specs.declared.node.Point.{Point as APoint};
@@ -14,10 +14,11 @@ ghost use Rattle.necessary_graph.specs.Part.{IsInStep};
 ghost use Rattle.node_arena.specs.Arena.{row_at};
 ghost use Rattle.node_outcomes.specs.Meaning.{functions_of, meaning_of};
 ghost use Rattle.node_outcomes.specs.Row.{settled_in, outcome_in};
+ghost use Rattle.observers.specs.Observers.{AllLight, notices_of, told_by};
 ghost use Rattle.wiring.specs.Kept.{IsKept};
 ghost use Rattle.wiring.specs.Wiring.{PutsRoots, RootRefused, WaitsFor};
 ghost use Rattle.stabilizer.specs.Kept.{PartsKept, KeepsMeaning, StaysFlat, WantsTell, counts_by};
-ghost use Rattle.stabilizer.specs.Lacking.{MainLacks, ChangeLacks, StepLacks, SettleLacks, RoundLacks};
+ghost use Rattle.stabilizer.specs.Lacking.{MainLacks, ChangeLacks, StepLacks, SettleLacks, SettleOrTellLacks, RoundLacks};
 ghost use Rattle.stabilizer.specs.Rebuilding.{BuildRefused};
 ghost use Rattle.stabilizer.specs.Round.{IsReady};
 ghost use Rattle.stabilizer.specs.Round.{IsInRound, RootsMore, OnlyRoots, Settles, SettleRefused};
@@ -26,14 +27,17 @@ ghost use Rattle.stabilizer.specs.Stepping.{MainIsSettled, MainIsLeft, IsUnbuilt
 ghost use Rattle.stabilizer.specs.Stepping.{StepIsMade, NoneIsLeft, StepIsRefused};
 ghost use Rattle.stabilizer.specs.Giving.{GivesLive, GivesFew, StopsFull};
 ghost use Rattle.stabilizer.specs.Staying.{MayStep, ChangeIsTaken, RoundStays};
+ghost use Rattle.stabilizer.specs.Telling.{AreCurrent, HasOpened, LookAtGiven, NoneIsSettled, SettledAreNews, ShowAsSeen, shows_of};
 ghost use Rattle.stabilizer.specs.Weights.{SidesFit};
 
 use crate::build::Recipe;
+use crate::news::News;
 use crate::parts::Parts;
 use inc_terms::Def;
 use inc_value::{NodeId, Outcome, Part, Point};
 use node_arena::{Arena, Functions};
 use node_outcomes::{Progress, compute, ran_with, shown};
+use observers::Observers;
 use point_map::PointMap;
 use std::alloc::{AllocError, Global};
 use std::mem;
@@ -43,13 +47,16 @@ use wiring::{Refused, Work};
 pub struct Stabilizer;
 
 impl Stabilizer {
-    /// Takes a point of least height from the heap, any one of them, and settles it. False where the heap is empty.
-    pub fn step<F: Functions>(parts: &mut Parts, functions: &mut F) -> Result<bool, Refused>
+    /// Takes a point of least height from the heap, any one of them, and settles it. None where the heap is empty.
+    pub fn step<F: Functions>(
+        parts: &mut Parts,
+        functions: &mut F,
+    ) -> Result<Option<Point>, Refused>
         requires { MayStep F.Functions functions.old parts.old }
-        ensures made { IfOk result (λ more. IsTrue more → StepIsMade (meaning_of F.Functions functions.old) parts.old parts.new
-            (counts_by F.Functions functions.old) (counts_by F.Functions functions.new)) }
-        ensures ended { IfOk result (λ more. IsFalse more → NoneIsLeft parts.old parts.new
-            (counts_by F.Functions functions.old) (counts_by F.Functions functions.new)) }
+        ensures made { IfOk result (λ taken. IfSome taken (StepIsMade (meaning_of F.Functions functions.old) parts.old parts.new
+            (counts_by F.Functions functions.old) (counts_by F.Functions functions.new))) }
+        ensures ended { IfOk result (λ taken. IfNone taken (NoneIsLeft parts.old parts.new
+            (counts_by F.Functions functions.old) (counts_by F.Functions functions.new))) }
         ensures refused { IfErr result (StepIsRefused (meaning_of F.Functions functions.old) (F.right functions.new) parts.old parts.new
             (counts_by F.Functions functions.old) (counts_by F.Functions functions.new)) }
         ensures quiet { OnOk result (parts.new.work.todo.items ≡ []) }
@@ -58,15 +65,15 @@ impl Stabilizer {
         ensures lacks { OnErr result (StepLacks parts.old (F.wants functions.old) (F.wants functions.new)) }
     {
         let Some(p) = parts.work.graph.pop_least() else {
-            return Ok(false);
+            return Ok(None);
         };
         match p.part {
             Part::Change => {
                 step_change(parts, functions, p.node)?;
-                Ok(true)
+                Ok(Some(p))
             }
             Part::Main => match step_main(parts, functions, p.node) {
-                Ok(()) => Ok(true),
+                Ok(()) => Ok(Some(p)),
                 Err(refused) => {
                     parts.work.graph.insert(p);
                     Err(refused)
@@ -75,28 +82,35 @@ impl Stabilizer {
         }
     }
 
-    /// A round: puts roots on at these nodes, and brings all that is needed up to date.
+    /// A round: puts roots on at these nodes, brings all that is needed up to date, and tells observers of it. No time goes
+    /// into observers of nodes that weren't settled and didn't die.
     pub fn run<F: Functions>(
         parts: &mut Parts,
         functions: &mut F,
         roots: &[NodeId],
+        observers: &mut Observers,
     ) -> Result<(), Refused>
         requires ready { IsReady (meaning_of F.Functions functions.old) parts.old }
         requires sound { F.is_sound functions.old }
         requires fit { SidesFit (F.known functions.old) (F.right functions.old) parts.old.arena }
         requires given { All (Given parts.old.arena.given) roots.now }
+        requires looks { LookAtGiven parts.old observers.old.made }
+        requires shown { ShowAsSeen parts.old observers.old.made }
         ensures ended { OnOk result (RoundEnds F.Functions functions.old functions.new parts.old parts.new roots.now) }
         ensures refused { IfErr result (RoundStops F.Functions functions.old functions.new parts.old parts.new roots.now) }
         ensures leaves { RoundLeaves F.Functions functions.old functions.new parts.old parts.new }
+        ensures told { OnOk result (observers.new.made ≡ told_by (shows_of parts.new) observers.old.made) }
+        ensures notices { OnOk result (observers.new.notices ≡ notices_of (shows_of parts.new) 0 observers.old.made) }
+        ensures observers { OnErr result (observers.new ≡ observers.old) }
         ensures wants { WantsTell result (F.wants functions.old) (F.wants functions.new) }
         ensures lacks { OnErr result (RoundLacks (meaning_of F.Functions functions.old) parts.old roots.now
-            (counts_by F.Functions functions.old) (F.wants functions.old) (F.wants functions.new)) }
+            observers.old.made (counts_by F.Functions functions.old) (F.wants functions.old) (F.wants functions.new)) }
     {
         let Some(next) = parts.work.round.checked_add(1) else {
             return Err(Refused::Memory);
         };
         put_roots(&mut parts.work, &parts.arena, roots)?;
-        settle_all(parts, functions)?;
+        settle_and_tell(parts, functions, observers)?;
         mem::swap(&mut parts.ran, &mut parts.work.ran);
         parts.work.end_round(next);
         Ok(())
@@ -123,10 +137,16 @@ fn put_roots(work: &mut Work, arena: &Arena, roots: &[NodeId]) -> Result<(), Ref
     Ok(())
 }
 
-/// Makes steps until the heap is empty.
-fn settle_all<F: Functions>(parts: &mut Parts, functions: &mut F) -> Result<(), Refused>
+/// Makes steps until the heap is empty, and tells observers what their nodes then show.
+fn settle_and_tell<F: Functions>(
+    parts: &mut Parts,
+    functions: &mut F,
+    observers: &mut Observers,
+) -> Result<(), Refused>
     requires may { MayStep F.Functions functions.old parts.old }
     requires in_round { IsInRound (meaning_of F.Functions functions.old) parts.old (counts_by F.Functions functions.old) }
+    requires opened { HasOpened (meaning_of F.Functions functions.old) parts.old (counts_by F.Functions functions.old)
+        observers.old.made }
     ensures settled { OnOk result (Settles (meaning_of F.Functions functions.old) parts.old parts.new
         (counts_by F.Functions functions.old) (counts_by F.Functions functions.new)) }
     ensures empty { OnOk result (IsEmpty parts.new.work.graph.heap) }
@@ -139,10 +159,72 @@ fn settle_all<F: Functions>(parts: &mut Parts, functions: &mut F) -> Result<(), 
     ensures quiet { OnOk result (parts.new.work.todo.items ≡ []) }
     ensures stays { RoundStays F.Functions functions.old functions.new parts.old parts.new }
     ensures wants { WantsTell result (F.wants functions.old) (F.wants functions.new) }
+    ensures told { OnOk result (observers.new.made ≡ told_by (shows_of parts.new) observers.old.made) }
+    ensures notices { OnOk result (observers.new.notices ≡ notices_of (shows_of parts.new) 0 observers.old.made) }
+    ensures observers { OnErr result (observers.new ≡ observers.old) }
+    ensures lacks { OnErr result (SettleOrTellLacks (meaning_of F.Functions functions.old) parts.old observers.old.made
+        (counts_by F.Functions functions.old) (F.wants functions.old) (F.wants functions.new)) }
+{
+    let mut news = News::new(observers.news_room());
+    match settle_all(parts, functions, &mut news) {
+        Ok(()) => {
+            news.add_dead(&parts.work.deaths);
+            match tell(parts, news, observers) {
+                Ok(()) => Ok(()),
+                Err(AllocError) => Err(Refused::Memory),
+            }
+        }
+        Err(refused) => Err(refused),
+    }
+}
+
+/// Tells observers what their nodes show, where one of a node that isn't news shows it already. Only a text that is shown
+/// or told needs memory.
+fn tell(parts: &Parts, news: News, observers: &mut Observers) -> Result<(), AllocError>
+    requires current { AreCurrent parts.now news observers.old.made }
+    ensures told { OnOk result (observers.new.made ≡ told_by (shows_of parts.now) observers.old.made) }
+    ensures notices { OnOk result (observers.new.notices ≡ notices_of (shows_of parts.now) 0 observers.old.made) }
+    ensures heavy { OnErr result (¬ AllLight (shows_of parts.now) observers.old.made) }
+    ensures err { OnErr result (observers.new ≡ observers.old) }
+{
+    let News { nodes, all } = news;
+    let told = if all {
+        observers.tell_all(parts)
+    } else {
+        observers.tell(parts, &nodes)
+    };
+    observers.keep_room(nodes);
+    told
+}
+
+/// Makes steps until the heap is empty. Nodes whose mains are settled become news.
+fn settle_all<F: Functions>(
+    parts: &mut Parts,
+    functions: &mut F,
+    news: &mut News,
+) -> Result<(), Refused>
+    requires may { MayStep F.Functions functions.old parts.old }
+    requires fresh { NoneIsSettled parts.old.work }
+    requires in_round { IsInRound (meaning_of F.Functions functions.old) parts.old (counts_by F.Functions functions.old) }
+    ensures settled { OnOk result (Settles (meaning_of F.Functions functions.old) parts.old parts.new
+        (counts_by F.Functions functions.old) (counts_by F.Functions functions.new)) }
+    ensures empty { OnOk result (IsEmpty parts.new.work.graph.heap) }
+    ensures refused { IfErr result (SettleRefused (meaning_of F.Functions functions.old) parts.old parts.new
+        (counts_by F.Functions functions.old) (counts_by F.Functions functions.new)) }
+    ensures gives { OnOk result (GivesLive parts.old.arena.given 0 parts.new.arena) }
+    ensures spends { OnErr result (GivesFew (F.right functions.new) parts.old.arena.given parts.new.arena) }
+    ensures full { IfErr result (StopsFull (F.right functions.new) parts.new.arena
+        (counts_by F.Functions functions.old) (counts_by F.Functions functions.new)) }
+    ensures news { OnOk result (SettledAreNews parts.new.work news.new) }
+    ensures quiet { OnOk result (parts.new.work.todo.items ≡ []) }
+    ensures stays { RoundStays F.Functions functions.old functions.new parts.old parts.new }
+    ensures wants { WantsTell result (F.wants functions.old) (F.wants functions.new) }
     ensures lacks { OnErr result (SettleLacks (meaning_of F.Functions functions.old) parts.old
         (counts_by F.Functions functions.old) (F.wants functions.old) (F.wants functions.new)) }
 {
-    while Stabilizer::step(parts, functions)? {}
+    while let Some(p) = Stabilizer::step(parts, functions)? {
+        news.add(p.node);
+    }
     Ok(())
 }
 

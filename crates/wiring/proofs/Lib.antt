@@ -35,3 +35,4 @@ pub mod Unlinked
 pub mod Releasing
 pub mod Forgetting
 pub mod Gathering
+pub mod Unsettling

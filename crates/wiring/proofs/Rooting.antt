@@ -19,7 +19,7 @@ use Rattle.stabilize_round.specs.Wire.{rooted, newly, IsIt}
 use Rattle.stabilize_round.proofs.Steps.{wiring_moves, joined, wired_moves}
 use Rattle.stabilize_round.proofs.Points.{same_or_other, at_same, at_other}
 use Rattle.wiring.specs.Stands.{MatchesState, StandsWith, Counts}
-use Rattle.wiring.specs.Wiring.{IsNewlyNeeded, AreUnlinked, ShowsSame, IsLevelled, IsTarget, Wires, WireRefused, PutsRoots, RootRefused}
+use Rattle.wiring.specs.Wiring.{IsNewlyNeeded, AreUnlinked, SettlesNone, ShowsSame, IsLevelled, IsTarget, Wires, WireRefused, PutsRoots, RootRefused}
 use Rattle.wiring.specs.declared.work.Work.{Work}
 use Rattle.wiring.proofs.Linking.{enqueues, woken_stands, unneeded}
 use Rattle.inc_terms.specs.Graph.{Graph}
@@ -35,6 +35,7 @@ use Rattle.wiring.proofs.Deciding.{same_need}
 use Rattle.wiring.proofs.Staying.{most_same, most_stands, looks_stands}
 use Rattle.wiring.proofs.Trying.{IsGrown, grown, grown_kept, target_row}
 use Rattle.wiring.proofs.Unlinked.{empty_unlinked}
+use Rattle.wiring.proofs.Unsettling.{all_wire, wired_none}
 
 -- one root more is one root more in the state
 pub roots_more : (root : Point → ℕ) (old new : Roots) (p : Point) → ((a : Point) → root a ≡ root_times old a) → OneRootMore old new p
@@ -66,7 +67,7 @@ module _ (F : Functions) (z : Start) (s : State) (arena : Arena) (old : Work) (g
   })
 
   pub rooted_stands : Needed old.graph p → AreUnlinked None s
-      → (t : State) × Moves F z s t × MatchesState arena (record old { graph = g }) counts None t × AreUnlinked None t
+      → (t : State) × Moves F z s t × MatchesState arena (record old { graph = g }) counts None t × AreUnlinked None t × SettlesNone s t
   rooted_stands there unlinked = (
     rooted s p,
     step (move.root ((st.needed p).1 there) refl) here,
@@ -78,6 +79,7 @@ module _ (F : Functions) (z : Start) (s : State) (arena : Arena) (old : Work) (g
       ],
     )),
     unlinked,
+    λ q. refl,
   )
 
   module _ (new : Work) (given : Given arena.given p.node) (fresh : Needed old.graph p → ⊥) (w : IsNewlyNeeded (record old { graph = g }) new p)
@@ -85,14 +87,19 @@ module _ (F : Functions) (z : Start) (s : State) (arena : Arena) (old : Work) (g
     now : (a : Point) → Needed new.graph a ↔ (Needed old.graph a ⊎ (a ≡ p))
     now a = (λ n. (also a).0 ((woken_needs a).0 n), λ h. (woken_needs a).1 ((also a).1 h))
 
-    pub rooted_new_stands : AreUnlinked None s → (t : State) × Moves F z s t × MatchesState arena new counts None t × AreUnlinked None t
+    pub rooted_new_stands : AreUnlinked None s → (t : State) × Moves F z s t × MatchesState arena new counts None t × AreUnlinked None t × SettlesNone s t
     rooted_new_stands unlinked =
         let base = rooted_with (Needed old.graph) st.needed in
         let e = enqueues F z (rooted s p) arena (record old { graph = g }) new counts None p (Needed old.graph) base fresh now (high p) refl w same in
         let u = unneeded F z (rooted s p) arena (record old { graph = g }) new counts None p (Needed old.graph) base fresh now (high p) refl w same in
         let on = woken_stands F z (rooted s p) arena (record old { graph = g }) new counts None p (Needed old.graph) base fresh now (high p) refl w same unlinked in
-        let h : Enqueues s s.heap (λ a. is_some (at new.graph.heap a)) (IsIt s p) (IsIt s p) = record { kept = e.kept; new = e.new; told = e.told } in
-        (on.0, step (move.root_new (rw st.given given) u h refl) (wiring_moves F z (newly (rooted s p) p (λ a. is_some (at new.graph.heap a))) on.0 on.1), on.2, on.3)
+        let h : Enqueues s s.heap (λ a. is_some (at new.graph.heap a)) (IsIt s p) (IsIt s p) = record { kept = e.kept; new = e.new; told = e.told } in (
+          on.0,
+          step (move.root_new (rw st.given given) u h refl) (wiring_moves F z (newly (rooted s p) p (λ a. is_some (at new.graph.heap a))) on.0 on.1),
+          on.2,
+          on.3,
+          all_wire F z (newly (rooted s p) p (λ a. is_some (at new.graph.heap a))) on.0 on.1,
+        )
 
 -- an answer that succeeds has what holds anyhow
 pub on_ok : {A E P : Type 0} (r : Result A E) → P → OnOk r P
@@ -139,7 +146,7 @@ module _ (old mid new : Work) (g : NecessaryPart) (p : Point) (newly : Bool) (lo
 
   root_follows_low : (arena : Arena) → IsKept arena old → IsTarget arena old p → (F : Functions) (z : Start) (s : State) (counts : Counts)
       → MatchesState arena mid counts None s → ((a : Point) → s.height a ≡ level mid.graph.heights a) → AreUnlinked None s
-      → (t : State) × Moves F z s t × MatchesState arena new counts None t × AreUnlinked None t
+      → (t : State) × Moves F z s t × MatchesState arena new counts None t × AreUnlinked None t × SettlesNone s t
   root_follows_low arena kept target F z s counts at_mid high unlinked =
       let row : is_some (at mid.rows p) ≡ is_some (s.graph.row p.node) =
       ap is_some (looks.rows p) ∙ (target_row arena old p kept target ∙ sym (ap (λ (G : Graph). is_some (G.row p.node)) at_mid.graph)) in
@@ -147,7 +154,7 @@ module _ (old mid new : Work) (g : NecessaryPart) (p : Point) (newly : Bool) (lo
         | inl t ↦ rooted_new_stands F z s arena mid g counts p at_mid also more links heights heap high new target.given (fresh t) (woken t)
             (same_need g new.graph (λ a. ap (λ (r : Roots). root_times r a) (woken t).graph.roots)
             (λ a b. ap (λ (l : Links). times l a b) (woken t).graph.links)) row unlinked
-        | inr f ↦ subst (λ (x : Work). (t : State) × Moves F z s t × MatchesState arena x counts None t × AreUnlinked None t) (sym (same f))
+        | inr f ↦ subst (λ (x : Work). (t : State) × Moves F z s t × MatchesState arena x counts None t × AreUnlinked None t × SettlesNone s t) (sym (same f))
             (rooted_stands F z s arena mid g counts p at_mid also more links heights heap high (newly_is.0 f) unlinked)
       ]
 
@@ -161,6 +168,7 @@ module _ (old mid new : Work) (g : NecessaryPart) (p : Point) (newly : Bool) (lo
             (wiring_moves F z s levelled_state (low_wiring F z s arena mid mid counts None first as_it_is)) after.1,
         after.2,
         after.3,
+        after.4,
       )
 
   pub puts_root_on : ((a : Point) → a ≢ p → at mid.graph.heights a ≡ at old.graph.heights a) → IsInStep new.graph → PutsRootOn old new p
@@ -185,7 +193,7 @@ pub wires_then : (arena : Arena) (old new final : Work) → old.todo.items ≡ [
 wires_then arena old new final quiet first next F z s counts inv st =
     let a = first F z s counts st (empty_unlinked arena old counts s quiet st) in
     let b = next F z a.0 counts (moves_keep F z s a.0 a.1 inv) a.2 a.3 in
-    (b.0, joined (Move F z) s a.0 b.0 a.1 (wired_moves F z a.0 b.0 b.1), b.2)
+    (b.0, joined (Move F z) s a.0 b.0 a.1 (wired_moves F z a.0 b.0 b.1), b.2, λ q. wired_none F z a.0 b.0 b.1 q ∙ a.4 q)
 
 pub refused_then : (arena : Arena) (old new final : Work) (e : Refused) → old.todo.items ≡ [] → Follows arena old new → WireRefused arena new final None e
     → RootRefused arena old final e

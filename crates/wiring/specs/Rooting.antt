@@ -8,15 +8,15 @@ use Rattle.stabilize_round.specs.Machine.{Moves}
 use Rattle.stabilize_round.specs.State.{State, Start}
 use Rattle.wiring.specs.Kept.{IsKept}
 use Rattle.wiring.specs.Stands.{MatchesState, Counts}
-use Rattle.wiring.specs.Wiring.{AreUnlinked, IsTarget}
+use Rattle.wiring.specs.Wiring.{AreUnlinked, IsTarget, SettlesNone}
 use Rattle.wiring.specs.declared.work.Work.{Work}
 
 -- whatever the functions mean, moves lead from each state that the work stood for, in which points of the worklist have no links yet, to such a state
--- that it stands for then
+-- that it stands for then, and settle none
 abbrev pub Follows : Arena → Work → Work → Type 0
 Follows arena old new =
     (F : Functions) (z : Start) (s : State) (counts : Counts) → MatchesState arena old counts None s → AreUnlinked None s
-    → (t : State) × Moves F z s t × MatchesState arena new counts None t × AreUnlinked None t
+    → (t : State) × Moves F z s t × MatchesState arena new counts None t × AreUnlinked None t × SettlesNone s t
 
 -- a root came on at the point, which is in the worklist if it is newly needed
 pub record HasRootOn (arena : Arena) (old new : Work) (p : Point) : Type 0 where

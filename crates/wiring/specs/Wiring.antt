@@ -311,11 +311,15 @@ WireRefused arena old new held e =
     (F : Functions) (z : Start) (s : State) (counts : Counts) → Invariant F z s → MatchesState arena old counts held s → AreUnlinked held s
     → (t : State) × (left : Option PointInHand) × Wired F z s t × MatchesState arena new counts left t × TellsWhy F t new left e
 
--- roots were put on, and what is newly needed was given its links, or it was refused
+-- the same points are settled
+abbrev pub SettlesNone : State → State → Type 0
+SettlesNone s t = (q : Point) → t.settled q ≡ s.settled q
+
+-- roots were put on, and what is newly needed was given its links, or it was refused; no point is settled by it
 abbrev pub PutsRoots : Arena → Work → Work → Type 0
 PutsRoots arena old new =
     (F : Functions) (z : Start) (s : State) (counts : Counts) → Invariant F z s → MatchesState arena old counts None s
-    → (t : State) × Moves F z s t × MatchesState arena new counts None t
+    → (t : State) × Moves F z s t × MatchesState arena new counts None t × SettlesNone s t
 
 abbrev pub RootRefused : Arena → Work → Work → Refused → Type 0
 RootRefused arena old new e =

@@ -51,7 +51,7 @@ use Rattle.stabilizer.specs.Kept.{PartsKept}
 use Rattle.stabilizer.specs.Rebuilding.{IsToBuild}
 use Rattle.stabilizer.specs.Stepping as stepping
 use Rattle.stabilizer.specs.Stepping.{ChangeIsTurned, IsTurned, ChangeIsSettled, ChangeIsLeft, as_it_was, unbuilt, unattached, unwired}
-use Rattle.stabilizer.specs.Stepping.{Steps, StepRefused, StepStopsFull, wiring}
+use Rattle.stabilizer.specs.Stepping.{StepsAt, StepRefused, StepStopsFull, wiring}
 use Rattle.stabilizer.specs.declared.parts.Parts.{Parts}
 use Rattle.stabilizer.proofs.Step.Carrying.{taken_kept}
 use Rattle.stabilizer.proofs.Step.Falling.{wired_cases, SettlesChange, change_settled}
@@ -287,7 +287,9 @@ module _ (M : Meaning) (old : Parts) (g : NecessaryPart) (p : Point) (n : NodeId
         }
 
   -- so it is from each state that the parts stand for
-  pub change_steps : (new : Parts) (after : Counts) → ChangeIsSettled M popped new n before after → new.work.todo.items ≡ [] → Steps M old new before after
+  pub change_steps : (new : Parts) (after : Counts) → ChangeIsSettled M popped new n before after → new.work.todo.items ≡ []
+      → StepsAt M old new before after p
+  unfolding step_made
   change_steps new after k ends z s begun quiet st =
       let x = turns k.turned after z s begun quiet st k.turns in
       let u = k.attaches F z x.next after x.in_turn in
@@ -296,6 +298,7 @@ module _ (M : Meaning) (old : Parts) (g : NecessaryPart) (p : Point) (n : NodeId
         v.0,
         step_made k.turned after z s begun quiet st x k.attached new.work k.turned.arena k.full u.0 v.0 u.1 u.2 v.1 v.2 ends,
         subst (λ (a : Arena). MatchesState a new.work after None v.0) (sym (ap (λ (y : Parts). y.arena) k.rest)) v.2,
+        sym same,
       )
 
   -- ---- a step that is refused

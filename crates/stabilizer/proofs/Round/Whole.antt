@@ -10,6 +10,7 @@ use Rattle.necessity.specs.Need.{KeepsRoots}
 use Rattle.recompute_heap.specs.Agree.{IsEmpty}
 use Rattle.node_arena.specs.Graph.{AllCallFit}
 use Rattle.node_outcomes.specs.Meaning.{Meaning}
+use Rattle.observers.specs.declared.observer.Observer.{Observer}
 use Rattle.stabilize_round.specs.Calling.{costs_of}
 use Rattle.stabilize_round.specs.Counts.{RoseBy}
 use Rattle.stabilize_round.specs.Machine.{Move, Moves, as_it_is}
@@ -21,10 +22,12 @@ use Rattle.std.specs.Prelude.{is_some}
 use Rattle.wiring.specs.Graph.{graph_at}
 use Rattle.wiring.specs.Scoped.{IsReleased}
 use Rattle.wiring.specs.Stands.{MatchesState, Counts}
-use Rattle.wiring.specs.Wiring.{PutsRoots}
+use Rattle.wiring.specs.Wiring.{PutsRoots, SettlesNone}
+use Rattle.wiring.proofs.Sight.{sees}
 use Rattle.wiring.specs.declared.work.Work.{Work}
 use Rattle.stabilizer.specs.Kept.{PartsKept, graph_in}
 use Rattle.stabilizer.specs.Round.{IsReady, AreRooted, IsInRound, RootsMore, OnlyRoots, Settles, IsUpToDate, IsLeftBy, BuiltFew, BuildsAll, left_by}
+use Rattle.stabilizer.specs.Telling.{HasOpened, LookAtGiven, ShowAsSeen}
 use Rattle.stabilizer.specs.declared.parts.Parts.{Parts}
 use Rattle.stabilizer.proofs.Round.Began.{round_on}
 use Rattle.stabilizer.proofs.Round.Beginning.{Begun, BegunOf, begun_of}
@@ -32,6 +35,7 @@ use Rattle.stabilizer.proofs.Round.BuiltFor.{builds_by_parts}
 use Rattle.stabilizer.proofs.Round.Ending.{counted, died_same, ready_end, up_end}
 use Rattle.stabilizer.proofs.Round.LeftBy.{left_by_parts, few_by_parts}
 use Rattle.stabilizer.proofs.Round.Released.{is_next}
+use Rattle.stabilizer.proofs.Round.Telling.{among_used}
 use Rattle.stabilizer.proofs.Round.Stopped.{moves_build, stops_leave_over}
 
 -- the work of a round ended, and the next has the next number
@@ -61,13 +65,32 @@ module _ (M : Meaning) (old : Parts) (rooted : Work) (before : Counts) (ready : 
   abbrev middle : Parts
   middle = record old { work = rooted }
 
-  after_roots : (w : State) × Moves F first.start first.state w × MatchesState old.arena rooted before None w
+  after_roots : (w : State) × Moves F first.start first.state w × MatchesState old.arena rooted before None w × SettlesNone first.state w
   after_roots = put F first.start first.state before begins.round.holds first.stands
 
   pub in_round : IsInRound M middle before
   in_round =
       let w = after_roots in
       record { start = first.start; state = w.0; round = round_on M first.start first.state w.0 w.1 begins.round; stands = w.2 }
+
+  -- nothing was settled yet, and observers show what is seen
+  pub opened : (made : List Observer) → LookAtGiven old made → ShowAsSeen old made → HasOpened M middle before made
+  opened made looks shows =
+      let w = after_roots in
+      record {
+        start = first.start;
+        first = first.state;
+        state = w.0;
+        entry = first.entry;
+        moves = w.1;
+        round = round_on M first.start first.state w.0 w.1 begins.round;
+        stands = w.2;
+        unsettled = λ p. w.3 p ∙ first.entry.settled p;
+        showed = λ o x among used shown. (
+          (let g = looks o.node (among_used made o among used) in let e = first.stands.given in omega (arith, g, e)),
+          sees first.state old.arena old.work before ready.kept.work first.stands o.node ∙ shows o x among used shown,
+        );
+      }
 
   -- a round that ended
   module _ (settled : Parts) (after : Counts) (steps : Settles M middle settled before after) (kept : PartsKept settled)

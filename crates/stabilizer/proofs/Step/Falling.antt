@@ -15,7 +15,7 @@ use Rattle.stabilize_round.proofs.Falling as machine
 use Rattle.node_outcomes.specs.Meaning.{Meaning}
 use Rattle.wiring.specs.Kept.{IsKept}
 use Rattle.wiring.specs.Stands.{Counts}
-use Rattle.stabilizer.specs.Stepping.{Steps, StepFalls}
+use Rattle.stabilizer.specs.Stepping.{Steps, StepsAt, StepFalls}
 use Rattle.stabilizer.specs.declared.parts.Parts.{Parts}
 use Rattle.stabilizer.proofs.Step.Left.{less_left}
 
@@ -57,6 +57,10 @@ change_settled F z s t n (level m e) it = absurd it
 change_settled F z s t n (spend u k e) it = absurd it
 
 -- ---- steps end
+
+-- a step that takes a point is a step
+pub steps_at : (M : Meaning) (old new : Parts) (before after : Counts) (p : Point) → StepsAt M old new before after p → Steps M old new before after
+steps_at M old new before after p steps z s begun quiet st = let k = steps z s begun quiet st in (k.0, k.1, k.2)
 
 -- each step leaves less of the parts
 pub steps_leave_less : (M : Meaning) (old new : Parts) (before after : Counts) → IsKept old.arena old.work → IsKept new.arena new.work

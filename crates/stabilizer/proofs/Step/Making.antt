@@ -73,7 +73,7 @@ none_put arena old kept quiet = record {
   kept = kept;
   quiet = quiet;
   more = λ p. omega arith;
-  wired = λ F z s counts inv st. (s, here, st);
+  wired = λ F z s counts inv st. (s, here, st, λ q. refl);
   round = refl;
 }
 
@@ -81,7 +81,7 @@ puts_join : (arena : Arena) (old mid new : Work) → PutsRoots arena old mid →
 puts_join arena old mid new first next F z s counts inv st =
     let m = first F z s counts inv st in
     let k = next F z m.0 counts (moves_keep F z s m.0 m.1 inv) m.2 in
-    (k.0, joined (Move F z) s m.0 k.0 m.1 k.1, k.2)
+    (k.0, joined (Move F z) s m.0 k.0 m.1 k.1, k.2, λ q. k.3 q ∙ m.3 q)
 
 -- one more of them
 pub one_put : (arena : Arena) (old mid new : Work) (nodes : List NodeId) (i : ℕ) (d : NodeId) → i < length nodes

@@ -31,7 +31,7 @@ use Rattle.node_outcomes.specs.Row.{settled_in}
 use Rattle.stabilizer.specs.Settling.{IsSettled}
 use Rattle.wiring.specs.Stands.{MatchesState, Counts}
 use Rattle.stabilizer.specs.Dying.{TakesLeast}
-use Rattle.stabilizer.specs.Stepping.{IsOfBuilds, MainIsSettled, MainIsLeft, HasCalledDue, Steps, StepRefused, as_it_was}
+use Rattle.stabilizer.specs.Stepping.{IsOfBuilds, MainIsSettled, MainIsLeft, HasCalledDue, StepsAt, StepRefused, as_it_was}
 use Rattle.stabilizer.specs.declared.parts.Parts.{Parts}
 use Rattle.wiring.specs.declared.refused.Refused.{Refused}
 use Rattle.wiring.specs.declared.refused.Refused.TheVariants.{Memory}
@@ -129,12 +129,13 @@ module _ (M : Meaning) (old new : Parts) (g : NecessaryPart) (p : Point) (n : No
   needs : (a : Point) → (Needed new.work.graph a → Needed old.work.graph a) × (Needed old.work.graph a → Needed new.work.graph a)
   needs a = (needed_before old.work.graph new.work.graph w.graph a, needed_now old.work.graph new.work.graph w.graph a)
 
-  pub steps : Steps M old new before after
+  pub steps : StepsAt M old new before after p
   steps z s begun quiet st = (
     t,
     made,
     subst (λ (x : Arena). MatchesState x new.work after None t) (sym nodes)
         (settled_stands s arena old.work new.work before after n m.outcome m.last m.called st m.rest w needs),
+    sym same,
   )
     where
       inv : Invariant F z s

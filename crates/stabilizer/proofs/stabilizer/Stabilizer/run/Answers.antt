@@ -4,7 +4,13 @@ use Rattle.node_outcomes.specs.Meaning.{meaning_of}
 use Rattle.wiring.specs.declared.refused.Refused.TheVariants.{Memory}
 use Rattle.stabilizer.specs.Ended.{RoundStops}
 use Rattle.stabilizer.specs.Kept.{counts_by}
-use Rattle.stabilizer.specs.Lacking.{of_number, of_roots, of_step}
+use Rattle.stabilizer.specs.Lacking.{in_step, in_telling, of_number, of_roots, of_step, of_telling}
+use Rattle.inc_terms.specs.Depend.{main}
+use Rattle.node_outcomes.specs.Computing.{seen}
+use Rattle.node_outcomes.specs.declared.row.Progress.{Progress}
+use Rattle.observers.specs.Observers.{notices_of, told_by}
+use Rattle.point_map.specs.Rows.{Rows}
+use Rattle.stabilizer.specs.Telling.{shown_or}
 use Rattle.stabilizer.specs.declared.parts.Parts.{Parts}
 use Rattle.stabilizer.proofs.Round.Ended.{paused_stops, paused_leaves, round_ends, round_leaves}
 use Rattle.stabilizer.proofs.Step.Giving.{none_few}
@@ -12,7 +18,7 @@ use Rattle.stabilizer.proofs.Round.Leftover.{only_still}
 use Rattle.stabilizer.proofs.Step.MeaningKept.{nothing_meant, wants_stay, wants_handed}
 use Rattle.stabilizer.proofs.Round.Paused.{none_paused, roots_paused, roots_full, steps_paused}
 use Rattle.stabilizer.proofs.Round.Released.{released_of}
-use Rattle.stabilizer.proofs.Round.Whole.{HasEnded, in_round}
+use Rattle.stabilizer.proofs.Round.Whole.{HasEnded, in_round, opened}
 use Rattle.stabilizer.proofs.stabilizer.Stabilizer.run.Given.{Over}
 use Rattle.stabilizer.proofs.stabilizer.Stabilizer.run.Goals.{After-end_round}
 use Rattle.stabilizer.proofs.stabilizer.Stabilizer.run.Goals as goal
@@ -21,18 +27,23 @@ use Rattle.necessity.proofs.Sound.{on_err}
 
 -- ---- what is called
 
-pub settle_all-requires-clause-may : goal.settle_all-requires-clause-may
-settle_all-requires-clause-may g c = record {
+pub settle_and_tell-requires-clause-may : goal.settle_and_tell-requires-clause-may
+settle_and_tell-requires-clause-may g c = record {
   kept = record { work = c.put_roots.ensures.kept; scopes = c.requires.ready.kept.scopes; dying = c.requires.ready.kept.dying; clock = c.requires.ready.kept.clock };
   quiet = c.in_ok-put_roots.ensures.quiet;
   sound = c.requires.sound;
   fit = c.requires.fit;
 }
 
-pub settle_all-requires-clause-in_round : goal.settle_all-requires-clause-in_round
-settle_all-requires-clause-in_round g c =
+pub settle_and_tell-requires-clause-in_round : goal.settle_and_tell-requires-clause-in_round
+settle_and_tell-requires-clause-in_round g c =
     in_round (meaning_of g.F.Functions c.args.functions.now) c.args.parts.now c.put_roots.new.work (counts_by g.F.Functions c.args.functions.now)
     c.requires.ready c.in_ok-put_roots.ensures.wired
+
+pub settle_and_tell-requires-clause-opened : goal.settle_and_tell-requires-clause-opened
+settle_and_tell-requires-clause-opened g c =
+    opened (meaning_of g.F.Functions c.args.functions.now) c.args.parts.now c.put_roots.new.work (counts_by g.F.Functions c.args.functions.now)
+    c.requires.ready c.in_ok-put_roots.ensures.wired c.args.observers.now.made c.requires.looks c.requires.shown
 
 -- ---- no further round has a number
 
@@ -47,6 +58,9 @@ returns-in_default g c =
       refused = paused_stops K fs fs old old Memory paused c.args.roots.now (λ p h. inl h) refl
           (none_few (K.right fs) old.arena.given old.arena (omega arith)) tt;
       leaves = paused_leaves K fs fs old old Memory paused c.requires.fit (nothing_meant K fs c.requires.sound) (λ none. refl);
+      told = tt;
+      notices = tt;
+      observers = refl;
       wants = inl refl;
       lacks = of_number (let last = c.in_default.ensures in omega (arith, last));
     }
@@ -87,42 +101,45 @@ returns-in_err-put_roots-clause-lacks g c = on_err c.from_residual.result (of_ro
 
 -- ---- a step was refused
 
-pub returns-in_err-settle_all-clause-lacks : goal.returns-in_err-settle_all-clause-lacks
-returns-in_err-settle_all-clause-lacks g c =
-    on_err c.from_residual-in_err-settle_all.result
-    (of_step {rooted = c.put_roots.new.work} c.in_ok-put_roots.ensures.wired c.in_err-settle_all.ensures.lacks)
+pub returns-in_err-settle_and_tell-clause-lacks : goal.returns-in_err-settle_and_tell-clause-lacks
+returns-in_err-settle_and_tell-clause-lacks g c =
+    on_err c.from_residual-in_err-settle_and_tell.result
+    (elim c.in_err-settle_and_tell.ensures.lacks [
+      | in_step lacks ↦ of_step {rooted = c.put_roots.new.work} c.in_ok-put_roots.ensures.wired lacks
+      | in_telling lacks ↦ of_telling {rooted = c.put_roots.new.work} c.in_ok-put_roots.ensures.wired lacks
+    ])
 
-pub returns-in_err-settle_all-clause-refused : goal.returns-in_err-settle_all-clause-refused
-returns-in_err-settle_all-clause-refused g c =
+pub returns-in_err-settle_and_tell-clause-refused : goal.returns-in_err-settle_and_tell-clause-refused
+returns-in_err-settle_and_tell-clause-refused g c =
     let K = g.F.Functions in
     let fs = c.args.functions.now in
-    let fs' = c.settle_all.new.functions in
+    let fs' = c.settle_and_tell.new.functions in
     let old = c.args.parts.now in
     let rooted = c.put_roots.new.work in
-    let new = c.settle_all.new.parts in
-    let e = c.in_err-settle_all.field-0.0 in
-    let s = c.settle_all.ensures.stays in
-    exit_is c.from_residual-in_err-settle_all.result e (RoundStops K fs fs' old new c.args.roots.now) c.from_residual-in_err-settle_all.ensures.1
+    let new = c.settle_and_tell.new.parts in
+    let e = c.in_err-settle_and_tell.field-0.0 in
+    let s = c.settle_and_tell.ensures.stays in
+    exit_is c.from_residual-in_err-settle_and_tell.result e (RoundStops K fs fs' old new c.args.roots.now) c.from_residual-in_err-settle_and_tell.ensures.1
     (paused_stops K fs fs' old new e (steps_paused (meaning_of K fs) old (counts_by K fs) c.requires.ready rooted new (counts_by K fs') e
-    c.in_ok-put_roots.ensures.wired c.in_err-settle_all.ensures.refused s.kept) c.args.roots.now
+    c.in_ok-put_roots.ensures.wired c.in_err-settle_and_tell.ensures.refused s.kept) c.args.roots.now
     (only_still old.work.graph.roots rooted.graph.roots new.work.graph.roots _ c.put_roots.ensures.roots s.roots) s.ran
-    c.in_err-settle_all.ensures.spends c.in_err-settle_all.ensures.full)
+    c.in_err-settle_and_tell.ensures.spends c.in_err-settle_and_tell.ensures.full)
 
-pub returns-in_err-settle_all-clause-leaves : goal.returns-in_err-settle_all-clause-leaves
-returns-in_err-settle_all-clause-leaves g c =
+pub returns-in_err-settle_and_tell-clause-leaves : goal.returns-in_err-settle_and_tell-clause-leaves
+returns-in_err-settle_and_tell-clause-leaves g c =
     let K = g.F.Functions in
     let fs = c.args.functions.now in
-    let fs' = c.settle_all.new.functions in
-    let new = c.settle_all.new.parts in
-    let e = c.in_err-settle_all.field-0.0 in
-    let s = c.settle_all.ensures.stays in
+    let fs' = c.settle_and_tell.new.functions in
+    let new = c.settle_and_tell.new.parts in
+    let e = c.in_err-settle_and_tell.field-0.0 in
+    let s = c.settle_and_tell.ensures.stays in
     paused_leaves K fs fs' c.args.parts.now new e (steps_paused (meaning_of K fs) c.args.parts.now (counts_by K fs) c.requires.ready c.put_roots.new.work
-    new (counts_by K fs') e c.in_ok-put_roots.ensures.wired c.in_err-settle_all.ensures.refused s.kept) s.fit s.functions s.flat
+    new (counts_by K fs') e c.in_ok-put_roots.ensures.wired c.in_err-settle_and_tell.ensures.refused s.kept) s.fit s.functions s.flat
 
-pub returns-in_err-settle_all-clause-wants : goal.returns-in_err-settle_all-clause-wants
-returns-in_err-settle_all-clause-wants g c =
-    wants_handed c.from_residual-in_err-settle_all.result c.in_err-settle_all.field-0.0 _ _ c.from_residual-in_err-settle_all.ensures.1
-    c.in_err-settle_all.ensures.wants
+pub returns-in_err-settle_and_tell-clause-wants : goal.returns-in_err-settle_and_tell-clause-wants
+returns-in_err-settle_and_tell-clause-wants g c =
+    wants_handed c.from_residual-in_err-settle_and_tell.result c.in_err-settle_and_tell.field-0.0 _ _ c.from_residual-in_err-settle_and_tell.ensures.1
+    c.in_err-settle_and_tell.ensures.wants
 
 -- ---- the round ended
 
@@ -134,16 +151,16 @@ module _ (g : Over) (c : After-end_round g) where
   next_round = c.end_round.ensures.round
       ∙ next_is c.checked_add.result _ (c.args.parts.now.work.round + 1) c.in-Some.next c.checked_add.ensures c.in-Some.is
 
-  ended : HasEnded c.settle_all.new.parts.work c.end_round.new.self
+  ended : HasEnded c.settle_and_tell.new.parts.work c.end_round.new.self
   ended =
       let e = c.end_round.ensures in
-      let settled = c.settle_all.new.parts.work in
+      let settled = c.settle_and_tell.new.parts.work in
       record {
         released = released_of settled (record settled { ran = c.swap.new.y }) c.end_round.new.self e.released;
         step = e.step;
         ran = e.ran;
         retries = e.retries;
-        round = next_round ∙ ap (λ (k : ℕ). k + 1) (sym (c.settle_all.ensures.stays.round ∙ c.put_roots.ensures.round));
+        round = next_round ∙ ap (λ (k : ℕ). k + 1) (sym (c.settle_and_tell.ensures.stays.round ∙ c.put_roots.ensures.round));
         rows = e.rows;
         roots = e.right_sides;
         pairs = e.pairs;
@@ -157,15 +174,19 @@ returns g c =
     let old = c.args.parts.now in
     let rooted = c.put_roots.new.work in
     let p = c.in_ok-put_roots.ensures in
-    let settled = c.settle_all.new.parts in
-    let s = c.in_ok-settle_all.ensures in
+    let settled = c.settle_and_tell.new.parts in
+    let s = c.in_ok-settle_and_tell.ensures in
     let last : Parts = record settled { work = c.end_round.new.self; ran = c.swap.new.x } in
     record {
-      ended = round_ends K c.args.functions.now c.settle_all.new.functions old rooted c.requires.ready p.wired settled s.settled s.stays s.quiet s.empty
+      ended = round_ends K c.args.functions.now c.settle_and_tell.new.functions old rooted c.requires.ready p.wired settled s.settled s.stays s.quiet s.empty
           last (ended g c) c.args.roots.now p.rooted c.put_roots.ensures.roots s.gives (ap (λ v. v.items) c.swap.ensures.x_after) (next_round g c);
       refused = tt;
-      leaves = round_leaves K c.args.functions.now c.settle_all.new.functions old rooted c.requires.ready p.wired settled s.settled s.stays s.quiet
+      leaves = round_leaves K c.args.functions.now c.settle_and_tell.new.functions old rooted c.requires.ready p.wired settled s.settled s.stays s.quiet
           s.empty last (ended g c);
+      told = s.told ∙ ap (λ (rows : Rows Progress). told_by (λ n. shown_or (seen rows (main n))) c.args.observers.now.made) (sym c.end_round.ensures.rows);
+      notices = s.notices
+          ∙ ap (λ (rows : Rows Progress). notices_of (λ n. shown_or (seen rows (main n))) 0 c.args.observers.now.made) (sym c.end_round.ensures.rows);
+      observers = tt;
       wants = s.wants;
       lacks = tt;
     }

@@ -13,7 +13,7 @@ use Rattle.stabilizer.specs.Lacking.{StepLacks}
 use Rattle.stabilizer.proofs.Change.Lacking.{lacks_before}
 use Rattle.stabilizer.specs.Stepping.{of_main, of_change, StepIsRefused}
 use Rattle.stabilizer.proofs.Change.Steps.{change_steps, change_stops, change_full}
-use Rattle.stabilizer.proofs.Step.Falling.{steps_leave_less}
+use Rattle.stabilizer.proofs.Step.Falling.{steps_at, steps_leave_less}
 use Rattle.stabilizer.proofs.Step.Giving.{left_few, main_few, memory_full}
 use Rattle.wiring.proofs.Raising.{if_refusal}
 use Rattle.stabilizer.specs.declared.parts.Parts.{Parts}
@@ -79,7 +79,7 @@ pub returns-in_err-step_change-in-Change-clause-wants : goal.returns-in_err-step
 returns-in_err-step_change-in-Change-clause-wants g c = wants_stay c.from_residual.result _ _ c.step_change.ensures.wants
 
 pub returns-in_ok-step_change-in-Change-clause-made : goal.returns-in_ok-step_change-in-Change-clause-made
-returns-in_ok-step_change-in-Change-clause-made g c = λ more.
+returns-in_ok-step_change-in-Change-clause-made g c =
     let M = meaning_of g.F.Functions c.args.functions.now in
     let old = c.args.parts.now in
     let new = c.step_change.new.parts in
@@ -94,7 +94,8 @@ returns-in_ok-step_change-in-Change-clause-made g c = λ more.
       stepped = step;
       settled = of_change (takes_least old.work c.pop_least.new.self p _ is c.in-Some.ensures.was c.in-Some.ensures.least c.pop_least.ensures.rest
           c.in-Some.ensures.removed) c.in_ok-step_change-in-Change.ensures.settled;
-      falls = steps_leave_less M old new before after c.requires.kept.work c.step_change.ensures.stays.kept.work step;
+      falls = steps_leave_less M old new before after c.requires.kept.work c.step_change.ensures.stays.kept.work
+          (steps_at M old new before after p step);
       more = λ empty. not_empty old.work.graph.heap p c.in-Some.ensures.was empty;
     }
 
@@ -128,7 +129,7 @@ pub returns-in-Ok-clause-quiet : goal.returns-in-Ok-clause-quiet
 returns-in-Ok-clause-quiet g c = c.in-Ok.ensures.settled.settled.todo ∙ c.requires.quiet
 
 pub returns-in-Ok-clause-made : goal.returns-in-Ok-clause-made
-returns-in-Ok-clause-made g c = λ more.
+returns-in-Ok-clause-made g c =
     let M = meaning_of g.F.Functions c.args.functions.now in
     let old = c.args.parts.now in
     let new = c.step_main.new.parts in
@@ -142,7 +143,8 @@ returns-in-Ok-clause-made g c = λ more.
       stepped = step;
       settled = of_main (takes_least old.work c.pop_least.new.self p _ is c.in-Some.ensures.was c.in-Some.ensures.least c.pop_least.ensures.rest
           c.in-Some.ensures.removed) c.in-Ok.ensures.settled c.step_main.ensures.rest;
-      falls = steps_leave_less M old new before after c.requires.kept.work c.step_main.ensures.kept.work step;
+      falls = steps_leave_less M old new before after c.requires.kept.work c.step_main.ensures.kept.work
+          (steps_at M old new before after p step);
       more = λ empty. not_empty old.work.graph.heap p c.in-Some.ensures.was empty;
     }
 
@@ -167,7 +169,7 @@ returns-in-Err-clause-refused g c =
 -- ---- the heap is empty
 
 pub returns-in_default-clause-ended : goal.returns-in_default-clause-ended
-returns-in_default-clause-ended g c = λ none.
+returns-in_default-clause-ended g c =
     let old = c.args.parts.now in
     record {
       empty = c.in_default.ensures.none;
