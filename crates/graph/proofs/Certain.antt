@@ -1,7 +1,8 @@
 -- Faults that don't come where a caller knows.
 use Rattle.std.proofs.Common.{◌≡◌, ◌↔◌, inl, inr, Option, None, Some, IsSome, Result, Err, IfErr, IsErrOf, sym, ap, subst, ◌∙◌}
 use Rattle.graph.specs.Effects.{IsEndFault, IsSetFault}
-use Rattle.graph.specs.Standing.{GraphView, node_at, IsUnbroken, IsBroken}
+use Rattle.graph.specs.Standing.{GraphView, IsUnbroken, IsBroken}
+use Rattle.observers.specs.Observers.{node_at}
 use Rattle.graph.specs.declared.fault.GraphFault.{GraphFault}
 use Rattle.graph.specs.declared.fault.GraphFault.TheVariants as fault
 use Rattle.graph.specs.declared.fault.Kept.{Kept}
@@ -29,7 +30,7 @@ module _ {F : Type 0} (s : GraphView F) (n : NodeId) (w : Value) (whole : IsUnbr
   no_set_fault r e is (inr (inr (inl same))) broken unknown not_var wrong = (not_var (is ∙ ap (λ (x : GraphFault). Err x) same)).1.2 variable
   no_set_fault r e is (inr (inr (inr same))) broken unknown not_var wrong = (wrong (is ∙ ap (λ (x : GraphFault). Err x) same)).1.2 fits
 
--- an observer in use is ended
+-- an observer in use is ended or watched
 pub no_end_fault : {F T : Type 0} (s : GraphView F) → IsUnbroken s → (r : Result T GraphFault) (e : GraphFault) (o : ObsId) → r ≡ Err e → IfErr r IsEndFault
     → ((cause : Kept) → IsErrOf r (fault.Broken cause) ↔ IsBroken s cause)
     → (IsErrOf r fault.Unknown ↔ (IsUnbroken s × (node_at s.observers o ≡ None)))

@@ -26,7 +26,8 @@ use Rattle.graph.specs.Effects.{SetsCutoff}
 use Rattle.graph.specs.Inside.{FitsInside}
 use Rattle.graph.specs.Standing.{GraphView}
 use Rattle.graph.proofs.Seeing.{seen_as, built_still}
-use Rattle.graph.specs.declared.observer.Observer.{Observer}
+use Rattle.observers.specs.Observers.{ObserversView}
+use Rattle.observers.specs.declared.observer.Observer.{Observer}
 use Rattle.graph.proofs.Sound.{ready_built}
 
 seen_still : (c : Cutoff) (x : Option Progress) → seen_of (option_map (with_cutoff c) x) ≡ seen_of x
@@ -72,11 +73,13 @@ module _ (old new : Parts) (id : NodeId) (c : Cutoff) (set : IsRewritten old.wor
     kept = (ready (sound.unbroken still).ready).kept;
     built = ready_built M new (ready (sound.unbroken still).ready);
     inside = (ready (sound.unbroken still).ready).inside;
+    showing = sound.showing;
+    later = sound.later;
     unbroken = λ whole. let can = sound.unbroken whole in record {
       ready = ready can.ready;
       roots = λ p. ap (λ (x : Parts). root_times x.work.graph.roots p) rest ∙ can.roots p;
       given = λ n among. subst (λ (a : Arena). Given a.given n) (sym arena_as) (can.given n among);
-      shown = λ n among. subst IsSome (sym (seen_same (main n))) (can.shown n among);
+      shown = λ o x among used shown. seen_same (main o.node) ∙ can.shown o x among used shown;
     };
   }
 
@@ -85,7 +88,7 @@ module _ (old new : Parts) (id : NodeId) (c : Cutoff) (set : IsRewritten old.wor
   cut_at None there = absurd (cc)
   cut_at (Some k) there = refl
 
-  module _ {F : Type 0} (functions : F) (observers : List Observer) (rooted : ℕ) (refused : Option Refused) where
+  module _ {F : Type 0} (functions : F) (observers : ObserversView) (rooted : ℕ) (refused : Option Refused) where
     abbrev before : GraphView F
     before = seen_as functions old observers rooted refused
 
@@ -98,7 +101,7 @@ module _ (old new : Parts) (id : NodeId) (c : Cutoff) (set : IsRewritten old.wor
       others = λ n other. ap cutoff_in (set.others (main n) (λ e. other (ap (λ (p : Point). p.node) e)));
       dead = λ not. ap (λ (p : Parts). seen_as functions p observers rooted refused)
           (dead (no_row (at old.work.rows (main id)) (row_at old.arena id) (main_there old.arena old.work kept id) not));
-      top = record { functions = refl; rooted = refl; refused = refl; ran = ap (λ (p : Parts). p.ran.items) rest };
+      top = record { functions = refl; rooted = refl; refused = refl; ran = ap (λ (p : Parts). p.ran.items) rest; notices = refl };
       nodes = arena_as;
       observers = refl;
       need = record {

@@ -30,7 +30,7 @@ use Rattle.stabilizer.specs.declared.parts.Parts.{Parts}
 use Rattle.wiring.specs.declared.refused.Refused.{Refused}
 use Rattle.graph.specs.Inside.{FitsInside}
 use Rattle.graph.proofs.Sound.{ready_built}
-use Rattle.graph.specs.declared.observer.Observer.{Observer}
+use Rattle.observers.specs.declared.observer.Observer.{Observer}
 
 -- each function of the definition is known
 abbrev pub AreKnown : (FnRef → Bool) → Def → Type 0
@@ -151,5 +151,7 @@ sound_more M M' parts observers rooted refused fits still ready = record {
   kept = fits.kept;
   built = ready_built M' parts (ready (fits.unbroken still).ready);
   inside = fits.inside;
+  showing = fits.showing;
+  later = fits.later;
   unbroken = λ whole. let can = fits.unbroken whole in record { ready = ready can.ready; roots = can.roots; given = can.given; shown = can.shown };
 }

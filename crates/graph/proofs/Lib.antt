@@ -18,3 +18,4 @@ pub mod Knowing
 pub mod Grouping
 pub mod Timing
 pub mod Moving
+pub mod Telling

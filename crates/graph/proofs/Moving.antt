@@ -1,5 +1,5 @@
 -- What the call answers that moves the time on.
-use Rattle.std.proofs.Common.{◌≡◌, inl, inr, ℕ, ℤ, List, Bool, Option, Ok, Err, refl, sym, ap, subst, ◌∙◌, arith}
+use Rattle.std.proofs.Common.{◌≡◌, inl, inr, ℕ, ℤ, Bool, Option, Ok, Err, refl, sym, ap, subst, ◌∙◌, arith}
 use Rattle.std.specs.Prelude.{Result, IfErr, OnOk, OnErr, ◌↔◌}
 use Rattle.inc_value.specs.declared.function.FnRef.{FnRef}
 use Rattle.inc_value.specs.declared.node.NodeId.{NodeId}
@@ -21,7 +21,7 @@ use Rattle.graph.specs.Effects.{KeepsAll}
 use Rattle.graph.specs.Fault.{of_advance}
 use Rattle.graph.specs.declared.fault.GraphFault.{GraphFault}
 use Rattle.graph.specs.declared.fault.GraphFault.TheVariants as fault
-use Rattle.graph.specs.declared.observer.Observer.{Observer}
+use Rattle.observers.specs.Observers.{ObserversView}
 use Rattle.graph.proofs.Adding.{all_stays}
 use Rattle.graph.proofs.Faulting.{same_err}
 use Rattle.graph.proofs.Fitting.{fit_left}
@@ -52,7 +52,7 @@ moved_fit known right old new to (Ok u) moved err fit =
     let given = moved.given in fit_left known right old.arena new.arena (omega (arith, given)) (λ n. inl (moved.rows n)) fit
 moved_fit known right old new to (Err e) moved err fit = subst (λ (p : Parts). SidesFit known right p.arena) (sym err) fit
 
-module _ {F : Type 0} (functions : F) (old new : Parts) (observers : List Observer) (rooted : ℕ) (refused : Option Refused) where
+module _ {F : Type 0} (functions : F) (old new : Parts) (observers : ObserversView) (rooted : ℕ) (refused : Option Refused) where
   -- the time moved
   moves : (to : ℤ) → StaysButHeap old new → IsMovedTo old.arena new.arena to
       → MovesTo (seen_as functions old observers rooted refused) (seen_as functions new observers rooted refused) to

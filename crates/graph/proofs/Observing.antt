@@ -1,16 +1,17 @@
--- The nodes of the observers that are in use.
-use Rattle.std.proofs.Common.{◌≡◌, inl, inr, ℕ, zero, suc, ◌<◌, ◌≤◌, Bool, true, false, cond, List, [], ◌∷◌, ◌++◌, length, map, take, drop, None, Some, refl, sym, ap, subst, ◌∙◌, arith}
-use Rattle.std.specs.Prelude.{slice_get, slice_set, slice_index_or, All}
+-- The nodes of the observers that are in use, and who stands among the observers once one is made, ended or watched.
+use Rattle.std.proofs.Common.{◌≡◌, inl, inr, ℕ, zero, suc, ◌⊎◌, ◌<◌, ◌≤◌, Bool, true, false, cond, List, [], ◌∷◌, ◌++◌, length, map, take, drop, Option, None, Some, refl, sym, ap, subst, ◌∙◌, arith}
+use Rattle.std.specs.Prelude.{slice_get, slice_set, slice_index_or, IsSome, All}
 use Rattle.std.proofs.lemmas.Option.{none-some}
-use Rattle.std.proofs.lemmas.List.{map-append, take-append-drop}
+use Rattle.std.proofs.lemmas.List.{map-append, take-append-drop, drop-append-le}
 use Rattle.inc_value.specs.declared.node.NodeId.{NodeId}
 use Rattle.inc_value.specs.declared.node.Point.{Point}
 use Rattle.inc_value.specs.Choice.{Among}
 use Rattle.inc_terms.specs.Depend.{main}
 use Rattle.stabilize_round.specs.State.{count}
 use Rattle.stabilize_round.proofs.Points.{count_append}
-use Rattle.graph.specs.Standing.{in_use, looked_at}
-use Rattle.graph.specs.declared.observer.Observer.{Observer}
+use Rattle.inc_value.specs.declared.outcome.Outcome.{Outcome}
+use Rattle.observers.specs.Observers.{in_use, looked_at, shown_in, new_observer, ended, watched}
+use Rattle.observers.specs.declared.observer.Observer.{Observer}
 use Rattle.inc_terms.proofs.Plan.{among_left, among_right, among_parts}
 
 -- ---- membership
@@ -93,9 +94,6 @@ pub record IsLeftOut (node : NodeId) (before after : List NodeId) : Type 0 where
   pub was : before ≡ front ++ node ∷ back
   pub now : after ≡ front ++ back
 
-abbrev pub ended : NodeId → Observer
-ended node = record { node = node; in_use = false }
-
 first_out : (o : Observer) (node : NodeId) (ns : List NodeId) (b : Bool) → cond b (Some o.node) None ≡ Some node
     → IsLeftOut node (cond b (o.node ∷ ns) ns) ns
 first_out o node ns true e = record { front = []; back = ns; was = let s = e in cc; now = refl }
@@ -143,3 +141,185 @@ left_is_among node n before after h among = subst (Among n) (sym h.was) (elim (a
 -- the nodes in use of the front and of the rest
 pub in_use_split : (os : List Observer) (r : ℕ) → in_use (take r os) ++ in_use (drop r os) ≡ in_use os
 in_use_split os r = sym (in_use_append (take r os) (drop r os)) ∙ ap in_use (take-append-drop r os)
+
+-- what stands in the front, or in the rest, is among all
+pub front_in : {A : Type 0} (xs : List A) (r : ℕ) (x : A) → Among x (take r xs) → Among x xs
+front_in xs r x h = subst (Among x) (take-append-drop r xs) (among_left x (take r xs) (drop r xs) h)
+
+pub back_in : {A : Type 0} (xs : List A) (r : ℕ) (x : A) → Among x (drop r xs) → Among x xs
+back_in xs r x h = subst (Among x) (take-append-drop r xs) (among_right x (take r xs) (drop r xs) h)
+
+-- ---- who is in use
+
+user_first : (b : Bool) (m n : NodeId) (ns : List NodeId) → b ≡ true → n ≡ m → Among n (cond b (m ∷ ns) ns)
+user_first true m n ns is e = inl e
+user_first false m n ns is e = absurd (cc)
+
+-- the node of an observer in use is among the nodes of those in use
+pub user_among : (os : List Observer) (o : Observer) → Among o os → o.in_use ≡ true → Among o.node (in_use os)
+user_among [] o h used = absurd h
+user_among (p ∷ os) o (inl e) used = user_first p.in_use p.node o.node (in_use os) (ap (λ (q : Observer). q.in_use) (sym e) ∙ used)
+    (ap (λ (q : Observer). q.node) e)
+user_among (p ∷ os) o (inr h) used = more_among p.in_use p.node o.node (in_use os) (user_among os o h used)
+
+-- an observer in use looks at the node
+pub record IsUser (os : List Observer) (n : NodeId) : Type 0 where
+  pub user : Observer
+  pub among : Among user os
+  pub used : user.in_use ≡ true
+  pub looks : user.node ≡ n
+
+later_user : (o : Observer) (os : List Observer) (n : NodeId) → IsUser os n → IsUser (o ∷ os) n
+later_user o os n u = record { user = u.user; among = inr u.among; used = u.used; looks = u.looks }
+
+first_user : (o : Observer) (os : List Observer) (n : NodeId) (b : Bool) → o.in_use ≡ b → Among n (cond b (o.node ∷ in_use os) (in_use os))
+    → (Among n (in_use os) → IsUser os n) → IsUser (o ∷ os) n
+first_user o os n true is (inl e) rest = record { user = o; among = inl refl; used = is; looks = sym e }
+first_user o os n true is (inr h) rest = later_user o os n (rest h)
+first_user o os n false is h rest = later_user o os n (rest h)
+
+pub user_of : (os : List Observer) (n : NodeId) → Among n (in_use os) → IsUser os n
+user_of [] n h = absurd h
+user_of (o ∷ os) n h = first_user o os n o.in_use refl h (user_of os n)
+
+-- where later observers show nothing, one that shows something is among the earlier ones
+pub early_among : (os : List Observer) (r : ℕ) → ((o : Observer) → Among o (drop r os) → o.shown ≡ None) → (o : Observer) (x : Outcome)
+    → Among o os → o.shown ≡ Some x → Among o (take r os)
+early_among os r later o x among shown =
+    elim (among_parts o (take r os) (drop r os) (subst (Among o) (sym (take-append-drop r os)) among)) [
+      | inl front ↦ front
+      | inr back ↦ absurd (none-some x (sym (later o back) ∙ shown))
+    ]
+
+-- ---- who stands there once one was made
+
+pub made_front : (os : List Observer) (r : ℕ) (n : NodeId) (o : Observer) → r ≤ length os → Among o (drop r (os ++ new_observer n ∷ []))
+    → Among o (drop r os) ⊎ (o ≡ new_observer n)
+made_front os r n o within h =
+    elim (among_parts o (drop r os) (new_observer n ∷ []) (subst (Among o) (drop-append-le r os (new_observer n ∷ []) within) h)) [
+      | inl old ↦ inl old
+      | inr (inl e) ↦ inr e
+      | inr (inr none) ↦ absurd none
+    ]
+
+-- ---- who stands there once one was put
+
+pub set_among : {A : Type 0} (xs : List A) (i : ℕ) (y x : A) → Among x (slice_set xs i y) → (x ≡ y) ⊎ Among x xs
+set_among [] i y x h = absurd h
+set_among (z ∷ xs) zero y x (inl e) = inl e
+set_among (z ∷ xs) zero y x (inr h) = inr (inr h)
+set_among (z ∷ xs) (suc i) y x (inl e) = inr (inl e)
+set_among (z ∷ xs) (suc i) y x (inr h) = elim (set_among xs i y x h) [ inl e ↦ inl e | inr k ↦ inr (inr k) ]
+
+pub set_front : {A : Type 0} (xs : List A) (r i : ℕ) (y x : A) → Among x (take r (slice_set xs i y)) → (x ≡ y) ⊎ Among x (take r xs)
+set_front [] zero i y x h = absurd h
+set_front [] (suc r) i y x h = absurd h
+set_front (z ∷ xs) zero i y x h = absurd h
+set_front (z ∷ xs) (suc r) zero y x (inl e) = inl e
+set_front (z ∷ xs) (suc r) zero y x (inr h) = inr (inr h)
+set_front (z ∷ xs) (suc r) (suc i) y x (inl e) = inr (inl e)
+set_front (z ∷ xs) (suc r) (suc i) y x (inr h) = elim (set_front xs r i y x h) [ inl e ↦ inl e | inr k ↦ inr (inr k) ]
+
+pub set_back : {A : Type 0} (xs : List A) (r i : ℕ) (y x : A) → Among x (drop r (slice_set xs i y)) → (x ≡ y) ⊎ Among x (drop r xs)
+set_back xs zero i y x h = set_among xs i y x h
+set_back [] (suc r) i y x h = absurd h
+set_back (z ∷ xs) (suc r) zero y x h = inr h
+set_back (z ∷ xs) (suc r) (suc i) y x h = set_back xs r i y x h
+
+-- ---- who stands there once one is watched
+
+-- an observer as one among these, but for how it is watched
+pub record IsOneOf (os : List Observer) (o : Observer) : Type 0 where
+  pub one : Observer
+  pub among : Among one os
+  pub node : o.node ≡ one.node
+  pub used : o.in_use ≡ one.in_use
+  pub shown : o.shown ≡ one.shown
+
+pub watched_among : (os : List Observer) (k : ℕ) (o : Observer) → Among o (watched k os) → IsOneOf os o
+watched_among [] k o h = absurd h
+watched_among (p ∷ os) zero o (inl e) = record {
+  one = p;
+  among = inl refl;
+  node = ap (λ (q : Observer). q.node) e;
+  used = ap (λ (q : Observer). q.in_use) e;
+  shown = ap (λ (q : Observer). q.shown) e;
+}
+watched_among (p ∷ os) zero o (inr h) = record { one = o; among = inr h; node = refl; used = refl; shown = refl }
+watched_among (p ∷ os) (suc k) o (inl e) = record { one = o; among = inl e; node = refl; used = refl; shown = refl }
+watched_among (p ∷ os) (suc k) o (inr h) =
+    let w = watched_among os k o h in record { one = w.one; among = inr w.among; node = w.node; used = w.used; shown = w.shown }
+
+pub watched_front : (os : List Observer) (k r : ℕ) → take r (watched k os) ≡ watched k (take r os)
+watched_front [] k zero = refl
+watched_front [] k (suc r) = refl
+watched_front (p ∷ os) zero zero = refl
+watched_front (p ∷ os) (suc k) zero = refl
+watched_front (p ∷ os) zero (suc r) = refl
+watched_front (p ∷ os) (suc k) (suc r) = ap (λ (ps : List Observer). p ∷ ps) (watched_front os k r)
+
+pub watched_back : (os : List Observer) (k r : ℕ) (o : Observer) → Among o (drop r (watched k os)) → IsOneOf (drop r os) o
+watched_back os k zero o h = watched_among os k o h
+watched_back [] k (suc r) o h = absurd h
+watched_back (p ∷ os) zero (suc r) o h = record { one = o; among = h; node = refl; used = refl; shown = refl }
+watched_back (p ∷ os) (suc k) (suc r) o h = watched_back os k r o h
+
+pub in_use_watched : (os : List Observer) (k : ℕ) → in_use (watched k os) ≡ in_use os
+in_use_watched [] k = refl
+in_use_watched (p ∷ os) zero = refl
+in_use_watched (p ∷ os) (suc k) = ap (λ (ns : List NodeId). cond p.in_use (p.node ∷ ns) ns) (in_use_watched os k)
+
+-- ---- who shows something
+
+-- the observer of this number is in use and shows this
+pub record IsShowing (os : List Observer) (i : ℕ) (x : Outcome) : Type 0 where
+  pub one : Observer
+  pub among : Among one os
+  pub used : one.in_use ≡ true
+  pub shown : one.shown ≡ Some x
+  pub looks : looked_at (slice_get os i) ≡ Some one.node
+
+first_showing : (o : Observer) (os : List Observer) (x : Outcome) (b : Bool) → o.in_use ≡ b → cond b o.shown None ≡ Some x → IsShowing (o ∷ os) zero x
+first_showing o os x true is e = record { one = o; among = inl refl; used = is; shown = e; looks = ap (λ (b : Bool). cond b (Some o.node) None) is }
+first_showing o os x false is e = absurd (none-some x e)
+
+pub showing_of : (os : List Observer) (i : ℕ) (x : Outcome) → shown_in (slice_get os i) ≡ Some x → IsShowing os i x
+showing_of [] i x e = absurd (none-some x e)
+showing_of (o ∷ os) zero x e = first_showing o os x o.in_use refl e
+showing_of (o ∷ os) (suc i) x e =
+    let s = showing_of os i x e in record { one = s.one; among = inr s.among; used = s.used; shown = s.shown; looks = s.looks }
+
+used_some : (b : Bool) (n : NodeId) → IsSome (cond b (Some n) None) → b ≡ true
+used_some true n some = refl
+used_some false n some = absurd (cc)
+
+shown_some : (b : Bool) (x : Option Outcome) → b ≡ true → IsSome x → cond b x None ≡ None → ⊥
+shown_some true None is some none = absurd (cc)
+shown_some true (Some x) is some none = absurd (cc)
+shown_some false x is some none = absurd (cc)
+
+-- one in use that shows nothing is a later one
+pub unshown_late : (os : List Observer) (r i : ℕ) → ((o : Observer) → Among o (take r os) → o.in_use ≡ true → IsSome o.shown)
+    → IsSome (looked_at (slice_get os i)) → shown_in (slice_get os i) ≡ None → r ≤ i
+unshown_late [] r i showing used none = absurd (cc)
+unshown_late (o ∷ os) zero i showing used none = omega arith
+unshown_late (o ∷ os) (suc r) zero showing used none =
+    let is = used_some o.in_use o.node used in absurd (shown_some o.in_use o.shown is (showing o (inl refl) is) none)
+unshown_late (o ∷ os) (suc r) (suc i) showing used none =
+    let h = unshown_late os r i (λ p among. showing p (inr among)) used none in omega (arith, h)
+
+-- and a later one shows nothing
+none_shown : (b : Bool) (x : Option Outcome) → x ≡ None → cond b x None ≡ None
+none_shown true x e = e
+none_shown false x e = refl
+
+all_unshown : (os : List Observer) (i : ℕ) → ((o : Observer) → Among o os → o.shown ≡ None) → shown_in (slice_get os i) ≡ None
+all_unshown [] i h = refl
+all_unshown (o ∷ os) zero h = none_shown o.in_use o.shown (h o (inl refl))
+all_unshown (o ∷ os) (suc i) h = all_unshown os i (λ p among. h p (inr among))
+
+pub late_unshown : (os : List Observer) (r i : ℕ) → ((o : Observer) → Among o (drop r os) → o.shown ≡ None) → r ≤ i → shown_in (slice_get os i) ≡ None
+late_unshown [] r i later within = refl
+late_unshown (o ∷ os) zero i later within = all_unshown (o ∷ os) i later
+late_unshown (o ∷ os) (suc r) zero later within = absurd (omega (arith, within))
+late_unshown (o ∷ os) (suc r) (suc i) later within = late_unshown os r i later (omega (arith, within))

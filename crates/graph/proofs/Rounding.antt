@@ -1,5 +1,6 @@
 -- What a round leaves of the parts, told of the graph.
-use Rattle.std.proofs.Common.{◌≡◌, inl, ℕ, List, length, Option, None, Some, refl, sym, ap, subst}
+use Rattle.std.proofs.Common.{◌≡◌, inl, ℕ, List, length, Option, None, Some, refl, sym, ap, subst, ◌∙◌}
+use Rattle.std.specs.Prelude.{slice_get}
 use Rattle.inc_value.specs.declared.node.NodeId.{NodeId}
 use Rattle.inc_value.specs.Choice.{here}
 use Rattle.inc_terms.specs.Graph.{Row}
@@ -15,72 +16,81 @@ use Rattle.stabilizer.specs.declared.parts.Parts.{Parts}
 use Rattle.wiring.specs.declared.refused.Refused.{Refused}
 use Rattle.graph.specs.Fault.{kept_of}
 use Rattle.graph.specs.Stabilizes.{Stabilizes, IsRefusedFor, HasCalledMet}
-use Rattle.graph.specs.Standing.{look, in_use}
+use Rattle.graph.specs.Standing.{look}
+use Rattle.observers.specs.Observers.{ObserversView, in_use, looked_at, notices_of, told_by}
+use Rattle.stabilizer.specs.Telling.{shows_of}
 use Rattle.graph.specs.declared.fault.Kept.{Kept}
-use Rattle.graph.specs.declared.observer.Observer.{Observer}
+use Rattle.observers.specs.declared.observer.Observer.{Observer}
 use Rattle.graph.proofs.Observing.{looked_among}
 use Rattle.graph.proofs.Seeing.{seen_as}
+use Rattle.graph.proofs.Telling.{looked_told}
 
 -- of an unbroken graph it is what can be looked at of its parts between rounds
-look_is : {F : Type 0} (functions : F) (parts : Parts) (observers : List Observer) (rooted : ℕ) (refused : Option Refused) → refused ≡ None
+look_is : {F : Type 0} (functions : F) (parts : Parts) (observers : ObserversView) (rooted : ℕ) (refused : Option Refused) → refused ≡ None
     → look_between parts ≡ look (seen_as functions parts observers rooted refused)
 look_is functions parts observers rooted refused still =
     ap (λ (r : Option Refused). look (seen_as functions parts observers rooted r)) (sym still)
 
-module _ {F : Type 0} (M : Functions) (functions functions' : F) (old new : Parts) (observers : List Observer) (rooted : ℕ)
+module _ {F : Type 0} (M : Functions) (functions functions' : F) (old new : Parts) (observers : ObserversView) (rooted : ℕ)
     (refused : Option Refused) (still : refused ≡ None) where
   -- what is said of the parts before is said of the graph
   before_is : (P : Look → Type 0) → P (look_between old) → P (look (seen_as functions old observers rooted refused))
   before_is P h = subst P (look_is functions old observers rooted refused still) h
 
   -- an accepted round
-  pub accepted : (all : ℕ) → all ≡ length observers → GraphStays old.arena.given new.arena.given (graph_in old) (round.left_by old new)
-      → round.BuildsAll M old new (in_use observers) → round.IsUpToDate M old new (in_use observers)
-      → Stabilizes M (seen_as functions old observers rooted refused) (seen_as functions' new observers all refused)
-  accepted all are_all rest builds right = record {
+  pub accepted : (after : ObserversView) → after.made ≡ told_by (shows_of new) observers.made
+      → after.notices ≡ notices_of (shows_of new) 0 observers.made → (all : ℕ) → all ≡ length after.made → GraphStays old.arena.given new.arena.given (graph_in old) (round.left_by old new)
+      → round.BuildsAll M old new (in_use observers.made) → round.IsUpToDate M old new (in_use observers.made)
+      → Stabilizes M (seen_as functions old observers rooted refused) (seen_as functions' new after all refused)
+  accepted after told notices all are_all rest builds right = record {
     was = still;
     unbroken = still;
     stays = rest;
-    builds = before_is (λ (b : Look). BuildsRightIn M (round.left_by old new) (round.died_by old new) b (in_use observers) None) builds;
-    observers = refl;
+    builds = before_is (λ (b : Look). BuildsRightIn M (round.left_by old new) (round.died_by old new) b (in_use observers.made) None) builds;
+    observers = told;
+    notices = notices;
     rooted = are_all;
-    shows = λ o n is. let s = right.sees n (n, inl (looked_among observers o.0 n is), here) in (s.0, s.1, s.2);
+    shows = λ o n is.
+        let was = sym (looked_told (shows_of new) observers.made o.0)
+        ∙ (ap (λ (os : List Observer). looked_at (slice_get os o.0)) (sym told) ∙ is) in
+        let s = right.sees n (n, inl (looked_among observers.made o.0 n was), here) in (s.0, s.1, s.2);
     right = subst (λ (a : Look). IsUpToDateIn M (round.left_by old new) (round.died_by old new) (graph_in new)
-        (look (seen_as functions old observers rooted refused)) a (in_use observers) new.ran.items)
-        (look_is functions' new observers all refused still)
+        (look (seen_as functions old observers rooted refused)) a (in_use observers.made) new.ran.items)
+        (look_is functions' new after all refused still)
         (before_is (λ (b : Look). IsUpToDateIn M (round.left_by old new) (round.died_by old new) (graph_in new) b (look_between new)
-        (in_use observers) new.ran.items) right);
+        (in_use observers.made) new.ran.items) right);
   }
 
   -- a refused one
   module _ (met : Refused) where
-    pub few_in : (calls after : ℕ) → round.HasCalledMet M old new (in_use observers) calls after
+    pub few_in : (calls after : ℕ) → round.HasCalledMet M old new (in_use observers.made) calls after
         → HasCalledMet M (seen_as functions old observers rooted refused) (seen_as functions' new observers rooted (Some met)) calls after
     few_in calls after h = before_is (λ (b : Look). HasCalledMetIn M (round.left_by old new) (round.died_by old new) b (look_refused new)
-        (in_use observers) calls after) h
+        (in_use observers.made) calls after) h
 
     pub refused_in : (cause : Kept) → kept_of met ≡ cause → GraphStays old.arena.given new.arena.given (graph_in old) (round.left_by old new)
         → new.ran ≡ old.ran
         → ((n : NodeId) (r : Row) → row_at new.arena n ≡ Some r → cutoff_at new.work n ≡ cutoff_at old.work n)
         → ((n : NodeId) → Given old.arena.given n → round.ShowsStill M old new n)
-        → round.IsLawful M old new (in_use observers) met → LeavesTried (look_refused new) met
-        → round.BuildsAllBut M old new (in_use observers) met
+        → round.IsLawful M old new (in_use observers.made) met → LeavesTried (look_refused new) met
+        → round.BuildsAllBut M old new (in_use observers.made) met
         → IsRefusedFor M (seen_as functions old observers rooted refused) (seen_as functions' new observers rooted (Some met)) cause
     refused_in cause is rest ran cutoffs shows lawful tried builds = record {
       was = still;
       stays = rest;
       observers = refl;
       rooted = refl;
+      notices = refl;
       ran = ap (λ v. v.items) ran;
       cutoff = cutoffs;
       shows = shows;
       met = met;
       broken = refl;
       is_cause = is;
-      lawful = before_is (λ (b : Look). IsLawfulIn M (round.left_by old new) (round.died_by old new) b (in_use observers) met) lawful.0;
+      lawful = before_is (λ (b : Look). IsLawfulIn M (round.left_by old new) (round.died_by old new) b (in_use observers.made) met) lawful.0;
       tried = tried;
       unbuilt = builds.0;
-      builds = before_is (λ (b : Look). BuildsRightIn M (round.left_by old new) (round.died_by old new) b (in_use observers) builds.0) builds.1;
+      builds = before_is (λ (b : Look). BuildsRightIn M (round.left_by old new) (round.died_by old new) b (in_use observers.made) builds.0) builds.1;
       build = builds.2;
       full = lawful.1;
     }

@@ -1,5 +1,5 @@
 -- How rows of points are seen.
-use Rattle.std.proofs.Common.{◌≡◌, ◌⊎◌, inl, inr, ℕ, List, Option, None, Some, refl, ap, ◌∙◌, sym, subst}
+use Rattle.std.proofs.Common.{◌≡◌, ◌⊎◌, inl, inr, ℕ, Option, None, Some, refl, ap, ◌∙◌, sym, subst}
 use Rattle.inc_value.specs.declared.node.NodeId.{NodeId}
 use Rattle.inc_value.specs.declared.node.Point.{Point}
 use Rattle.inc_terms.specs.Depend.{main, change}
@@ -26,7 +26,7 @@ use Rattle.wiring.proofs.Agreeing.{same_some}
 use Rattle.wiring.specs.declared.refused.Refused.{Refused}
 use Rattle.graph.specs.Effects.{KeepsBeside}
 use Rattle.graph.specs.Standing.{GraphView, IsNeeded}
-use Rattle.graph.specs.declared.observer.Observer.{Observer}
+use Rattle.observers.specs.Observers.{ObserversView}
 
 -- ---- cutoffs
 
@@ -35,20 +35,21 @@ pub equal_still : (now was : Cutoff) → (now ≡ was) ⊎ (now ≡ Equal) → w
 equal_still now was (inl same) e = same ∙ e
 equal_still now was (inr equal) e = equal
 
--- ---- a graph over its parts
+-- ---- a graph over its parts and its observers
 
-abbrev pub seen_as : {F : Type 0} → F → Parts → List Observer → ℕ → Option Refused → GraphView F
+abbrev pub seen_as : {F : Type 0} → F → Parts → ObserversView → ℕ → Option Refused → GraphView F
 seen_as functions parts observers rooted refused = record {
   functions = functions;
   nodes = parts.arena;
-  observers = observers;
+  observers = observers.made;
   rooted = rooted;
+  notices = observers.notices;
   ran = parts.ran.items;
   refused = refused;
   work = parts.work;
 }
 
-module _ {F : Type 0} (functions : F) (parts : Parts) (observers : List Observer) (rooted : ℕ) (refused : Option Refused) where
+module _ {F : Type 0} (functions : F) (parts : Parts) (observers : ObserversView) (rooted : ℕ) (refused : Option Refused) where
   -- by the parts
   pub needed_in : (p : Point) → IsNeeded (seen_as functions parts observers rooted refused) p → part.Needed parts.work.graph p
   needed_in p need = record { root = need.root; is_root = need.is_root; leads = need.leads }
@@ -90,14 +91,14 @@ module _ (old new : Parts) (id : NodeId) (v : Value) (set : IsSet old.arena new.
 
 -- ---- what stays beside nodes
 
-module _ {F : Type 0} (functions : F) (old new : Parts) (observers : List Observer) (rooted : ℕ) (refused : Option Refused) where
+module _ {F : Type 0} (functions : F) (old new : Parts) (observers : ObserversView) (rooted : ℕ) (refused : Option Refused) where
   pub beside_as : (Of : NodeId → Type 0) → new.ran ≡ old.ran → new.work.graph.links ≡ old.work.graph.links
       → new.work.graph.roots ≡ old.work.graph.roots → ((p : Point) → Of p.node → at new.work.rows p ≡ at old.work.rows p)
       → ((n : NodeId) → Of n → (graph_in new).built n ≡ (graph_in old).built n)
       → ((n : NodeId) → (cutoff_at new.work n ≡ cutoff_at old.work n) ⊎ (cutoff_at new.work n ≡ Equal))
       → KeepsBeside Of (seen_as functions old observers rooted refused) (seen_as functions new observers rooted refused)
   beside_as Of ran links roots rows built fewer = record {
-    top = record { functions = refl; rooted = refl; refused = refl; ran = ap (λ v. v.items) ran };
+    top = record { functions = refl; rooted = refl; refused = refl; ran = ap (λ v. v.items) ran; notices = refl };
     observers = refl;
     need = record { links = λ p q. ap (λ (l : Links). times l p q) links; roots = λ p. ap (λ (r : Roots). root_times r p) roots };
     of_nodes = record {

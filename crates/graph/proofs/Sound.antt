@@ -1,6 +1,6 @@
 -- What every graph keeps, over calls between stabilizes.
-use Rattle.std.proofs.Common.{◌≡◌, ℕ, ◌≤◌, List, take, Bool, Option, None, Some, refl, sym, ap, subst, ◌∙◌, arith, ◌+◌, option_map, Ok, Err}
-use Rattle.std.specs.Prelude.{IsSome, cond, Result, IfOk, OnOk, OnErr, IsErrOf}
+use Rattle.std.proofs.Common.{◌≡◌, ℕ, ◌≤◌, List, take, drop, Bool, true, Option, None, Some, refl, sym, ap, subst, ◌∙◌, arith, ◌+◌, option_map, Ok, Err}
+use Rattle.std.specs.Prelude.{IsSome, is_some, cond, Result, IfOk, OnOk, OnErr, IsErrOf}
 use Rattle.std.proofs.lemmas.Option.{none-some}
 use Rattle.inc_value.specs.declared.node.NodeId.{NodeId}
 use Rattle.inc_value.specs.declared.node.Point.{Point}
@@ -14,7 +14,7 @@ use Rattle.point_map.specs.Rows.{Rows, at}
 use Rattle.necessity.specs.Need.{Roots, root_times}
 use Rattle.node_arena.specs.Arena.{Arena, row_at, Changes, NamesGiven}
 use Rattle.node_arena.specs.Typing.{Fits, Makes, BindMakes}
-use Rattle.node_outcomes.specs.Computing.{seen_of}
+use Rattle.node_outcomes.specs.Computing.{seen, seen_of}
 use Rattle.node_outcomes.specs.Meaning.{Meaning}
 use Rattle.node_outcomes.specs.Row.{outcome_in, cutoff_in}
 use Rattle.node_outcomes.proofs.Held.{built_live, built_parts}
@@ -29,10 +29,12 @@ use Rattle.wiring.specs.Kept.{IsKept}
 use Rattle.wiring.specs.declared.refused.Refused.{Refused}
 use Rattle.wiring.specs.declared.work.Work.{Work}
 use Rattle.graph.specs.Sound.{IsSoundGraph, RootsFit}
-use Rattle.graph.specs.Standing.{in_use, GraphView}
+use Rattle.graph.specs.Standing.{GraphView}
+use Rattle.observers.specs.Observers.{ObserversView, in_use}
+use Rattle.stabilizer.specs.Telling.{ShowAsSeen}
 use Rattle.graph.proofs.Seeing.{seen_as}
 use Rattle.graph.specs.Inside.{CanStabilize, FitsInside}
-use Rattle.graph.specs.declared.observer.Observer.{Observer}
+use Rattle.observers.specs.declared.observer.Observer.{Observer}
 use Rattle.inc_value.specs.declared.function.FnRef.{FnRef}
 use Rattle.inc_value.specs.declared.value.Value.{Value}
 use Rattle.inc_terms.specs.Within.{Given}
@@ -50,7 +52,7 @@ use Rattle.stabilizer.specs.Weights.{SidesFit}
 use Rattle.graph.specs.Effects.{Adds, KeepsBesideGiven, CallsKnown}
 use Rattle.graph.proofs.Fitting.{known_fits, calls_fit, fit_added}
 use Rattle.node_arena.specs.Sound.{IsSoundArena}
-use Rattle.graph.proofs.Observing.{front_is_among}
+use Rattle.graph.proofs.Observing.{front_in, front_is_among, early_among, user_among, user_of}
 
 -- where a round may begin each bind that is built has a root that reads back
 pub ready_built : (M : Meaning) (parts : Parts) → IsReady M parts → Rooted M.functions (graph_in parts)
@@ -59,17 +61,32 @@ ready_built M parts ready = subst (Rooted M.functions) ready.stands.graph ready.
 module _ (M : Meaning) (old new : Parts) (observers : List Observer) (rooted : ℕ)
     (can : CanStabilize M old observers rooted) where
   -- roots, what is shown of rooted nodes and ids that were given stay
-  pub can_still : IsReady M new
+  pub can_still : ((o : Observer) → Among o (drop rooted observers) → o.shown ≡ None) → IsReady M new
       → ((p : Point) → root_times new.work.graph.roots p ≡ root_times old.work.graph.roots p)
       → (old.arena.given ≤ new.arena.given)
       → ((n : NodeId) → Among n (in_use (take rooted observers)) → at new.work.rows (main n) ≡ at old.work.rows (main n))
       → CanStabilize M new observers rooted
-  can_still ready roots given rows = record {
+  can_still later ready roots given rows = record {
     ready = ready;
     roots = λ p. roots p ∙ can.roots p;
     given = λ n among. let g = can.given n among in omega (arith, g, given);
-    shown = λ n among. subst (λ (k : Option Progress). IsSome (seen_of k)) (sym (rows n among)) (can.shown n among);
+    shown = λ o x among used shown. ap seen_of (rows o.node (user_among (take rooted observers) o (early_among observers rooted later o x among shown) used))
+        ∙ can.shown o x among used shown;
   }
+
+-- what is seen of the node of an observer that shows something is something
+some_seen : (x y : Option Outcome) → IsSome x → ((o : Outcome) → x ≡ Some o → y ≡ Some o) → IsSome y
+some_seen None y some h = absurd (cc)
+some_seen (Some o) y some h = ap is_some (h o refl)
+
+rooted_seen : (parts : Parts) (observers : List Observer) (rooted : ℕ) → ShowAsSeen parts observers
+    → ((o : Observer) → Among o (take rooted observers) → o.in_use ≡ true → IsSome o.shown)
+    → (n : NodeId) → Among n (in_use (take rooted observers)) → IsSome (seen parts.work.rows (main n))
+rooted_seen parts observers rooted shown showing n among =
+    let u = user_of (take rooted observers) n among in
+    subst (λ (m : NodeId). IsSome (seen parts.work.rows (main m))) u.looks
+    (some_seen u.user.shown (seen parts.work.rows (main u.user.node)) (showing u.user u.among u.used)
+    (λ o is. shown u.user o (front_in observers rooted u.user u.among) u.used is))
 
 -- ---- roots of binds
 
@@ -92,8 +109,8 @@ roots_fit arena work kept b r left f captures w root row bind built is =
     (fits.0, subst (λ (t : Ty). Fits arena root t) (sym makes.gives) fits.1)
 
 -- what callers are told of it
-pub sound_of : {F : Type 0} (functions : F) (M : Meaning) (parts : Parts) (observers : List Observer) (rooted : ℕ) (refused : Option Refused)
-    → FitsInside M parts observers rooted refused → IsSoundGraph M (seen_as functions parts observers rooted refused)
+pub sound_of : {F : Type 0} (functions : F) (M : Meaning) (parts : Parts) (observers : ObserversView) (rooted : ℕ) (refused : Option Refused)
+    → FitsInside M parts observers.made rooted refused → IsSoundGraph M (seen_as functions parts observers rooted refused)
 sound_of functions M parts observers rooted refused fits = record {
   few = fits.few;
   earlier = fits.earlier;
@@ -102,11 +119,14 @@ sound_of functions M parts observers rooted refused fits = record {
   built = fits.built;
   inside = fits.inside;
   typed = roots_fit parts.arena parts.work fits.kept.work;
+  showing = fits.showing;
+  later = fits.later;
   whole = λ whole. let can = fits.unbroken whole in record {
     roots = can.roots;
     fit = can.ready.fit;
     given = can.given;
-    shown = can.shown;
+    shown = rooted_seen parts observers.made rooted can.shown fits.showing;
+    seen = can.shown;
   };
 }
 
@@ -196,7 +216,9 @@ module _ (M : Meaning) (old new : Parts) (observers : List Observer) (rooted : �
     kept = (ready (sound.unbroken still).ready).kept;
     built = ready_built M new (ready (sound.unbroken still).ready);
     inside = (ready (sound.unbroken still).ready).inside;
-    unbroken = λ whole. let can = sound.unbroken whole in can_still M old new observers rooted can (ready can.ready) roots given (rows can);
+    showing = sound.showing;
+    later = sound.later;
+    unbroken = λ whole. let can = sound.unbroken whole in can_still M old new observers rooted can sound.later (ready can.ready) roots given (rows can);
   }
 
   pub sound_still : refused ≡ None → (IsReady M old → IsReady M new)

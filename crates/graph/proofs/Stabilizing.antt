@@ -1,6 +1,6 @@
 -- What a round gave, over other lists of the same nodes.
-use Rattle.std.proofs.Common.{◌≡◌, inl, inr, ℕ, ◌≤◌, List, ◌++◌, length, map, take, drop, Option, None, Some, Ok, Err, refl, sym, ap, subst, ◌∙◌, arith}
-use Rattle.std.specs.Prelude.{Result, OnOk, IsSome}
+use Rattle.std.proofs.Common.{◌≡◌, inl, inr, ℕ, ◌≤◌, ◌-◌, ◌^◌, true, List, ◌++◌, length, map, take, drop, Option, None, Some, Ok, Err, sym, ap, subst, ◌∙◌, arith}
+use Rattle.std.specs.Prelude.{Result, OnOk, IsSome, is_some}
 use Rattle.std.proofs.Math.Seq.{take-length}
 use Rattle.inc_value.specs.declared.outcome.Outcome.{Outcome}
 use Rattle.inc_value.specs.declared.node.NodeId.{NodeId}
@@ -21,10 +21,14 @@ use Rattle.stabilizer.specs.Round.{AreRooted, IsReady, IsUpToDate, IsLawful, Has
 use Rattle.stabilizer.specs.declared.parts.Parts.{Parts}
 use Rattle.wiring.specs.declared.refused.Refused.{Refused}
 use Rattle.wiring.specs.declared.refused.Refused.TheVariants.{Height, Cycle, Full, Memory}
-use Rattle.graph.specs.Inside.{CanStabilize}
-use Rattle.graph.specs.Standing.{in_use}
-use Rattle.graph.specs.declared.observer.Observer.{Observer}
-use Rattle.graph.proofs.Observing.{in_use_split, among_swapped, count_swapped}
+use Rattle.graph.specs.Inside.{CanStabilize, FitsInside}
+use Rattle.observers.specs.Observers.{in_use, told_by}
+use Rattle.stabilizer.specs.Telling.{shown_or, shows_of}
+use Rattle.observers.specs.declared.observer.Observer.{Observer}
+use Rattle.graph.proofs.Observing.{in_use_split, among_swapped, count_swapped, front_in, user_among}
+use Rattle.graph.proofs.Sound.{ready_built}
+use Rattle.graph.proofs.Telling.{in_use_told, length_told, told_user}
+use Rattle.observers.proofs.Lists.{none_left}
 use Rattle.inc_terms.proofs.Plan.{among_right}
 
 module _ (F : Functions) (G : Graph) (died : NodeId → Option NodeId) (xs ys : List NodeId) (same : (n : NodeId) → Among n xs → Among n ys) where
@@ -169,19 +173,36 @@ module _ (M : Meaning) (old new : Parts) (os : List Observer) (rooted : ℕ)
         k.2,
       )
 
-  shows_some : (x : Option Outcome) (o : Outcome) → x ≡ Some o → IsSome x
-  shows_some None o e = absurd cc
-  shows_some (Some y) o e = refl
+  -- ---- the observers once they were told of it
 
-  pub can_again : (M' : Meaning) → old.arena.given ≤ new.arena.given → IsReady M' new → IsUpToDate M.functions old new (in_use os)
-      → CanStabilize M' new os (length os)
-  can_again M' later ready right =
-      let whole : take (length os) os ≡ os = take-length os in
-      record {
-        ready = ready;
-        roots = subst (λ (xs : List Observer). AreRooted new.work (in_use xs)) (sym whole) right.roots;
-        given = λ n among. let g = can.given n among in omega (arith, g, later);
-        shown = λ n among.
-            let s = right.sees n (n, inl (subst (λ (xs : List Observer). Among n (in_use xs)) whole among), here) in
-            shows_some (seen new.work.rows (main n)) s.0 s.1;
-      }
+  abbrev told : List Observer
+  told = told_by (shows_of new) os
+
+  showing_again : (o : Observer) → Among o (take (length told) told) → o.in_use ≡ true → IsSome o.shown
+  showing_again o among used = ap is_some (told_user (shows_of new) os o (front_in told (length told) o among) used).shown
+
+  can_again : (M' : Meaning) → old.arena.given ≤ new.arena.given → IsReady M' new → IsUpToDate M.functions old new (in_use os)
+      → CanStabilize M' new told (length told)
+  can_again M' later ready right = record {
+    ready = ready;
+    roots = subst (AreRooted new.work) (sym (ap in_use (take-length told) ∙ in_use_told (shows_of new) os)) right.roots;
+    given = λ n among. let g = can.given n (subst (Among n) (in_use_told (shows_of new) os) among) in omega (arith, g, later);
+    shown = λ o x among used shown.
+        let t = told_user (shows_of new) os o among used in
+        let s = right.sees t.one.node (t.one.node, inl (user_among os t.one t.among t.used), here) in
+        subst (λ (n : NodeId). seen new.work.rows (main n) ≡ Some x) (sym t.node)
+        (s.1 ∙ (sym (ap (λ (k : Option Outcome). Some (shown_or k)) s.1) ∙ (sym t.shown ∙ shown)));
+  }
+
+  pub sound_again : (M' : Meaning) (refused : Option Refused) → length os ≤ 2 ^ 32 - 1 → old.arena.given ≤ new.arena.given → IsReady M' new
+      → IsUpToDate M.functions old new (in_use os) → FitsInside M' new told (length told) refused
+  sound_again M' refused few later ready right = record {
+    few = let l = length_told (shows_of new) os in omega (arith, l, few);
+    earlier = omega arith;
+    kept = ready.kept;
+    built = ready_built M' new ready;
+    inside = ready.inside;
+    showing = showing_again;
+    later = λ o among. absurd (none_left o told (length told) (omega arith) among);
+    unbroken = λ whole. can_again M' later ready right;
+  }

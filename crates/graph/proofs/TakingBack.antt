@@ -1,5 +1,5 @@
 -- Nodes that are taken back aren't needed.
-use Rattle.std.proofs.Common.{◌≡◌, ◌⊎◌, inl, inr, ℕ, zero, suc, ◌<◌, ◌≤◌, Bool, List, map, take, Option, None, Some, IfSome, sym, ap, subst, ◌∙◌, arith}
+use Rattle.std.proofs.Common.{◌≡◌, inl, inr, ℕ, ◌<◌, ◌≤◌, Bool, List, map, take, Option, None, Some, IfSome, sym, ap, subst, ◌∙◌, arith}
 use Rattle.inc_value.specs.declared.function.FnRef.{FnRef}
 use Rattle.inc_value.specs.declared.node.NodeId.{NodeId}
 use Rattle.inc_value.specs.declared.node.Point.{Point}
@@ -22,11 +22,12 @@ use Rattle.wiring.specs.declared.work.Work.{Work}
 use Rattle.wiring.specs.Kept.{IsKept}
 use Rattle.graph.specs.Effects.{KeepsBeside, Adds, NoneScopedSince}
 use Rattle.graph.proofs.Fitting.{fit_left}
-use Rattle.graph.specs.Standing.{GraphView, IsNeeded, in_use}
+use Rattle.graph.specs.Standing.{GraphView, IsNeeded}
+use Rattle.observers.specs.Observers.{in_use}
 use Rattle.graph.specs.Inside.{FitsInside}
-use Rattle.graph.specs.declared.observer.Observer.{Observer}
+use Rattle.observers.specs.declared.observer.Observer.{Observer}
 use Rattle.graph.proofs.Sound.{sound_observed}
-use Rattle.graph.proofs.Unobserving.{mains_among}
+use Rattle.graph.proofs.Unobserving.{at_or_past, mains_among}
 use Rattle.graph.proofs.Needing.{needed_root, needed_linked, needed_has}
 use Rattle.necessary_graph.proofs.Reaching.{root_needed}
 
@@ -39,11 +40,6 @@ young_roots work nodes count roots low n among =
     low (main n) (root_needed work.graph (main n) (omega (arith, r, c)))
 
 -- ---- what is kept then
-
-at_or_past : (n count : ℕ) → (n < count) ⊎ (count ≤ n)
-at_or_past n zero = inr (omega arith)
-at_or_past zero (suc count) = inl (omega arith)
-at_or_past (suc n) (suc count) = elim (at_or_past n count) [ inl h ↦ inl (omega (arith, h)) | inr h ↦ inr (omega (arith, h)) ]
 
 module _ (M : Meaning) (old new : Parts) (observers : List Observer) (rooted : ℕ)
     (refused : Option Refused) (sound : FitsInside M old observers rooted refused) (count : ℕ)

@@ -1,6 +1,6 @@
 -- What calls do to a graph, and what they leave.
-use Rattle.std.specs.Prelude.{◌≡◌, ◌≢◌, ◌⊎◌, ◌↔◌, ◌+◌, ◌<◌, ◌≤◌, ◌++◌, ℕ, Bool, IsTrue, true, false, [], ◌∷◌, length, slice_set, None, Some}
-use Rattle.std.specs.Prelude.{Result, IfOk, IfErr, OnErr, IsErrOf}
+use Rattle.std.specs.Prelude.{◌≡◌, ◌≢◌, ◌⊎◌, ◌↔◌, ◌+◌, ◌<◌, ◌≤◌, ◌++◌, ℕ, Bool, IsTrue, [], ◌∷◌, length, slice_set, None, Some}
+use Rattle.std.specs.Prelude.{Result, IfOk, IfErr, OnErr, IsErrOf, IsSome}
 use Rattle.inc_value.specs.declared.function.FnRef.{FnRef}
 use Rattle.inc_value.specs.declared.node.ObsId.{ObsId}
 use Rattle.inc_value.specs.declared.node.NodeId.{NodeId}
@@ -15,7 +15,8 @@ use Rattle.map_nodes.specs.declared.cutoff.Cutoff.TheVariants.{Equal}
 use Rattle.node_arena.specs.Arena.{Arena, row_at, Changes, IsLive, IsFull, IsSet, NamesGiven}
 use Rattle.node_arena.specs.RightSide.{RightSide, AreFit}
 use Rattle.node_arena.specs.Typing.{Makes}
-use Rattle.graph.specs.Standing.{GraphView, IsUnbroken, IsBroken, graph, node_at, shown_of, chosen_by, called_last, cutoff_of, times_linked, times_rooted}
+use Rattle.observers.specs.Observers.{new_observer, ended, watched, node_at}
+use Rattle.graph.specs.Standing.{GraphView, IsUnbroken, IsBroken, graph, shown_of, chosen_by, called_last, cutoff_of, times_linked, times_rooted}
 use Rattle.graph.specs.declared.fault.Kept.{Kept}
 use Rattle.graph.specs.declared.fault.GraphFault.{GraphFault}
 use Rattle.graph.specs.declared.fault.GraphFault.TheVariants as fault
@@ -41,12 +42,13 @@ IsAddFault e = ((cause : Kept) × (e ≡ fault.Broken cause)) ⊎ (e ≡ fault.U
     ⊎ (e ≡ fault.Memory)
 
 module _ {F : Type 0} where
-  -- the functions stay, what the last accepted stabilize told and what broke the graph
+  -- the functions stay, what the last accepted stabilize called and told, and what broke the graph
   pub record KeepsTop (old new : GraphView F) : Type 0 where
     pub functions : new.functions ≡ old.functions
     pub rooted : new.rooted ≡ old.rooted
     pub refused : new.refused ≡ old.refused
     pub ran : new.ran ≡ old.ran
+    pub notices : new.notices ≡ old.notices
 
   -- links and roots stay, by which need is known
   pub record KeepsNeed (old new : GraphView F) : Type 0 where
@@ -161,13 +163,13 @@ module _ {F : Type 0} where
   -- an observer of a node was made, and nothing else changed
   pub record Observes (old new : GraphView F) (o : ObsId) (node : NodeId) : Type 0 where
     pub id : o.0 ≡ length old.observers
-    pub rest : new ≡ record old { observers = old.observers ++ record { node = node; in_use = true } ∷ [] }
+    pub rest : new ≡ record old { observers = old.observers ++ new_observer node ∷ [] }
 
   -- an observer that was in use was ended; beside it only need changed, where it was there when a stabilize was accepted last
   pub record Ends (old new : GraphView F) (o : ObsId) : Type 0 where
     pub node : NodeId
     pub was : node_at old.observers o ≡ Some node
-    pub observers : new.observers ≡ slice_set old.observers o.0 (record { node = node; in_use = false })
+    pub observers : new.observers ≡ slice_set old.observers o.0 (ended node)
     pub top : KeepsTop old new
     pub nodes : new.nodes ≡ old.nodes
     pub of_nodes : KeepsNodes (λ n. Unit {0}) old new
@@ -175,7 +177,12 @@ module _ {F : Type 0} where
     pub fewer_links : (p q : Point) → times_linked new p q ≤ times_linked old p q
     pub fewer_roots : (p : Point) → times_rooted new p ≤ times_rooted old p
 
--- why a node may not be set or observed, and why no function is kept; why an observer may not be ended, and why not asked
+  -- an observer in use is watched from now on, if it wasn't, and nothing else changed
+  pub record Watches (old new : GraphView F) (o : ObsId) : Type 0 where
+    pub known : IsSome (node_at old.observers o)
+    pub rest : new ≡ record old { observers = watched o.0 old.observers }
+
+-- why a node may not be set or observed, and why no function is kept; why an observer may be neither ended nor watched, and why not asked
 abbrev pub IsKeepFault : GraphFault → Type 0
 IsKeepFault e = ((cause : Kept) × (e ≡ fault.Broken cause)) ⊎ (e ≡ fault.TooMany) ⊎ (e ≡ fault.Memory)
 

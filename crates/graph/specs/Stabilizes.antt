@@ -10,6 +10,7 @@ use Rattle.inc_terms.specs.Graph.{Graph, Row}
 use Rattle.inc_terms.specs.Need.{left_by_call}
 use Rattle.inc_terms.specs.Term.{Functions}
 use Rattle.inc_terms.specs.Within.{Given}
+use Rattle.observers.specs.Observers.{in_use, node_at, notices_of, told_by}
 use Rattle.stabilize_round.specs.Laws.{GraphStays}
 use Rattle.stabilizer.specs.Left as left
 use Rattle.stabilizer.specs.Left.{BuildsRightIn, IsUpToDateIn, IsLawfulIn, ShowsStillIn, HasCalledMetIn, RefusesBuild, LeavesTried}
@@ -17,7 +18,7 @@ use Rattle.stabilizer.specs.Round.{IsFullBy}
 use Rattle.wiring.specs.Stands.{Counts}
 use Rattle.wiring.specs.declared.refused.Refused.{Refused}
 use Rattle.graph.specs.Fault.{kept_of}
-use Rattle.graph.specs.Standing.{GraphView, look, graph, in_use, node_at, shown_of, cutoff_of, IsUnbroken}
+use Rattle.graph.specs.Standing.{GraphView, look, graph, shown_of, shows_now, cutoff_of, IsUnbroken}
 use Rattle.graph.specs.declared.fault.Kept.{Kept}
 use Rattle.graph.specs.declared.fault.Kept.TheVariants as kept
 use Rattle.graph.specs.declared.fault.StabilizeFault.{StabilizeFault}
@@ -40,27 +41,30 @@ module _ {F : Type 0} where
   -- ---- over the graph that a stabilize left, and those who died in it
 
   module _ (M : Functions) (G : Graph) (died : NodeId → Option NodeId) where
-    -- an accepted stabilize: each observer in use shows what its node gives, evaluated from scratch; observers stay, and of nodes what a round leaves;
-    -- each bind could be built that was due; and what is needed, linked, shown and called is right
+    -- an accepted stabilize: each observer in use shows what its node gives, evaluated from scratch, and of those that are watched it is told, in the order
+    -- in which they were made; of nodes what a round leaves stays; each bind could be built that was due; and what is needed, linked, shown and called is
+    -- right
     pub record StabilizesIn (after : Graph) (old new : GraphView F) : Type 0 where
       pub was : IsUnbroken old
       pub unbroken : IsUnbroken new
       pub stays : GraphStays old.nodes.given new.nodes.given (graph old) (left_by old new)
       pub builds : BuildsRightIn M G died (look old) (in_use old.observers) None
-      pub observers : new.observers ≡ old.observers
+      pub observers : new.observers ≡ told_by (shows_now new) old.observers
+      pub notices : new.notices ≡ notices_of (shows_now new) 0 old.observers
       pub rooted : new.rooted ≡ length new.observers
       pub shows : (o : ObsId) (n : NodeId) → node_at new.observers o ≡ Some n → (x : Outcome) × (shown_of new n ≡ Some x) × NodeGives M G n x
       pub right : IsUpToDateIn M G died after (look old) (look new) (in_use old.observers) new.ran
 
     -- a refused stabilize: the graph is broken, with what was met, which is so in the graph, and was tried on what was confirmed; where it met that the
-    -- nodes are full, a build in it found no room for a further node. Observers stay, and cutoffs of nodes that live, and of nodes what a round leaves;
-    -- what is shown of a node that was given before is what was before, or what it gives. One bind couldn't be built, for want of room or of memory, or
-    -- none
+    -- nodes are full, a build in it found no room for a further node. Observers stay, also what they show and what was told of them last, and cutoffs of nodes
+    -- that live, and of nodes what a round leaves; what is shown of a node that was given before is what was before, or what it gives. One bind couldn't be
+    -- built, for want of room or of memory, or none
     pub record IsRefusedIn (old new : GraphView F) (cause : Kept) : Type 0 where
       pub was : IsUnbroken old
       pub stays : GraphStays old.nodes.given new.nodes.given (graph old) (left_by old new)
       pub observers : new.observers ≡ old.observers
       pub rooted : new.rooted ≡ old.rooted
+      pub notices : new.notices ≡ old.notices
       pub ran : new.ran ≡ old.ran
       pub cutoff : (n : NodeId) (r : Row) → G.row n ≡ Some r → cutoff_of new n ≡ cutoff_of old n
       pub shows : (n : NodeId) → Given old.nodes.given n → ShowsStillIn M G died (look old) (look new) n

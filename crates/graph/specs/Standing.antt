@@ -1,7 +1,6 @@
 -- What a contract sees of a graph.
-use Rattle.std.specs.Prelude.{◌≡◌, ◌⊎◌, ◌-◌, ℕ, cond, List, [], ◌∷◌, take, Option, None, Some, slice_get}
+use Rattle.std.specs.Prelude.{◌≡◌, ◌⊎◌, ◌-◌, ℕ, List, take, Option, None, Some}
 use Rattle.inc_value.specs.declared.node.NodeId.{NodeId}
-use Rattle.inc_value.specs.declared.node.ObsId.{ObsId}
 use Rattle.inc_value.specs.declared.node.Point.{Point}
 use Rattle.inc_value.specs.declared.outcome.Outcome.{Outcome}
 use Rattle.inc_value.specs.Choice.{and_then}
@@ -9,15 +8,17 @@ use Rattle.inc_terms.specs.Graph.{Graph, Row, Built}
 use Rattle.inc_terms.specs.Rebuild.{Inside}
 use Rattle.map_nodes.specs.declared.cutoff.Cutoff.{Cutoff}
 use Rattle.node_arena.specs.Arena.{Arena}
-use Rattle.node_outcomes.specs.Computing.{seen}
+pub use Rattle.observers.specs.Observers.{in_use, looked_at, node_at}
+use Rattle.observers.specs.declared.notice.Notice.{Notice}
+use Rattle.observers.specs.declared.observer.Observer.{Observer}
 use Rattle.stabilize_round.specs.State.{Call}
 use Rattle.stabilizer.specs.Look as seen
 use Rattle.stabilizer.specs.Look.{Look, look_of}
+use Rattle.stabilizer.specs.Telling.{shown_or}
 use Rattle.wiring.specs.declared.work.Work.{Work}
 use Rattle.wiring.specs.declared.refused.Refused.{Refused}
 use Rattle.graph.specs.Fault.{kept_of}
 use Rattle.graph.specs.declared.fault.Kept.{Kept}
-use Rattle.graph.specs.declared.observer.Observer.{Observer}
 
 -- a graph
 pub record GraphView (F : Type 0) : Type 0 where
@@ -28,6 +29,8 @@ pub record GraphView (F : Type 0) : Type 0 where
   -- its observers, in the order in which they were made, and how many of them there were when a stabilize was accepted last
   pub observers : List Observer
   pub rooted : ℕ
+  -- what the stabilize that was accepted last told of watched observers
+  pub notices : List Notice
   -- whose functions were called by the stabilize that was accepted last, each once
   pub ran : List NodeId
   -- what a refused stabilize met
@@ -57,26 +60,11 @@ without_functions s = record {
   nodes = s.nodes;
   observers = s.observers;
   rooted = s.rooted;
+  notices = s.notices;
   ran = s.ran;
   refused = s.refused;
   work = s.work;
 }
-
--- ---- observers
-
--- the nodes of the observers that are in use
-abbrev pub in_use : List Observer → List NodeId
-in_use [] = []
-in_use (o ∷ os) = cond o.in_use (o.node ∷ in_use os) (in_use os)
-
--- the node of an observer, if it is in use
-abbrev pub looked_at : Option Observer → Option NodeId
-looked_at None = None
-looked_at (Some o) = cond o.in_use (Some o.node) None
-
--- the node that an observer looks at, if it was made and is in use
-abbrev pub node_at : List Observer → ObsId → Option NodeId
-node_at os o = looked_at (slice_get os o.0)
 
 -- ---- what can be looked at
 
@@ -93,6 +81,10 @@ module _ {F : Type 0} where
   -- what is shown of a node: the outcome that it had when it was brought up to date last, Invalid of a dead one
   abbrev pub shown_of : GraphView F → NodeId → Option Outcome
   shown_of s n = (look s).shown n
+
+  -- what a node shows, Invalid where it shows nothing
+  abbrev pub shows_now : GraphView F → NodeId → Outcome
+  shows_now s n = shown_or (shown_of s n)
 
   -- by which outcome of its test or child an if or a join last chose its right side
   abbrev pub chosen_by : GraphView F → NodeId → Option Outcome

@@ -20,9 +20,9 @@ mod timed;
 mod undo;
 
 use crate::fault::{GraphFault, Kept, cause_of};
-use crate::observer::Observer;
-use inc_value::{NodeId, Outcome};
+use inc_value::NodeId;
 use node_arena::Functions;
+use observers::Observers;
 pub use stabilize::Round;
 use stabilizer::{Parts, Refused};
 use std::alloc::Global;
@@ -38,11 +38,9 @@ pub struct Graph<F: Functions> {
     alloc: Global,
     functions: F,
     parts: Parts,
-    observers: Vec<Observer>,
+    observers: Observers,
     /// How many observers had been made when the last stabilize was accepted. Their nodes are roots, where they are in use.
     rooted: usize,
-    /// What an observer of a dead node shows.
-    invalid: Outcome,
     refused: Option<Refused>,
 }
 
@@ -55,13 +53,11 @@ impl<F: Functions> Drop for Graph<F> {
             parts,
             observers,
             rooted: _,
-            invalid,
             refused,
         } = self;
         drop(functions);
         drop(parts);
         drop(observers);
-        drop(invalid);
         drop(refused);
     }
 }
@@ -74,21 +70,19 @@ impl<F: Functions> Model for Graph<F> {
     ghost view = { λ g. record {
       functions = g.functions;
       nodes = g.parts.arena;
-      observers = g.observers.items;
+      observers = g.observers.made;
       rooted = g.rooted;
+      notices = g.observers.notices;
       ran = g.parts.ran.items;
       refused = g.refused;
       work = g.parts.work;
     } };
 
-    ghost use Rattle.std.specs.Prelude.{◌≡◌};
-    ghost use Rattle.inc_value.specs.declared.outcome.Outcome.TheVariants.{Invalid};
     ghost use Rattle.graph.specs.Inside.{FitsInside};
     ghost use Rattle.stabilizer.specs.Weights.{SidesFit};
     ghost use Rattle.node_outcomes.specs.Meaning.{meaning_of};
 
-    ghost invariant = { λ g. (g.invalid ≡ Invalid)
-        × FitsInside (meaning_of F.Functions g.functions) g.parts g.observers.items g.rooted g.refused
+    ghost invariant = { λ g. FitsInside (meaning_of F.Functions g.functions) g.parts g.observers.made g.rooted g.refused
         × F.is_sound g.functions
         × SidesFit (F.known g.functions) (F.right g.functions) g.parts.arena };
 }
@@ -105,6 +99,7 @@ impl<F: Functions> Graph<F> {
         ensures cutoff { (n : NodeId) → cutoff_of result n ≡ Equal }
         ensures observers { result.observers ≡ [] }
         ensures rooted { result.rooted ≡ 0 }
+        ensures notices { result.notices ≡ [] }
         ensures roots { (p : Point) → times_rooted result p ≡ 0 }
         ensures links { (p q : Point) → times_linked result p q ≡ 0 }
         ensures uncalled { (n : NodeId) → called_last result n ≡ None }
@@ -115,9 +110,8 @@ impl<F: Functions> Graph<F> {
             alloc,
             functions,
             parts: Parts::new(alloc),
-            observers: Vec::new(alloc),
+            observers: Observers::new(alloc),
             rooted: 0,
-            invalid: Outcome::Invalid,
             refused: None,
         }
     }
@@ -141,12 +135,10 @@ impl<F: Functions> Graph<F> {
             parts,
             observers,
             rooted: _,
-            invalid,
             refused,
         } = self;
         drop(parts);
         drop(observers);
-        drop(invalid);
         drop(refused);
         functions
     }

@@ -4,9 +4,9 @@
 
 mod fault;
 mod graph;
-mod observer;
 
 pub use fault::{GraphFault, Kept, StabilizeFault};
 pub use graph::{Graph, Mark, Round};
 pub use map_nodes::Cutoff;
+pub use observers::{Notice, Told};
 pub use stabilizer::Refused;

@@ -18,3 +18,5 @@ mod tables;
 mod tests;
 #[cfg(test)]
 mod timing;
+#[cfg(test)]
+mod watching;

@@ -16,9 +16,9 @@ ghost use Rattle.graph.specs.declared.fault.Kept.TheVariants as kept;
 
 use super::Graph;
 use crate::fault::{Kept, StabilizeFault, cause_of};
-use crate::observer::nodes_in_use;
 use inc_value::NodeId;
 use node_arena::Functions;
+use observers::Notice;
 use stabilizer::{Refused, Stabilizer};
 use std::alloc::AllocError;
 
@@ -28,6 +28,8 @@ pub struct Round<'a> {
     /// The maps and folds whose functions were called, each once. A fold of no nodes takes no call and isn't
     /// listed.
     pub ran: &'a [NodeId],
+    /// What was told of watched observers, in the order in which these were made.
+    pub notices: &'a [Notice],
 }
 
 impl<F: Functions> Graph<F> {
@@ -62,18 +64,23 @@ impl<F: Functions> Graph<F> {
         if let Some(cause) = self.cause() {
             return Err(StabilizeFault::Broken(cause));
         }
-        let roots = match nodes_in_use(self.alloc, &self.observers, self.rooted) {
+        let roots = match self.observers.in_use(self.rooted) {
             Ok(roots) => roots,
             Err(AllocError) => {
                 self.refused = Some(Refused::Memory);
                 return Err(StabilizeFault::Refused(Kept::Memory));
             }
         };
-        let ended = Stabilizer::run(&mut self.parts, &mut self.functions, &roots);
+        let ended = Stabilizer::run(
+            &mut self.parts,
+            &mut self.functions,
+            &roots,
+            &mut self.observers,
+        );
         drop(roots);
         match ended {
             Ok(()) => {
-                self.rooted = self.observers.len();
+                self.rooted = self.observers.made().len();
                 Ok(())
             }
             Err(refused) => {
@@ -86,10 +93,12 @@ impl<F: Functions> Graph<F> {
 
     /// What the last accepted stabilize did.
     pub fn round(&self) -> Round<'_>
-        ensures { result.ran.now ≡ self.now.ran }
+        ensures ran { result.ran.now ≡ self.now.ran }
+        ensures notices { result.notices.now ≡ self.now.notices }
     {
         Round {
             ran: self.parts.ran(),
+            notices: self.observers.notices(),
         }
     }
 }

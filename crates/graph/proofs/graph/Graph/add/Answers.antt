@@ -20,26 +20,25 @@ no_truth e = cc
 
 pub invariant_of-self : goal.invariant_of-self
 invariant_of-self g c = (
-  c.self.invariant.0,
   (let a = c.add-added.ensures in
       let answers : AddAnswers c.self.inside.parts.arena c.add-added.new.self.arena (def_of c.args.def) c.args.ty c.add-added.result
       = record { added = a.adds.added; given = a.adds.given; err = a.adds.err; fresh = a.adds.id; unknown = a.unknown.1 } in
       let f = c.self.inside.functions in
       let known = rw (← c.self.view_is) at c.requires.known in
-      sound_still _ c.self.inside.parts c.add-added.new.self c.self.inside.observers.items c.self.inside.rooted c.self.inside.refused c.self.invariant.1
+      sound_still _ c.self.inside.parts c.add-added.new.self c.self.inside.observers.made c.self.inside.rooted c.self.inside.refused c.self.invariant.0
       (rw (← c.self.view_is) at c.in-Ok.ensures.unbroken) (answer_ready (g.F.Functions.known f) (g.F.Functions.value f) (g.F.Functions.right f)
-      (g.met.F.Functions.sides f c.self.invariant.2) c.self.inside.parts c.add-added.new.self (def_of c.args.def) c.args.ty c.add-added.result answers known a.adds.kept.work.sound a.adds.ready a.adds.err_ready)
+      (g.met.F.Functions.sides f c.self.invariant.1) c.self.inside.parts c.add-added.new.self (def_of c.args.def) c.args.ty c.add-added.result answers known a.adds.kept.work.sound a.adds.ready a.adds.err_ready)
       (λ p. ap (λ (r : Roots). root_times r p) a.adds.roots)
       (answer_given _ _ (def_of c.args.def) c.args.ty c.add-added.result answers) (λ n given. a.adds.rows (main n) given)),
-  c.self.invariant.2,
+  c.self.invariant.1,
   (let a = c.add-added.ensures in
       let answers : AddAnswers c.self.inside.parts.arena c.add-added.new.self.arena (def_of c.args.def) c.args.ty c.add-added.result
       = record { added = a.adds.added; given = a.adds.given; err = a.adds.err; fresh = a.adds.id; unknown = a.unknown.1 } in
       let f = c.self.inside.functions in
       let known = rw (← c.self.view_is) at c.requires.known in
-      answer_fit (g.F.Functions.known f) (g.F.Functions.right f) (g.met.F.Functions.sides f c.self.invariant.2) c.self.inside.parts.arena
+      answer_fit (g.F.Functions.known f) (g.F.Functions.right f) (g.met.F.Functions.sides f c.self.invariant.1) c.self.inside.parts.arena
       c.add-added.new.self.arena (def_of c.args.def) c.args.ty c.add-added.result answers known a.adds.kept.work.sound a.adds.keeps c.self.inside.parts.work
-      c.self.invariant.1.kept.work c.self.invariant.3),
+      c.self.invariant.0.kept.work c.self.invariant.2),
 )
 
 pub returns-then-not-is_timed : goal.returns-then-not-is_timed
@@ -59,7 +58,7 @@ returns g c =
     ] in
     let answers : AddAnswers c.self.inside.parts.arena c.add-added.new.self.arena (def_of c.args.def) c.args.ty c.add-added.result
     = record { added = a.adds.added; given = a.adds.given; err = a.adds.err; fresh = a.adds.id; unknown = a.unknown.1 } in
-    let beside = beside_as c.self.inside.functions c.self.inside.parts c.add-added.new.self c.self.inside.observers.items c.self.inside.rooted
+    let beside = beside_as c.self.inside.functions c.self.inside.parts c.add-added.new.self c.self.inside.observers c.self.inside.rooted
     c.self.inside.refused (Given c.self.inside.parts.arena.given) a.adds.ran a.adds.links a.adds.roots a.adds.rows
     (λ n given. built_still c.self.inside.parts c.add-added.new.self n (a.adds.keeps n given) (ap outcome_in (a.adds.rows (change n) given))
     (ap (λ (m : Rows NodeId). at m (change n)) a.adds.right_sides))

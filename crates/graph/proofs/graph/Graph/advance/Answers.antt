@@ -10,13 +10,12 @@ use Rattle.graph.proofs.graph.Graph.advance.Goals.{in-Ok, in-Err}
 
 pub invariant_of-self : goal.invariant_of-self
 invariant_of-self g c = (
-  c.self.invariant.0,
-  sound_but_heap _ c.self.inside.parts c.advance.new.self c.self.inside.observers.items c.self.inside.rooted c.self.inside.refused c.self.invariant.1
+  sound_but_heap _ c.self.inside.parts c.advance.new.self c.self.inside.observers.made c.self.inside.rooted c.self.inside.refused c.self.invariant.0
       (rw (← c.self.view_is) at c.in_ok-check.ensures.unbroken) c.advance.ensures.stays,
-  c.self.invariant.2,
+  c.self.invariant.1,
   (let a = c.advance.ensures in
       moved_fit (g.F.Functions.known c.self.inside.functions) (g.F.Functions.right c.self.inside.functions) c.self.inside.parts c.advance.new.self _
-      c.advance.result a.moved a.err c.self.invariant.3),
+      c.advance.result a.moved a.err c.self.invariant.2),
 )
 
 pub returns-clause-back : goal.returns-clause-back
@@ -40,7 +39,7 @@ pub returns-clause-moved : goal.returns-clause-moved
 returns-clause-moved g c =
     let same : to_z w64 (of_z w64 c.args.to) ≡ c.args.to = omega (arith, ints, c.ranges.to) in
     rw (← c.self.view_is) (answer_moves c.self.inside.functions c.self.inside.parts c.advance.new.self
-    c.self.inside.observers.items c.self.inside.rooted c.self.inside.refused c.args.to c.advance.result c.match-advance.result
+    c.self.inside.observers c.self.inside.rooted c.self.inside.refused c.args.to c.advance.result c.match-advance.result
     (elim c.match-advance.branch [
       | in-Ok w ↦ subst (λ r. Passes r c.match-advance.result) (sym w.in-Ok.is) w.result-is
       | in-Err w ↦ subst (λ r. Passes r c.match-advance.result) (sym w.in-Err.is) (w.result-is ∙ ap Err w.advance_fault.ensures)
@@ -49,7 +48,7 @@ returns-clause-moved g c =
 
 pub returns-clause-err : goal.returns-clause-err
 returns-clause-err g c = rw (← c.self.view_is) (answer_stays c.self.inside.functions c.self.inside.parts c.advance.new.self
-    c.self.inside.observers.items c.self.inside.rooted c.self.inside.refused c.advance.result c.match-advance.result
+    c.self.inside.observers c.self.inside.rooted c.self.inside.refused c.advance.result c.match-advance.result
     (elim c.match-advance.branch [
       | in-Ok w ↦ subst (λ r. Passes r c.match-advance.result) (sym w.in-Ok.is) w.result-is
       | in-Err w ↦ subst (λ r. Passes r c.match-advance.result) (sym w.in-Err.is) (w.result-is ∙ ap Err w.advance_fault.ensures)

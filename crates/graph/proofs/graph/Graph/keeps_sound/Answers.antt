@@ -8,12 +8,12 @@ use Rattle.graph.proofs.graph.Graph.keeps_sound.Goals as goal
 pub returns : goal.returns
 returns g c =
     let inside = c.self.inside in
-    let fits = c.self.invariant.1 in
+    let fits = c.self.invariant.0 in
     let right = g.F.Functions.right inside.functions in
     rw (← c.self.view_is) (record {
-      sound = sound_of inside.functions (meaning_of g.F.Functions inside.functions) inside.parts inside.observers.items inside.rooted inside.refused fits;
-      functions = c.self.invariant.2;
-      few = few_live right inside.parts.arena c.self.invariant.3.scopes fits.kept.work.scopes;
-      scopes = scopes_few right inside.parts.arena inside.parts.work c.self.invariant.3.scopes fits.kept.work;
+      sound = sound_of inside.functions (meaning_of g.F.Functions inside.functions) inside.parts inside.observers inside.rooted inside.refused fits;
+      functions = c.self.invariant.1;
+      few = few_live right inside.parts.arena c.self.invariant.2.scopes fits.kept.work.scopes;
+      scopes = scopes_few right inside.parts.arena inside.parts.work c.self.invariant.2.scopes fits.kept.work;
       dead = dead_equal inside.parts.arena inside.parts.work fits.kept.work;
     })

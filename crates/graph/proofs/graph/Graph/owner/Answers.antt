@@ -15,12 +15,12 @@ returns-in_err-bind-clause-dead g c =
 
 pub loop-bind-smaller : goal.loop-bind-smaller
 loop-bind-smaller g c =
-    c.self.invariant.1.kept.work.older c.loop-bind.top c.in-Some.bind (row_of c.in_ok-bind.field-0.now)
+    c.self.invariant.0.kept.work.older c.loop-bind.top c.in-Some.bind (row_of c.in_ok-bind.field-0.now)
     (rw c.arena.ensures at (sym c.in_ok-bind.ensures)) c.in-Some.is
 
 pub loop-bind-preserved : goal.loop-bind-preserved
 loop-bind-preserved g c =
-    let kept = c.self.invariant.1.kept.work in
+    let kept = c.self.invariant.0.kept.work in
     further (graph_at c.self.inside.parts.arena c.self.inside.parts.work) c.args.node kept.scopes c.loop-bind.top c.in-Some.bind
     (row_of c.in_ok-bind.field-0.now) (rw c.arena.ensures at (sym c.in_ok-bind.ensures)) c.in-Some.is c.loop-bind.invariant
 

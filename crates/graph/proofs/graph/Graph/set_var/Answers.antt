@@ -39,13 +39,12 @@ returns-clause-wrong_type g c = rw (← c.self.view_is) (passed c.set_var.result
 
 pub invariant_of-self : goal.invariant_of-self
 invariant_of-self g c = (
-  c.self.invariant.0,
-  sound_but_heap _ c.self.inside.parts c.set_var.new.self c.self.inside.observers.items c.self.inside.rooted c.self.inside.refused c.self.invariant.1
+  sound_but_heap _ c.self.inside.parts c.set_var.new.self c.self.inside.observers.made c.self.inside.rooted c.self.inside.refused c.self.invariant.0
       (rw (← c.self.view_is) at c.in-Ok.ensures.unbroken) c.set_var.ensures.stays,
-  c.self.invariant.2,
+  c.self.invariant.1,
   (let a = c.set_var.ensures in
       set_answer_fit (g.F.Functions.known c.self.inside.functions) (g.F.Functions.right c.self.inside.functions) c.self.inside.parts c.set_var.new.self
-      c.args.node c.args.value c.set_var.result a.set a.err (omega (arith, a.stays.given)) c.self.invariant.3),
+      c.args.node c.args.value c.set_var.result a.set a.err (omega (arith, a.stays.given)) c.self.invariant.2),
 )
 
 pub returns-clause-set : goal.returns-clause-set
@@ -53,7 +52,7 @@ returns-clause-set g c =
     let a = c.set_var.ensures in
     let beside = λ (set : IsSet c.self.inside.parts.arena c.set_var.new.self.arena c.args.node c.args.value)
     (variable : (IsVariable c.self.inside.parts.arena c.args.node → ⊥) → ⊥). beside_as c.self.inside.functions
-    c.self.inside.parts c.set_var.new.self c.self.inside.observers.items c.self.inside.rooted c.self.inside.refused (Given c.self.inside.parts.arena.given)
+    c.self.inside.parts c.set_var.new.self c.self.inside.observers c.self.inside.rooted c.self.inside.refused (Given c.self.inside.parts.arena.given)
     a.stays.ran a.stays.links a.stays.roots (λ p given. ap (λ (m : Rows Progress). at m p) a.stays.rows)
     (λ n given. built_set c.self.inside.parts c.set_var.new.self c.args.node c.args.value set variable a.stays.rows
     (λ m. ap (λ (roots : Rows NodeId). at roots (change m)) a.stays.right_sides) n)

@@ -1,29 +1,30 @@
-use Rattle.std.proofs.Common.{◌≡◌, inl, List, None, length, refl, sym, ap, subst, ◌∙◌, ℕ, arith, drop}
+use Rattle.std.proofs.Common.{◌≡◌, inl, List, None, Some, length, refl, sym, ap, subst, ◌∙◌, ℕ, arith, drop}
 use Rattle.std.specs.Prelude.{is_some}
 use Rattle.inc_value.specs.Choice.{Among}
 use Rattle.inc_value.specs.declared.node.NodeId.{NodeId}
 use Rattle.inc_terms.specs.Within.{Given}
 use Rattle.node_outcomes.specs.Meaning.{Meaning, functions_of, meaning_of}
 use Rattle.stabilize_round.specs.Invariant.{Rooted}
-use Rattle.graph.specs.Inside.{CanStabilize}
-use Rattle.graph.specs.Standing.{in_use}
+use Rattle.graph.specs.Inside.{FitsInside}
+use Rattle.observers.specs.Observers.{ObserversView, in_use, told_by}
+use Rattle.observers.specs.declared.observer.Observer.{Observer}
+use Rattle.stabilizer.specs.Telling.{shows_of}
 use Rattle.stabilizer.specs.Kept.{graph_in, counts_by}
 use Rattle.stabilizer.proofs.Step.Giving.{live_few, gives_few}
 use Rattle.stabilizer.proofs.Step.MeaningKept.{means_still, nothing_meant}
 use Rattle.wiring.specs.declared.refused.Refused.TheVariants.{Memory}
 use Rattle.graph.proofs.Observing.{all_of}
-use Rattle.graph.proofs.Sound.{ready_built}
 use Rattle.graph.proofs.Grouping.{ids_few, filled_by}
 use Rattle.graph.proofs.Rounding.{accepted, refused_in, few_in}
-use Rattle.graph.proofs.Stabilizing.{rest_given, all_right, all_lawful, all_few, all_built, all_built_but, can_again}
+use Rattle.graph.proofs.Stabilizing.{rest_given, all_right, all_lawful, all_few, all_built, all_built_but, sound_again}
 use Rattle.graph.proofs.graph.Graph.stabilize.Goals as goal
 
 pub returns-in-Err-clause-refused : goal.returns-in-Err-clause-refused
 returns-in-Err-clause-refused g c cause is =
-    let parts = c.self.inside.parts in let kept = c.self.invariant.1.kept.work in
+    let parts = c.self.inside.parts in let kept = c.self.invariant.0.kept.work in
     let still = rw (← c.self.view_is) at c.in_default.ensures.none in
     rw (← c.self.view_is) (refused_in (functions_of g.F.Functions c.self.inside.functions) c.self.inside.functions c.self.inside.functions parts parts
-    c.self.inside.observers.items c.self.inside.rooted c.self.inside.refused still Memory cause (let e = is in cc)
+    c.self.inside.observers c.self.inside.rooted c.self.inside.refused still Memory cause (let e = is in cc)
     (record { given = omega arith; clock = refl; frozen = λ n given. refl; lists = λ n given. refl; rows = λ n given. inl refl })
     refl (λ n r row. refl) (λ n given. inl refl) (tt, tt) tt (
       None,
@@ -40,24 +41,30 @@ returns-in-Err-clause-refused g c cause is =
 pub run-ended-requires-clause-given : goal.run-ended-requires-clause-given
 run-ended-requires-clause-given g c =
     let M = meaning_of g.F.Functions c.self.inside.functions in
-    let old = c.self.inside.parts in let os = c.self.inside.observers.items in let rooted = c.self.inside.rooted in
+    let old = c.self.inside.parts in let os = c.self.inside.observers.made in let rooted = c.self.inside.rooted in
     let still = rw (← c.self.view_is) at c.in_default.ensures.none in
-    let can = c.self.invariant.1.unbroken still in let within = c.self.invariant.1.earlier in
-    let roots : c.deref-2.result.now ≡ in_use (drop rooted os) = c.deref-2.ensures.value ∙ rw c.deref.ensures.value at c.in-Ok.ensures in
-    all_of (Given old.arena.given) c.deref-2.result.now
+    let can = c.self.invariant.0.unbroken still in let within = c.self.invariant.0.earlier in
+    let roots : c.deref.result.now ≡ in_use (drop rooted os) = c.deref.ensures.value ∙ c.in-Ok.ensures in
+    all_of (Given old.arena.given) c.deref.result.now
     (λ n among. rest_given M old old os rooted can within n (subst (λ (ns : List NodeId). Among n ns) roots among))
+
+pub run-ended-requires-clause-looks : goal.run-ended-requires-clause-looks
+run-ended-requires-clause-looks g c = let still = rw (← c.self.view_is) at c.in_default.ensures.none in (c.self.invariant.0.unbroken still).given
+
+pub run-ended-requires-clause-shown : goal.run-ended-requires-clause-shown
+run-ended-requires-clause-shown g c = let still = rw (← c.self.view_is) at c.in_default.ensures.none in (c.self.invariant.0.unbroken still).shown
 
 pub returns-in-Ok-ended-clause-brought : goal.returns-in-Ok-ended-clause-brought
 returns-in-Ok-ended-clause-brought g c =
     let M = meaning_of g.F.Functions c.self.inside.functions in
-    let old = c.self.inside.parts in let new = c.run-ended.new.parts in let os = c.self.inside.observers.items in let rooted = c.self.inside.rooted in
+    let old = c.self.inside.parts in let new = c.run-ended.new.parts in let os = c.self.inside.observers.made in let rooted = c.self.inside.rooted in
     let still = rw (← c.self.view_is) at c.in_default.ensures.none in
-    let can = c.self.invariant.1.unbroken still in let within = c.self.invariant.1.earlier in
-    let roots : c.deref-2.result.now ≡ in_use (drop rooted os) = c.deref-2.ensures.value ∙ rw c.deref.ensures.value at c.in-Ok.ensures in
+    let can = c.self.invariant.0.unbroken still in let within = c.self.invariant.0.earlier in
+    let roots : c.deref.result.now ≡ in_use (drop rooted os) = c.deref.ensures.value ∙ c.in-Ok.ensures in
     let right = all_right M old new os rooted can within (rw roots at c.in-Ok-ended.ensures.ended.right) in
-    let same : c.len-self-inside.result ≡ length os = c.len-self-inside.ensures ∙ (sym c.deref.ensures.len ∙ ap length c.deref.ensures.value) in
-    rw (← c.self.view_is) (accepted M.functions c.self.inside.functions c.run-ended.new.functions old new os rooted c.self.inside.refused still
-    c.len-self-inside.result same c.run-ended.ensures.leaves.left.rest
+    let told = c.in-Ok-ended.ensures.told in
+    rw (← c.self.view_is) (accepted M.functions c.self.inside.functions c.run-ended.new.functions old new c.self.inside.observers rooted c.self.inside.refused still
+    c.run-ended.new.observers told c.in-Ok-ended.ensures.notices (length c.made.result.now) (ap length c.made.ensures) c.run-ended.ensures.leaves.left.rest
     (all_built M old new os rooted can within (rw roots at c.in-Ok-ended.ensures.ended.built)) right)
 
 pub returns-in-Ok-ended-clause-left : goal.returns-in-Ok-ended-clause-left
@@ -84,25 +91,25 @@ returns-in-Ok-ended-clause-flat g c no_binds = rw (← c.self.view_is) (c.run-en
 pub returns-in-Err-ended-clause-refused : goal.returns-in-Err-ended-clause-refused
 returns-in-Err-ended-clause-refused g c cause is =
     let M = meaning_of g.F.Functions c.self.inside.functions in
-    let old = c.self.inside.parts in let new = c.run-ended.new.parts in let os = c.self.inside.observers.items in let rooted = c.self.inside.rooted in
+    let old = c.self.inside.parts in let new = c.run-ended.new.parts in let os = c.self.inside.observers.made in let rooted = c.self.inside.rooted in
     let still = rw (← c.self.view_is) at c.in_default.ensures.none in
-    let can = c.self.invariant.1.unbroken still in let within = c.self.invariant.1.earlier in
-    let roots : c.deref-2.result.now ≡ in_use (drop rooted os) = c.deref-2.ensures.value ∙ rw c.deref.ensures.value at c.in-Ok.ensures in
+    let can = c.self.invariant.0.unbroken still in let within = c.self.invariant.0.earlier in
+    let roots : c.deref.result.now ≡ in_use (drop rooted os) = c.deref.ensures.value ∙ c.in-Ok.ensures in
     let refused = c.in-Err-ended.refused in
-    rw (← c.self.view_is) (refused_in M.functions c.self.inside.functions c.run-ended.new.functions old new os rooted c.self.inside.refused still
-    refused cause (let e = c.cause_of-cause.ensures in cc) c.run-ended.ensures.leaves.left.rest c.in-Err-ended.ensures.refused.ran c.in-Err-ended.ensures.refused.cutoffs
+    rw (← c.self.view_is, c.in-Err-ended.ensures.observers)
+    (refused_in M.functions c.self.inside.functions c.run-ended.new.functions old new c.self.inside.observers rooted c.self.inside.refused still refused cause (let e = c.cause_of-cause.ensures in cc) c.run-ended.ensures.leaves.left.rest c.in-Err-ended.ensures.refused.ran c.in-Err-ended.ensures.refused.cutoffs
     c.in-Err-ended.ensures.refused.shows (all_lawful M old new os rooted can within refused (rw roots at c.in-Err-ended.ensures.refused.lawful))
     c.in-Err-ended.ensures.refused.tried (all_built_but M old new os rooted can within refused (rw roots at c.in-Err-ended.ensures.refused.unbuilt)))
 
 pub returns-in-Err-ended-clause-few : goal.returns-in-Err-ended-clause-few
 returns-in-Err-ended-clause-few g c cause is =
     let M = meaning_of g.F.Functions c.self.inside.functions in
-    let old = c.self.inside.parts in let new = c.run-ended.new.parts in let os = c.self.inside.observers.items in let rooted = c.self.inside.rooted in
+    let old = c.self.inside.parts in let new = c.run-ended.new.parts in let os = c.self.inside.observers.made in let rooted = c.self.inside.rooted in
     let still = rw (← c.self.view_is) at c.in_default.ensures.none in
-    let can = c.self.invariant.1.unbroken still in let within = c.self.invariant.1.earlier in
-    let roots : c.deref-2.result.now ≡ in_use (drop rooted os) = c.deref-2.ensures.value ∙ rw c.deref.ensures.value at c.in-Ok.ensures in
+    let can = c.self.invariant.0.unbroken still in let within = c.self.invariant.0.earlier in
+    let roots : c.deref.result.now ≡ in_use (drop rooted os) = c.deref.ensures.value ∙ c.in-Ok.ensures in
     let before = g.F.Functions.calls c.self.inside.functions in let after = g.F.Functions.calls c.run-ended.new.functions in
-    rw (← c.self.view_is) (few_in M.functions c.self.inside.functions c.run-ended.new.functions old new os rooted c.self.inside.refused still
+    rw (← c.self.view_is) (few_in M.functions c.self.inside.functions c.run-ended.new.functions old new c.self.inside.observers rooted c.self.inside.refused still
     c.in-Err-ended.refused before after
     (all_few M old new os rooted can within before after (rw roots at c.in-Err-ended.ensures.refused.few)))
 
@@ -126,10 +133,10 @@ returns-in-Err-ended-clause-flat g c no_binds = rw (← c.self.view_is) (c.run-e
 -- ---- functions mean what they meant
 
 pub returns-in-Some-clause-functions : goal.returns-in-Some-clause-functions
-returns-in-Some-clause-functions g c = rw (← c.self.view_is) (nothing_meant g.F.Functions c.self.inside.functions c.self.invariant.2)
+returns-in-Some-clause-functions g c = rw (← c.self.view_is) (nothing_meant g.F.Functions c.self.inside.functions c.self.invariant.1)
 
 pub returns-in-Err-clause-functions : goal.returns-in-Err-clause-functions
-returns-in-Err-clause-functions g c = rw (← c.self.view_is) (nothing_meant g.F.Functions c.self.inside.functions c.self.invariant.2)
+returns-in-Err-clause-functions g c = rw (← c.self.view_is) (nothing_meant g.F.Functions c.self.inside.functions c.self.invariant.1)
 
 pub returns-in-Ok-ended-clause-functions : goal.returns-in-Ok-ended-clause-functions
 returns-in-Ok-ended-clause-functions g c = rw (← c.self.view_is) c.run-ended.ensures.leaves.functions
@@ -142,39 +149,39 @@ returns-in-Err-ended-clause-functions g c = rw (← c.self.view_is) c.run-ended.
 pub invariant_of-self-in-Ok-ended : goal.invariant_of-self-in-Ok-ended
 invariant_of-self-in-Ok-ended g c =
     let M = meaning_of g.F.Functions c.self.inside.functions in
-    let old = c.self.inside.parts in let new = c.run-ended.new.parts in let os = c.self.inside.observers.items in let rooted = c.self.inside.rooted in
+    let old = c.self.inside.parts in let new = c.run-ended.new.parts in let os = c.self.inside.observers.made in let rooted = c.self.inside.rooted in
     let still = rw (← c.self.view_is) at c.in_default.ensures.none in
-    let can = c.self.invariant.1.unbroken still in let within = c.self.invariant.1.earlier in
-    let roots : c.deref-2.result.now ≡ in_use (drop rooted os) = c.deref-2.ensures.value ∙ rw c.deref.ensures.value at c.in-Ok.ensures in
+    let can = c.self.invariant.0.unbroken still in let within = c.self.invariant.0.earlier in
+    let roots : c.deref.result.now ≡ in_use (drop rooted os) = c.deref.ensures.value ∙ c.in-Ok.ensures in
     let right = all_right M old new os rooted can within (rw roots at c.in-Ok-ended.ensures.ended.right) in
     let M' = meaning_of g.F.Functions c.run-ended.new.functions in
-    let again = can_again M old new os rooted can within M' c.run-ended.ensures.leaves.left.rest.given c.in-Ok-ended.ensures.ended.ready right in
-    let same : c.len-self-inside.result ≡ length os = c.len-self-inside.ensures ∙ (sym c.deref.ensures.len ∙ ap length c.deref.ensures.value) in (
-      c.self.invariant.0,
-      record {
-        few = c.self.invariant.1.few;
-        earlier = omega (arith, same);
-        kept = again.ready.kept;
-        built = ready_built M' new again.ready;
-        inside = again.ready.inside;
-        unbroken = λ u. subst (λ (k : ℕ). CanStabilize M' new os k) (sym same) again;
-      },
+    let told = c.in-Ok-ended.ensures.told in
+    let again = sound_again M old new os rooted can within M' c.self.inside.refused c.self.invariant.0.few c.run-ended.ensures.leaves.left.rest.given
+    c.in-Ok-ended.ensures.ended.ready right in
+    let same : length c.made.result.now ≡ length (told_by (shows_of new) os) = ap length c.made.ensures ∙ ap length told in (
+      subst (λ (made : List Observer). FitsInside M' new made (length c.made.result.now) c.self.inside.refused) (sym told)
+          (subst (λ (k : ℕ). FitsInside M' new (told_by (shows_of new) os) k c.self.inside.refused) (sym same) again),
       c.run-ended.ensures.leaves.functions.sound,
       c.run-ended.ensures.leaves.fit,
     )
 
 pub invariant_of-self-in-Err-ended : goal.invariant_of-self-in-Err-ended
 invariant_of-self-in-Err-ended g c = (
-  c.self.invariant.0,
-  record {
-    few = c.self.invariant.1.few;
-    earlier = c.self.invariant.1.earlier;
-    kept = c.in-Err-ended.ensures.refused.kept;
-    built = subst (λ (M : Meaning). Rooted M.functions (graph_in c.run-ended.new.parts))
-        (sym (means_still g.F.Functions c.self.inside.functions c.run-ended.new.functions c.run-ended.ensures.leaves.functions)) c.run-ended.ensures.leaves.left.rooted;
-    inside = c.run-ended.ensures.leaves.left.inside c.self.invariant.1.inside;
-    unbroken = λ e. absurd (cc);
-  },
+  subst (λ (observers : ObserversView). FitsInside (meaning_of g.F.Functions c.run-ended.new.functions) c.run-ended.new.parts observers.made
+      c.self.inside.rooted (Some c.in-Err-ended.refused)) (sym c.in-Err-ended.ensures.observers) (record {
+        few = c.self.invariant.0.few;
+        earlier = c.self.invariant.0.earlier;
+        kept = c.in-Err-ended.ensures.refused.kept;
+        built = subst (λ (M : Meaning). Rooted M.functions (graph_in c.run-ended.new.parts))
+            (sym (means_still g.F.Functions c.self.inside.functions c.run-ended.new.functions c.run-ended.ensures.leaves.functions)) c.run-ended.ensures.leaves.left.rooted;
+        inside = c.run-ended.ensures.leaves.left.inside c.self.invariant.0.inside;
+        showing = c.self.invariant.0.showing;
+        later = c.self.invariant.0.later;
+        unbroken = λ e. absurd (cc);
+      }),
   c.run-ended.ensures.leaves.functions.sound,
   c.run-ended.ensures.leaves.fit,
 )
+
+pub in_use-requires : goal.in_use-requires
+in_use-requires g c = record { within = c.self.invariant.0.earlier }

@@ -1,19 +1,26 @@
-use Rattle.std.proofs.Common.{Some, sym, ap, ◌∙◌, arith}
-use Rattle.inc_value.specs.declared.outcome.Outcome.{Outcome}
-use Rattle.inc_terms.specs.Depend.{main}
-use Rattle.point_map.specs.Rows.{at}
-use Rattle.graph.proofs.Observing.{front_among}
-use Rattle.graph.proofs.Unobserving.{shows_invalid}
+use Rattle.std.proofs.Common.{Err, refl, sym, ap, ◌∙◌}
+use Rattle.std.proofs.lemmas.Option.{none-some}
+use Rattle.graph.proofs.Observing.{showing_of, unshown_late, late_unshown}
 use Rattle.graph.proofs.graph.Graph.value.Goals as goal
 
-pub returns-in-None-clause-shown : goal.returns-in-None-clause-shown
-returns-in-None-clause-shown g c =
-    let is = rw c.deref.ensures.value at (sym c.node_at.ensures ∙ c.in-Some.is) in
+pub returns-in-Ok-clause-shown : goal.returns-in-Ok-clause-shown
+returns-in-Ok-clause-shown g c =
     let whole = rw (← c.self.view_is) at c.in_ok-check.ensures.unbroken in
-    let among = front_among c.self.inside.observers.items c.self.inside.rooted c.args.observer.0 c.in-Some.node (omega (arith, c.if-place-self.false)) is in
+    let s = showing_of c.self.inside.observers.made c.args.observer.0 c.in-Ok.outcome.now c.in-Ok.ensures.shown in
+    rw (← c.self.view_is) (s.one.node, s.looks, (c.self.invariant.0.unbroken whole).shown s.one c.in-Ok.outcome.now s.among s.used s.shown)
+
+pub returns-in-Ok-clause-not_stabilized : goal.returns-in-Ok-clause-not_stabilized
+returns-in-Ok-clause-not_stabilized g c = rw (← c.self.view_is) (
+  (λ e. absurd (cc)),
+  (λ h. absurd (none-some c.in-Ok.outcome.now (sym (late_unshown c.self.inside.observers.made c.self.inside.rooted c.args.observer.0
+      c.self.invariant.0.later h.2) ∙ c.in-Ok.ensures.shown))),
+)
+
+pub returns-in-Err-NotStabilized-clause-not_stabilized : goal.returns-in-Err-NotStabilized-clause-not_stabilized
+returns-in-Err-NotStabilized-clause-not_stabilized g c =
+    let whole = rw (← c.self.view_is) at c.in_ok-check.ensures.unbroken in
+    let none = c.in-Err-NotStabilized.ensures.not_stabilized.0 (ap Err c.in-Err-NotStabilized.field-0-is) in
     rw (← c.self.view_is) (
-      c.in-Some.node,
-      is,
-      shows_invalid (at c.self.inside.parts.work.rows (main c.in-Some.node)) (sym c.in-None.ensures)
-          ((c.self.invariant.1.unbroken whole).shown c.in-Some.node among) ∙ ap (λ (o : Outcome). Some o) (sym c.self.invariant.0),
+      (λ e. (whole, none.0, unshown_late c.self.inside.observers.made c.self.inside.rooted c.args.observer.0 c.self.invariant.0.showing none.0 none.1)),
+      (λ h. refl),
     )
