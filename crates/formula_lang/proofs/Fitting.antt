@@ -11,7 +11,7 @@ use Rattle.inc_value.specs.declared.ty.Base.TheVariants as bases
 use Rattle.inc_value.specs.declared.ty.Base.{Base}
 use Rattle.inc_value.specs.declared.ty.Ty.TheVariants as types
 use Rattle.inc_value.specs.declared.ty.Ty.{Ty}
-use Rattle.script_model.specs.Check.{Bound, Command, Declare, Assign, Take, Observe, Unobserve, Advance, Stabilize, Show, Declared, Names, Reason, NameTaken, ObserverTaken, NotVariable, NotBind, ObserverUnknown, TimeTooLarge, SpanIsZero, BackInTime, TypedFormula, TypedFormulas, TypedValue, first_named, find_declared, is_among, is_bind, is_variable, kind_of, typed, typed_each, typed_name, typed_as, typed_literal, literal_of_type, where_same, applied, are_all, before, branched, element_of, folded, join_of, steps_of_type, command_of, body_as, target_of_body, times_of, spans_of, is_top_form, is_empty_interval, is_past, first_that, is_against, line_order}
+use Rattle.script_model.specs.Check.{Bound, Command, Declare, Assign, Take, Observe, Unobserve, Watch, Advance, Stabilize, Show, Declared, Names, Reason, NameTaken, ObserverTaken, NotVariable, NotBind, ObserverUnknown, TimeTooLarge, SpanIsZero, BackInTime, TypedFormula, TypedFormulas, TypedValue, first_named, find_declared, is_among, is_bind, is_variable, kind_of, typed, typed_each, typed_name, typed_as, typed_literal, literal_of_type, where_same, applied, are_all, before, branched, element_of, folded, join_of, steps_of_type, command_of, body_as, target_of_body, times_of, spans_of, is_top_form, is_empty_interval, is_past, first_that, is_against, line_order}
 use Rattle.inc_value.specs.Choice.{and_then}
 use Rattle.script_model.specs.Formula as model
 use Rattle.script_model.specs.Formula.{Formula, TimedValue, Body, Meanings, nothing_kept}
@@ -537,6 +537,10 @@ module _ (F : Meanings) (known : FnRef → Bool) (names : Names) (earlier : AreE
   check_fits (grammar.Unobserve observer) c plain has none e =
       let unknown = none_holds (Stands (grammar.Unobserve observer)) line_order ObserverUnknown none (inr (inr (inr (inl refl)))) in
       subst (FitsNames known names) (some_is (Unobserve observer) c e)
+      (not_false (is_among names.observers observer) (or_false (not (is_among names.observers observer)) unknown))
+  check_fits (grammar.Watch observer) c plain has none e =
+      let unknown = none_holds (Stands (grammar.Watch observer)) line_order ObserverUnknown none (inr (inr (inr (inl refl)))) in
+      subst (FitsNames known names) (some_is (Watch observer) c e)
       (not_false (is_among names.observers observer) (or_false (not (is_among names.observers observer)) unknown))
   check_fits (grammar.Advance span) c plain has none e =
       let fit = times_fit (grammar.Advance span) none in

@@ -64,6 +64,7 @@ command_view (command.Grab name ty bind) = model.Take name ty bind
 command_view (command.Assign target value) = model.Assign target (constant_view value)
 command_view (command.Observe observer target) = model.Observe observer target
 command_view (command.Unobserve observer) = model.Unobserve observer
+command_view (command.Watch observer) = model.Watch observer
 command_view (command.Advance time) = model.Advance time
 command_view command.Stabilize = model.Stabilize
 command_view (command.Show observer) = model.Show observer

@@ -8,7 +8,7 @@ use Rattle.inc_value.specs.declared.function.FnRef.{FnRef}
 use Rattle.inc_value.specs.declared.ty.Base.{Base}
 use Rattle.inc_value.specs.declared.ty.Ty.{Ty}
 use Rattle.inc_value.specs.declared.ty.Ty.TheVariants as types
-use Rattle.script_model.specs.Check.{Command, Declare, Assign, Take, Observe, Unobserve, Advance, Stabilize, Show, Declared, Names, first_named, is_among, is_bind, is_variable, target_of_body}
+use Rattle.script_model.specs.Check.{Command, Declare, Assign, Take, Observe, Unobserve, Watch, Advance, Stabilize, Show, Declared, Names, first_named, is_among, is_bind, is_variable, target_of_body}
 use Rattle.inc_value.specs.Choice.{Every as Each, and_then}
 use Rattle.script_model.specs.Formula.{Formula, Formulas, TimedValue, Body, Literal, Name, Bound, Apply, Fold, If, Join, Bind, At, Steps, Now, End, More, Variable, Computed, After, Every, nothing_kept}
 use Rattle.script_model.specs.Valid.{FoldsOver}
@@ -120,6 +120,7 @@ FitsNames known names (Take name ty bind) = GrabFits names name ty bind
 FitsNames known names (Assign target value) = AssignmentFits names target value
 FitsNames known names (Observe observer target) = ObserverFits names observer target
 FitsNames known names (Unobserve observer) = IsTrue (is_among names.observers observer)
+FitsNames known names (Watch observer) = IsTrue (is_among names.observers observer)
 FitsNames known names (Advance time) = TimeFits names time
 FitsNames known names Stabilize = Unit {0}
 FitsNames known names (Show observer) = IsTrue (is_among names.observers observer)

@@ -2,7 +2,7 @@
 ghost use Rattle.std.specs.Prelude.{◌≡◌, ◌+◌, ℕ, false, true, IfOk, IsErrOf, None, Some, option_map, unwrap_or};
 ghost use Rattle.script_model.specs.Check.{Declare, Names as AllNames, Reason as AReason, command_of, first_that, is_against, is_top_form, line_order, reason_number};
 ghost use Rattle.script_model.specs.Formula.{Meanings, meanings_of};
-ghost use Rattle.script_model.specs.Grammar.{Var, Set, Let, Grab, Observe, Show, Unobserve};
+ghost use Rattle.script_model.specs.Grammar.{Var, Set, Let, Grab, Observe, Show, Unobserve, Watch};
 ghost use Rattle.script_model.specs.Here.{is_here, is_plain};
 ghost use Rattle.formula_lang.specs.CommandView.{body_view, command_view};
 ghost use Rattle.formula_lang.specs.Fits.{FitsNames};
@@ -113,6 +113,7 @@ fn command_of<L: Library>(
         Line::Grab { name, bind } => grab(alloc, names, name, bind),
         Line::Observe { observer, name } => observation(alloc, names, observer, name),
         Line::Unobserve { observer } => ending(alloc, observer),
+        Line::Watch { observer } => watching(alloc, observer),
         Line::Advance { span } => Ok(Some(Command::Advance {
             time: after(names, *span),
         })),
@@ -295,6 +296,15 @@ fn ending(alloc: Global, observer: &Name) -> Result<Option<Command>, AllocError>
     ensures { (F : Meanings) (names : AllNames) → IfOk result (λ c. option_map command_view c ≡ command_of F names (Unobserve observer.now)) }
 {
     Ok(Some(Command::Unobserve {
+        observer: Name::new(alloc, observer.bytes())?,
+    }))
+}
+
+/// The watching of an observer.
+fn watching(alloc: Global, observer: &Name) -> Result<Option<Command>, AllocError>
+    ensures { (F : Meanings) (names : AllNames) → IfOk result (λ c. option_map command_view c ≡ command_of F names (Watch observer.now)) }
+{
+    Ok(Some(Command::Watch {
         observer: Name::new(alloc, observer.bytes())?,
     }))
 }

@@ -163,6 +163,10 @@ pub enum Command {
     Unobserve {
         observer: Name,
     },
+    /// Watches an observer.
+    Watch {
+        observer: Name,
+    },
     /// Moves the clock on to a time, in nanoseconds.
     Advance {
         time: u64,
@@ -193,7 +197,9 @@ impl Drop for Command {
                 observer,
                 target: _,
             } => drop(observer),
-            Command::Unobserve { observer } | Command::Show { observer } => drop(observer),
+            Command::Unobserve { observer }
+            | Command::Watch { observer }
+            | Command::Show { observer } => drop(observer),
             Command::Advance { time: _ } | Command::Stabilize => {}
         }
     }

@@ -174,6 +174,17 @@ impl Names {
         self.observers.get_index_of(name)
     }
 
+    /// The name of the observer at a position among those in use.
+    pub fn observer_at(&self, position: usize) -> &[u8]
+        requires { position < length self.now.observers }
+        ensures { slice_get self.entry.now.observers position ≡ Some result.now }
+    {
+        match self.observers.get_index(position) {
+            Some(name) => name,
+            None => b"",
+        }
+    }
+
     /// Puts an observer's name in use, behind the others. Without memory nothing changes.
     pub fn observe(&mut self, name: &[u8]) -> Result<(), AllocError>
         requires { IsFalse (is_among self.old.observers name.now) }

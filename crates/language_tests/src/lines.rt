@@ -20,7 +20,6 @@ const LATER: &[&str] = &[
     "link e x",
     "unlink e x",
     "stale e",
-    "watch o",
 ];
 
 /// What is no line, though it begins as one of such a form.

@@ -19,13 +19,10 @@ pub fn is_here(line: &Line) -> bool
         | Line::Show { .. }
         | Line::Advance { .. }
         | Line::AdvanceTo { .. }
+        | Line::Watch { .. }
         | Line::Stabilize => true,
         Line::Let { formula, .. } => is_plain(formula),
-        Line::Expert { .. }
-        | Line::Link { .. }
-        | Line::Unlink { .. }
-        | Line::Stale { .. }
-        | Line::Watch { .. } => false,
+        Line::Expert { .. } | Line::Link { .. } | Line::Unlink { .. } | Line::Stale { .. } => false,
     }
 }
 

@@ -24,7 +24,7 @@ abbrev mutual
   are_plain End = true
   are_plain (More first rest) = is_plain first && are_plain rest
 
--- a line of forms that are here: no experts and no watches yet
+-- a line of forms that are here: no experts yet
 abbrev pub is_here : Line → std.Bool
 is_here (Var name t first) = true
 is_here (Set name value) = true
@@ -36,7 +36,7 @@ is_here (Stale expert) = false
 is_here (Grab name bind) = true
 is_here (Observe observer name) = true
 is_here (Unobserve observer) = true
-is_here (Watch observer) = false
+is_here (Watch observer) = true
 is_here (Show observer) = true
 is_here (Advance span) = true
 is_here (AdvanceTo time) = true

@@ -21,3 +21,7 @@ returns-in-Show g c = rw c.in-Show.is (c.showing.ensures
 pub returns-in-Unobserve : goal.returns-in-Unobserve
 returns-in-Unobserve g c = rw c.in-Unobserve.is (c.ending.ensures
     (meanings_of (g.L.Library.named c.args.library.now) (g.L.Library.value c.args.library.now)) c.args.names.now)
+
+pub returns-in-Watch : goal.returns-in-Watch
+returns-in-Watch g c = rw c.in-Watch.is (c.watching.ensures
+    (meanings_of (g.L.Library.named c.args.library.now) (g.L.Library.value c.args.library.now)) c.args.names.now)
