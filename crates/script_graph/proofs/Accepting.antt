@@ -1,6 +1,7 @@
 -- A stabilize that was accepted is one of the script.
 use Rattle.std.proofs.Common.{◌≡◌, inl, inr, ℕ, ◌+◌, true, false, ◌&&◌, Bool, List, [], map, Option, None, Some, option_map, is_some, refl, ap, sym, subst, ◌∙◌, slice_get}
-use Rattle.inc_value.specs.Choice.{and_then}
+use Rattle.std.specs.List.{AllZip}
+use Rattle.inc_value.specs.Choice.{Among, and_then}
 use Rattle.inc_value.specs.declared.function.FnRef.{FnRef}
 use Rattle.inc_value.specs.declared.node.NodeId.{NodeId}
 use Rattle.inc_value.specs.declared.node.ObsId.{ObsId}
@@ -14,20 +15,23 @@ use Rattle.inc_terms.specs.Term as term
 use Rattle.inc_terms.specs.Term.{Functions}
 use Rattle.graph.specs.Sound.{IsWhole}
 use Rattle.graph.specs.Stabilizes.{Stabilizes as GraphStabilizes, left_by}
-use Rattle.graph.specs.Standing.{GraphView, graph, in_use, node_at as looked_at, cutoff_of, AreRooted}
-use Rattle.graph.specs.declared.observer.Observer.{Observer as Looking}
+use Rattle.graph.specs.Standing.{GraphView, graph, shows_now, cutoff_of, AreRooted}
+use Rattle.observers.specs.Observers.{in_use, looked_at as looked_in, node_at as looked_at}
+use Rattle.observers.specs.declared.notice.Notice.{Notice as GraphNotice}
+use Rattle.observers.specs.declared.observer.Observer.{Observer as Looking}
 use Rattle.node_arena.specs.Arena.{row_at}
 use Rattle.map_nodes.specs.declared.cutoff.Cutoff.TheVariants.{Equal}
+use Rattle.stabilizer.specs.Telling.{shown_or}
 use Rattle.stabilize_round.specs.Calling.{costs_of}
 use Rattle.stabilize_round.specs.Counts.{RoseBy}
 use Rattle.script_model.specs.Check.{is_among, target_of_body}
 use Rattle.script_model.specs.Evaluate.{NameGives}
 use Rattle.script_model.specs.Formula as script
-use Rattle.script_model.specs.Formula.{State, Entry, Body, Formula, Observer, Meanings, meanings_of, body_at, built_at, built_of_body, entry_at, Name, Bind, Variable, Computed, After, Every, Grab}
+use Rattle.script_model.specs.Formula.{State, Entry, Body, Formula, Observer, Watch, Told, Meanings, meanings_of, body_at, built_at, built_of_body, entry_at, Name, Bind, Variable, Computed, After, Every, Grab}
 use Rattle.script_model.specs.Need.{Visit, IsVisit, Needed}
-use Rattle.script_model.specs.Settle.{BuildsFor, Settles, ShowAll}
+use Rattle.script_model.specs.Settle.{BuildsFor, Notice, Settles, ShowAll}
 use Rattle.script_model.specs.Step.{Moment, settles}
-use Rattle.script_model.specs.Valid.{Valid, OutcomeHasType}
+use Rattle.script_model.specs.Valid.{Valid, ValidObserver, WatchFits, OutcomeHasType}
 use Rattle.script_model.specs.Values.{Value, Outcome, Val, same_kept}
 use Rattle.script_model.proofs.Leaves.{leaves_more_of, reference_more}
 use Rattle.script_model.proofs.Settling.{settles_valid}
@@ -36,7 +40,7 @@ use Rattle.script_graph.specs.Growing.{functions_over}
 use Rattle.script_graph.specs.Kept.{Kept, node_in, without_functions}
 use Rattle.script_graph.specs.Represents.{graph_functions, besides, beside, there_in, AreNames, Represents, Watches}
 use Rattle.script_graph.specs.Settled.{WasRun, Settled}
-use Rattle.script_graph.specs.Stabilizing.{IsAccepted}
+use Rattle.script_graph.specs.Stabilizing.{IsAccepted, IsNotice}
 use Rattle.script_graph.specs.State.{MatchesMoment, Stands}
 use Rattle.script_graph.specs.Today.{IsDeclaredTarget, IsEarlierTarget, IsPlainBody, IsWithin, IsPartWithin, OwnNodesOf, RefersTo, AllPlain}
 use Rattle.script_graph.proofs.Becoming as become
@@ -50,9 +54,10 @@ use Rattle.script_graph.proofs.Middle.{IsStabilize, middle, given, fits_then, to
 use Rattle.script_graph.proofs.Recalling.{visit_is_recalled}
 use Rattle.script_graph.proofs.Referring.{typed_outcome_refers}
 use Rattle.script_graph.proofs.Refusing.{IsSessions, grabs, kept_so, functions_so, moment_unbroken, stabilize_of}
-use Rattle.script_graph.proofs.Remembering.{observed_root}
-use Rattle.script_graph.proofs.Showing.{ShowsThen, AllShow, all_show, made_then, shows_then, names_then, watches_then}
+use Rattle.script_graph.proofs.Remembering.{among_there, every_one, observed_root}
+use Rattle.script_graph.proofs.Showing.{ShowsThen, AllShow, all_show, made_then, notices_then, shows_then, names_then, watches_then, told_then}
 use Rattle.script_graph.proofs.Staying.{shows_on, own_nodes_then}
+use Rattle.script_graph.proofs.Told.{told_at, told_in_use, told_looked, same_in_both}
 use Rattle.script_graph.proofs.Watching.{roots_have_in}
 use Rattle.script_graph.proofs.Without.{stabilizes_without}
 use Rattle.transfer.specs.Both.{Both, graph_outcome}
@@ -108,19 +113,30 @@ module _ (named : List ℕ → Option FnRef) (value : FnRef → List GraphValue 
       typed_outcome_refers s c.held.today.plain c.held.targets p e.0.ty
       (declarations_have_types F s c.keep c.valid t e.0 p e.1 gives)
 
+  -- what was told last of an observer has the type of its target
+  told_typed : (t : Ty) (v : Watch) → WatchFits s t v → (was : Outcome) → v ≡ Told was → OutcomeHasType s was t
+  told_typed t v fits was is = subst (WatchFits s t) is fits
+
   shows_one : (o : ObsId) (z : Observer) → slice_get stands.matches.watches.made o.0 ≡ Some (Some z) → (p : Outcome) × ShowsThen F s k g z p
   shows_one o z at_o =
       let w = stands.matches.watches.observing o z at_o in
       let looks : looked_at g.observers o ≡ Some (N z.target) =
-      subst (λ (os : List Looking). looked_at os o ≡ Some (N z.target)) (sym done.observers) w.looks in
+      ap (λ (os : List Looking). looked_at os o) done.observers
+      ∙ (ap looked_in (told_at (shows_now g) k.graph.observers o.0) ∙ (told_looked (shows_now g) (slice_get k.graph.observers o.0) ∙ ap looked_in w.is)) in
       let q = done.shows o (N z.target) looks in
-      let p = names_agree y fits z.target q.0 q.2 in (
+      let p = names_agree y fits z.target q.0 q.2 in
+      let among : Among z s.observers = subst (Among z) (sym stands.matches.watches.in_order) (among_there stands.matches.watches.made o.0 z at_o) in
+      let valid = every_one (ValidObserver s) z s.observers c.valid.observers among in
+      let e = body_entry s z.target w.target.0 w.target.1 in
+      let typed = declarations_have_types F s c.keep c.valid z.target e.0 p.0 e.1 p.2 in (
         p.0,
         record {
           gives = p.2;
           refers = given_refers z.target p.0 w.target p.2;
-          shown = q.1 ∙ ap (λ o. Some o) p.1;
-          unwatched = w.today.unwatched;
+          shown = ap shown_or q.1 ∙ p.1;
+          told = w.told;
+          apart = λ was is. same_in_both N was p.0
+              (told_apart named value m k g stands unbroken c whole done was p.0 valid.ty e.0.ty (told_typed valid.ty z.watch valid.watch was is) typed);
         },
       )
 
@@ -138,9 +154,12 @@ module _ (named : List ℕ → Option FnRef) (value : FnRef → List GraphValue 
   abbrev new : Kept
   new = record k { accepted = k.accepted + 1; graph = g }
 
-  settled_so : Settles F before s then []
+  abbrev told : List Notice
+  told = notices_then F s k g stands.matches.watches.made shown
+
+  settled_so : Settles F before s then told
   settled_so = record {
-    observers = subst (λ (xs : List Observer). ShowAll F s xs then.observers []) (sym stands.matches.watches.in_order)
+    observers = subst (λ (xs : List Observer). ShowAll F s xs then.observers told) (sym stands.matches.watches.in_order)
         (shows_then F s k g stands.matches.watches.made shown);
     entries = become.become_all F before s N built_at_end built (there_in made) (s.accepted + 1) (IsEarlierTarget s) (IsDeclaredTarget s)
         (λ n b is. c.held.today.plain n b is);
@@ -149,7 +168,7 @@ module _ (named : List ℕ → Option FnRef) (value : FnRef → List GraphValue 
   }
 
   valid_then : Valid F then
-  valid_then = settles_valid F before s then [] c.keep c.valid settled_so
+  valid_then = settles_valid F before s then told c.keep c.valid settled_so
 
   body_of : (n : ℕ) (b : Body) → body_at s n ≡ Some b → (body_at then n ≡ Some (body_then s now b (now n))) × BuiltThen F before s N built_at_end n b (now n)
   body_of n b is = become.body_of_then F before s N built_at_end built (there_in made) (s.accepted + 1) n b is
@@ -179,9 +198,12 @@ module _ (named : List ℕ → Option FnRef) (value : FnRef → List GraphValue 
   declared_then : (t : ℕ) → IsDeclaredTarget s t → IsDeclaredTarget then t
   declared_then t (b, is, own) = (body_then s now b (now t), (body_of t b is).0, own_then t b own)
 
-  watched : Watches then new
+  abbrev watched : Watches then new
   watched = watches_then F s k g stands.matches.watches shown then (k.accepted + 1) refl (λ n b is. (body_then s now b (now n), (body_of n b is).0))
-      declared_then done.observers done.rooted
+      declared_then done.observers
+
+  in_use_still : in_use g.observers ≡ in_use k.graph.observers
+  in_use_still = ap in_use done.observers ∙ told_in_use (shows_now g) k.graph.observers
 
   -- ---- binds and grabs
 
@@ -377,7 +399,7 @@ module _ (named : List ℕ → Option FnRef) (value : FnRef → List GraphValue 
   -- ---- the pair that it leaves
 
   have_new : RootsHave z (in_use k.graph.observers)
-  have_new = subst (λ (os : List Looking). RootsHave z (in_use os)) done.observers (roots_have_in F then new M g.nodes g.work none_died plain_then watched)
+  have_new = subst (λ (ns : List NodeId). RootsHave z ns) in_use_still (roots_have_in F then new M g.nodes g.work none_died plain_then watched)
 
   recalled : (v : Visit) → IsVisit F then v → Needed F then v.item → WasRun (besides F then k.nodes k.bodies G') new v
   recalled v is need =
@@ -393,7 +415,7 @@ module _ (named : List ℕ → Option FnRef) (value : FnRef → List GraphValue 
       }
 
   rooted : AreRooted g (in_use g.observers)
-  rooted = subst (λ (os : List Looking). AreRooted g (in_use os)) (sym done.observers) done.right.roots
+  rooted = subst (λ (ns : List NodeId). AreRooted g ns) (sym in_use_still) done.right.roots
 
   module _ (dead : (n : NodeId) → row_at g.nodes n ≡ None → cutoff_of g n ≡ Equal) where
     -- each cutoff is Equal still
@@ -441,7 +463,7 @@ module _ (named : List ℕ → Option FnRef) (value : FnRef → List GraphValue 
           (ap (map (λ (o : Observer). o.name)) stands.matches.watches.in_order ∙ sym (names_then F s k g stands.matches.watches.made shown));
     }
 
-    matches_then : MatchesMoment F new after
+    abbrev matches_then : MatchesMoment F new after
     matches_then = record {
       names = names;
       accepted = ap (λ (n : ℕ). n + 1) stands.matches.accepted;
@@ -455,13 +477,15 @@ module _ (named : List ℕ → Option FnRef) (value : FnRef → List GraphValue 
     pub accepted_stands : (called calls : ℕ) → RoseBy called (costs_of (left_by k.graph g) g.ran) calls → IsAccepted F m new called calls
     accepted_stands called calls rose = record {
       after = after;
-      notices = [];
-      stabilizes = settles [] (free named value m k g stands unbroken c whole done) settled_so refl refl refl;
-      today = refl;
+      notices = told;
+      stabilizes = settles told (free named value m k g stands unbroken c whole done) settled_so refl refl refl;
       work = costs_of (left_by k.graph g) g.ran;
       due = due named value m k g stands unbroken c whole done;
       within = rose.most;
       matches = matches_then;
+      told = subst (λ (ns : List GraphNotice). AllZip (IsNotice then k.nodes made) ns told) (sym done.notices)
+          (told_then F s k g stands.matches.watches shown then (k.accepted + 1) refl
+          (λ n b is. (body_then s now b (now n), (body_of n b is).0)) declared_then done.observers);
     }
 
 -- ---- over a graph with its functions

@@ -12,9 +12,9 @@ use Rattle.inc_terms.specs.Within.{Given}
 use Rattle.inc_terms.proofs.Unfolding.{AnyFunction}
 use Rattle.graph.specs.Clock.{MovesTo}
 use Rattle.graph.specs.Effects.{KeepsAll}
-use Rattle.graph.specs.Standing as standing
 use Rattle.graph.specs.Standing.{GraphView, graph}
-use Rattle.graph.specs.declared.observer.Observer.{Observer as Looking}
+use Rattle.observers.specs.Observers.{node_at}
+use Rattle.observers.specs.declared.observer.Observer.{Observer as Looking}
 use Rattle.node_arena.specs.Arena.{Arena}
 use Rattle.node_arena.specs.Sound as arena
 use Rattle.node_arena.specs.Typing.{Fits}
@@ -87,7 +87,7 @@ module _ (k : Kept) (h : IsSoundSession k) (to : ℕ) (g : GraphView (Unit {0}))
     has_nodes = λ n d is. node_then n d (h.has_nodes n d is);
     few = few_then;
     one_observer_each = h.one_observer_each;
-    looking = λ o among. subst (λ (os : List Looking). IsSome (standing.node_at os o)) (sym moves.beside.observers) (h.looking o among);
+    looking = λ o among. subst (λ (os : List Looking). IsSome (node_at os o)) (sym moves.beside.observers) (h.looking o among);
     apart = h.apart;
     unbroken = λ whole. moves.beside.top.refused ∙ h.unbroken whole;
     clock = moves.time;

@@ -19,7 +19,8 @@ use Rattle.inc_terms.specs.Term.{Functions}
 use Rattle.stabilizer.specs.Left.{IsObservedIn, IsMetIn, IsBuiltMetIn}
 use Rattle.graph.specs.Sound.{IsWhole}
 use Rattle.graph.specs.Stabilizes.{Stabilizes as GraphStabilizes, left_by, died_by}
-use Rattle.graph.specs.Standing.{look, GraphView, graph, in_use}
+use Rattle.graph.specs.Standing.{look, GraphView, graph}
+use Rattle.observers.specs.Observers.{in_use}
 use Rattle.stabilize_round.specs.Calling.{costs_of}
 use Rattle.script_model.specs.Blocked.{InTheWay, on_cycle, too_deep}
 use Rattle.script_model.specs.Formula as script
@@ -56,11 +57,15 @@ use Rattle.transfer.proofs.Typed.{body_typed, valid_grabs}
 
 -- ---- outcomes
 
-same_outcomes : (o p : Outcome) → same_outcome o p ≡ true → o ≡ p
+pub same_outcomes : (o p : Outcome) → same_outcome o p ≡ true → o ≡ p
 same_outcomes (Val v) (Val w) e = ap (λ z. Val z) (same_values v w e)
 same_outcomes Invalid Invalid e = refl
 same_outcomes (Val v) Invalid e = absurd (cc)
 same_outcomes Invalid (Val w) e = absurd (cc)
+
+pub outcome_itself : (o : Outcome) → same_outcome o o ≡ true
+outcome_itself (Val v) = same_itself v
+outcome_itself Invalid = refl
 
 pub same_kepts : (a b : Option Outcome) → same_kept a b ≡ true → a ≡ b
 same_kepts None None e = refl

@@ -7,20 +7,19 @@ use Rattle.inc_value.specs.declared.node.Point.{Point}
 use Rattle.inc_terms.specs.Graph.{Graph}
 use Rattle.inc_terms.specs.Within.{Given}
 use Rattle.graph.specs.Effects.{KeepsBesideGiven}
-use Rattle.graph.specs.Standing as standing
-use Rattle.graph.specs.Standing.{graph, shown_of, called_last, cutoff_of, times_linked}
-use Rattle.graph.specs.declared.observer.Observer.{Observer as Looking}
+use Rattle.graph.specs.Standing.{graph, called_last, cutoff_of, times_linked}
+use Rattle.observers.specs.Observers.{node_at}
+use Rattle.observers.specs.declared.observer.Observer.{Observer as Looking}
 use Rattle.map_nodes.specs.declared.cutoff.Cutoff.TheVariants.{Equal}
 use Rattle.script_model.specs.Formula.{State, Body, Meanings, Observer, body_at}
 use Rattle.script_model.specs.Need.{Visit}
-use Rattle.script_model.specs.Values.{Outcome}
 use Rattle.script_graph.specs.Kept.{Kept, arena_of, node_in}
-use Rattle.script_graph.specs.Represents.{besides, rooted_at, IsShown, IsObserver, Watches}
-use Rattle.script_graph.specs.Today.{IsDeclaredTarget, RefersTo}
-use Rattle.script_graph.specs.Settled.{ScopesBuilt, StillDeclares, WasRun, Settled}
+use Rattle.script_graph.specs.Represents.{besides, rooted_at, IsObserver, Watches}
+use Rattle.script_graph.specs.Today.{IsDeclaredTarget}
+use Rattle.script_graph.specs.Settled.{ScopesBuilt, ShownWereRoots, StillDeclares, WasRun, Settled}
 use Rattle.transfer.specs.Items.{GrabsStay}
-use Rattle.script_graph.proofs.Held.{rooted_still, was_still, link_less, held_less}
-use Rattle.script_graph.proofs.Referring.{outcome_agrees, outcome_refers_more}
+use Rattle.script_graph.proofs.Held.{rooted_still, link_less, held_less}
+use Rattle.script_graph.proofs.Referring.{observer_agrees, outcome_refers_more}
 
 -- ---- observers
 
@@ -30,30 +29,17 @@ module _ (s s' : State) (k k' : Kept) (beside : KeepsBesideGiven k.graph k'.grap
     (given : (n : ℕ) (b : Body) → body_at s n ≡ Some b → Given (arena_of k).given (node_in k.nodes n))
     (stays : (n : ℕ) (b : Body) → body_at s n ≡ Some b → (c : Body) × (body_at s' n ≡ Some c))
     (targets : (t : ℕ) → IsDeclaredTarget s t → IsDeclaredTarget s' t) where
-  looks_on : (o : ObsId) → standing.node_at k'.graph.observers o ≡ standing.node_at k.graph.observers o
-  looks_on o = ap (λ (os : List Looking). standing.node_at os o) beside.observers
-
-  shown_on : (o : ObsId) (x : Observer) (b : Body) → body_at s x.target ≡ Some b
-      → ((p : Outcome) → x.shown ≡ Some p → RefersTo (IsDeclaredTarget s) p) → IsShown k o x → IsShown k' o x
-  shown_on o x b is refers h = record {
-    earlier = λ was.
-        let e = h.earlier (was_still k'.graph k.graph o (sym beside.top.rooted) (sym (looks_on o)) was) in (
-          e.0,
-          e.1,
-          λ whole. ap (shown_of k'.graph) (nodes x.target b is) ∙ (beside.of_nodes.shown (node_in k.nodes x.target) (given x.target b is)
-              ∙ (e.2 (sym broken ∙ whole) ∙ ap (λ p. Some p)
-              (outcome_agrees (IsDeclaredTarget s) (node_in k.nodes) (node_in k'.nodes) (λ t own. nodes t own.0 own.1) e.0 (refers e.0 e.1)))),
-        );
-    later = λ never. h.later (λ was. never (was_still k.graph k'.graph o beside.top.rooted (looks_on o) was));
-  }
+  looks_on : (o : ObsId) → node_at k'.graph.observers o ≡ node_at k.graph.observers o
+  looks_on o = ap (λ (os : List Looking). node_at os o) beside.observers
 
   observer_on : (o : ObsId) (x : Observer) → IsObserver s k o x → IsObserver s' k' o x
   observer_on o x h = record {
-    looks = looks_on o ∙ (h.looks ∙ ap (λ n. Some n) (sym (nodes x.target h.target.0 h.target.1)));
+    is = ap (λ (os : List Looking). slice_get os o.0) beside.observers ∙ (h.is ∙ ap (λ (y : Looking). Some y)
+        (observer_agrees (IsDeclaredTarget s) (node_in k.nodes) (node_in k'.nodes) (λ t own. nodes t own.0 own.1) x
+        (nodes x.target h.target.0 h.target.1) h.refers h.told));
     target = stays x.target h.target.0 h.target.1;
-    shown = shown_on o x h.target.0 h.target.1 h.refers h.shown;
     refers = λ p is. outcome_refers_more (IsDeclaredTarget s) (IsDeclaredTarget s') targets p (h.refers p is);
-    today = h.today;
+    told = λ p is. outcome_refers_more (IsDeclaredTarget s) (IsDeclaredTarget s') targets p (h.told p is);
   }
 
   -- the observers are as they were
@@ -97,18 +83,18 @@ pub record LeavesBeside (k k' : Kept) : Type 0 where
 -- a call that keeps what is beside the graph
 pub leaves_beside : (k k' : Kept) → KeepsBesideGiven k.graph k'.graph → (arena_of k).given ≤ (arena_of k').given → LeavesBeside k k'
 leaves_beside k k' keeps given = record {
-  rooted = λ o n at. rooted_still k'.graph k.graph o (sym keeps.top.rooted) (ap (λ (os : List Looking). standing.node_at os o) (sym keeps.observers)) n at;
+  rooted = λ o n at. rooted_still k'.graph k.graph o (sym keeps.top.rooted) (ap (λ (os : List Looking). node_at os o) (sym keeps.observers)) n at;
   fewer = λ p q. let same = keeps.need.links p q in omega (arith, same);
   given = given;
   last = keeps.of_nodes.last;
   no_more_cutoffs = keeps.no_more_cutoffs;
 }
 
--- what is kept of the last accepted stabilize is so still
-pub settled_on : (F : Meanings) (before s s' : State) (k k' : Kept) → LeavesBeside k k' → StillDeclares s k.nodes (graph k.graph) s' k'
-    → GrabsStay s s' → (ScopesBuilt (graph k.graph) → ScopesBuilt (graph k'.graph))
-    → ((x : Observer) → Among x s'.observers → IsSome x.shown → Among x s.observers) → Settled F before s k → Settled F before s' k'
-settled_on F before s s' k k' leaves still live built shown st = record {
+-- what is kept of the last accepted stabilize is so still, also where observers that show something look at what they looked at
+pub settled_so : (F : Meanings) (before s s' : State) (k k' : Kept) → LeavesBeside k k' → StillDeclares s k.nodes (graph k.graph) s' k'
+    → GrabsStay s s' → (ScopesBuilt (graph k.graph) → ScopesBuilt (graph k'.graph)) → (ShownWereRoots before s → ShownWereRoots before s')
+    → Settled F before s k → Settled F before s' k'
+settled_so F before s s' k k' leaves still live built shown st = record {
   nodes = st.nodes;
   bodies = st.bodies;
   left = st.left;
@@ -121,7 +107,7 @@ settled_on F before s s' k k' leaves still live built shown st = record {
   links = λ p q held link. st.links p q (held_less k.graph k'.graph leaves.rooted leaves.fewer p held)
       (link_less k.graph k'.graph leaves.rooted leaves.fewer p q link);
   ran = λ v is need. ran_on v (st.ran v is need);
-  watched = λ x among is. st.watched x (shown x among is) is;
+  watched = shown st.watched;
   today = record { plain = st.today.plain; equal = λ n. leaves.no_more_cutoffs n (st.today.equal n) };
 }
   where
@@ -134,3 +120,10 @@ settled_on F before s s' k k' leaves still live built shown st = record {
       is_last = leaves.last w.node w.given ∙ w.is_last;
       values_are = w.values_are;
     }
+
+-- so it is where these observers are as they were
+pub settled_on : (F : Meanings) (before s s' : State) (k k' : Kept) → LeavesBeside k k' → StillDeclares s k.nodes (graph k.graph) s' k'
+    → GrabsStay s s' → (ScopesBuilt (graph k.graph) → ScopesBuilt (graph k'.graph))
+    → ((x : Observer) → Among x s'.observers → IsSome x.shown → Among x s.observers) → Settled F before s k → Settled F before s' k'
+settled_on F before s s' k k' leaves still live built shown =
+    settled_so F before s s' k k' leaves still live built (λ were x among is. were x (shown x among is) is)

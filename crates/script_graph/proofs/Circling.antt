@@ -21,7 +21,8 @@ use Rattle.inc_terms.proofs.Same.{outcome_decides}
 use Rattle.stabilizer.specs.Left.{ComesBack, IsListedIn, IsLawfulIn}
 use Rattle.graph.specs.Sound.{IsWhole}
 use Rattle.graph.specs.Stabilizes.{IsRefusedFor, HasCalledMet, left_by, died_by}
-use Rattle.graph.specs.Standing.{in_use, look, GraphView, IsOwner, graph}
+use Rattle.graph.specs.Standing.{look, GraphView, IsOwner, graph}
+use Rattle.observers.specs.Observers.{in_use}
 use Rattle.graph.specs.Fault.{kept_of}
 use Rattle.graph.specs.declared.fault.Kept.TheVariants as fault
 use Rattle.script_model.specs.Blocked.{IsCycle}

@@ -1,23 +1,23 @@
 -- A stabilize that was cut short.
-use Rattle.std.proofs.Common.{◌≡◌, ℕ, ◌+◌, ◌≤◌, List, length, Option, Some, None, refl, ap, sym, ◌∙◌}
+use Rattle.std.proofs.Common.{◌≡◌, ℕ, ◌+◌, ◌≤◌, List, length, Option, Some, None, refl, ap, sym, ◌∙◌, slice_get}
 use Rattle.inc_value.specs.declared.function.FnRef.{FnRef}
 use Rattle.inc_value.specs.declared.node.ObsId.{ObsId}
 use Rattle.inc_value.specs.declared.value.Value.{Value as GraphValue}
 use Rattle.inc_terms.specs.Term.{Functions}
 use Rattle.graph.specs.Sound.{IsWhole}
-use Rattle.graph.specs.Standing.{GraphView, node_at}
+use Rattle.graph.specs.Standing.{GraphView}
+use Rattle.observers.specs.Observers.{node_at}
 use Rattle.graph.specs.Stabilizes.{IsRefusedFor, HasCalledMet}
 use Rattle.graph.specs.declared.fault.Kept.{Kept as Cause}
-use Rattle.graph.specs.declared.observer.Observer.{Observer as Looking}
-use Rattle.script_model.specs.Formula.{State, Observer, Meanings, meanings_of}
+use Rattle.observers.specs.declared.observer.Observer.{Observer as Looking}
+use Rattle.script_model.specs.Formula.{State, Meanings, meanings_of}
 use Rattle.script_model.specs.Run.{most_calls}
 use Rattle.script_model.specs.Step.{Moment}
 use Rattle.script_graph.specs.Growing.{functions_over}
 use Rattle.script_graph.specs.Kept.{Kept, without_functions}
-use Rattle.script_graph.specs.Represents.{graph_functions, IsShown, Watches}
+use Rattle.script_graph.specs.Represents.{graph_functions, Watches}
 use Rattle.script_graph.specs.Stabilizing.{IsCutShort}
 use Rattle.script_graph.specs.State.{MatchesMoment, Stands}
-use Rattle.script_graph.proofs.Held.{was_still}
 use Rattle.script_graph.proofs.Refusing.{IsSessions, kept_so, functions_so, moment_unbroken, stabilize_of, few_calls}
 
 -- ---- broken
@@ -36,19 +36,13 @@ watches_broken s k g number keeps w = record {
   in_order = w.in_order;
   ended = λ o at. looks o ∙ w.ended o at;
   observing = λ o x at. let h = w.observing o x at in
-      record { looks = looks o ∙ h.looks; target = h.target; shown = still_shown o x h.shown; refers = h.refers; today = h.today };
+      record { is = ap (λ (os : List Looking). slice_get os o.0) keeps.observers ∙ h.is; target = h.target; refers = h.refers; told = h.told };
   named = w.named;
   apart = w.apart;
 }
   where
     looks : (o : ObsId) → node_at g.observers o ≡ node_at k.graph.observers o
     looks o = ap (λ (os : List Looking). node_at os o) keeps.observers
-
-    still_shown : (o : ObsId) (x : Observer) → IsShown k o x → IsShown (record k { broken = Some number; graph = g }) o x
-    still_shown o x h = record {
-      earlier = λ was. let e = h.earlier (was_still g k.graph o (sym keeps.rooted) (sym (looks o)) was) in (e.0, e.1, λ whole. absurd (cc));
-      later = λ never. h.later (λ was. never (was_still k.graph g o keeps.rooted (looks o) was));
-    }
 
 -- what is kept of a script that broke matches the broken moment, where observers stayed
 pub broken_matches : (F : Meanings) (m : Moment) (k : Kept) (g : GraphView (Unit {0})) (number : ℕ) → KeepsObservers k.graph g → MatchesMoment F k m

@@ -3,7 +3,8 @@ use Rattle.std.proofs.Common.{◌≡◌, ◌⊎◌, inl, inr, ℕ, zero, suc, �
 use Rattle.std.proofs.lemmas.Slice.Eq.{bytes_eq-Decides}
 use Rattle.std.specs.Str.{bytes_eq}
 use Rattle.graph.specs.Effects.{Ends}
-use Rattle.graph.specs.Standing.{GraphView, graph, node_at, looked_at}
+use Rattle.graph.specs.Standing.{GraphView, graph}
+use Rattle.observers.specs.Observers.{node_at, looked_at, ended}
 use Rattle.inc_value.specs.Choice.{Among, NoRepeats}
 use Rattle.inc_value.specs.declared.node.NodeId.{NodeId}
 use Rattle.inc_value.specs.declared.node.ObsId.{ObsId}
@@ -12,13 +13,13 @@ use Rattle.node_arena.specs.Arena.{Arena, row_at}
 use Rattle.script_model.specs.Check.{Unobserve, is_among, names_of}
 use Rattle.script_model.specs.Formula.{State, Observer, Meanings}
 use Rattle.script_model.specs.Step.{Moment, moved}
-use Rattle.script_graph.specs.Kept.{Kept, node_in}
-use Rattle.script_graph.specs.Represents.{rooted_at, there_in, IsShown, Watches}
+use Rattle.script_graph.specs.Kept.{Kept}
+use Rattle.script_graph.specs.Represents.{rooted_at, there_in, Watches}
 use Rattle.script_graph.specs.Settled.{ScopesBuilt, StillDeclares}
 use Rattle.script_graph.specs.Sound.{AreFew, HaveNodes, IsSoundSession}
 use Rattle.script_graph.specs.State.{MatchesMoment}
 use Rattle.script_graph.proofs.Carrying.{LeavesBeside, settled_on}
-use Rattle.script_graph.proofs.Held.{rooted_looks, rooted_still, was_still}
+use Rattle.script_graph.proofs.Held.{rooted_looks, rooted_still}
 use Rattle.script_graph.proofs.Observing.{get_some, there_is_among}
 use Rattle.script_graph.proofs.Same.{represents_so}
 
@@ -104,7 +105,7 @@ among_filter {A} x p (y ∷ ys) among = go (p y) (among_filter x p ys) among
 
 -- ---- the last in the place of one
 
-same_or : (j i : ℕ) → (j ≡ i) ⊎ (j ≡ i → ⊥)
+pub same_or : (j i : ℕ) → (j ≡ i) ⊎ (j ≡ i → ⊥)
 same_or zero zero = inl refl
 same_or zero (suc i) = inr (λ e. absurd (omega (arith, e)))
 same_or (suc j) zero = inr (λ e. absurd (omega (arith, e)))
@@ -178,11 +179,26 @@ swap_source xs n i j d size less = go (same_or j i)
         ∙ ap (λ (l : ℕ). slice_get xs (l - 1)) size
     go (inr ne) = cut (slice_index_or xs (length xs - 1) d) ∙ set_other xs i j (slice_index_or xs (length xs - 1) d) ne
 
-swap_within : {A : Type 0} (xs : List A) (n i j : ℕ) (d x : A) → length xs ≡ n → slice_get (swap_remove xs i d) j ≡ Some x → j < n - 1
+pub swap_within : {A : Type 0} (xs : List A) (n i j : ℕ) (d x : A) → length xs ≡ n → slice_get (swap_remove xs i d) j ≡ Some x → j < n - 1
 swap_within xs n i j d x size at =
     let less = take_within (slice_set xs i (slice_index_or xs (length xs - 1) d)) (length xs - 1) j x at in omega (arith, less, size)
 
-swap_length : {A : Type 0} (xs : List A) (i : ℕ) (d : A) → length (swap_remove xs i d) ≡ length xs - 1
+-- the last comes to stand in the place, and others stay
+pub swap_here : {A : Type 0} (xs : List A) (i : ℕ) (d : A) → i < length xs - 1 → slice_get (swap_remove xs i d) i ≡ slice_get xs (length xs - 1)
+swap_here xs i d less = swap_source xs (length xs) i i d refl less ∙ go (same_or i i)
+  where
+    go : (c : (i ≡ i) ⊎ (i ≡ i → ⊥)) → slice_get xs (pick c (length xs - 1)) ≡ slice_get xs (length xs - 1)
+    go (inl e) = refl
+    go (inr ne) = absurd (ne refl)
+
+pub swap_other : {A : Type 0} (xs : List A) (i j : ℕ) (d : A) → j < length xs - 1 → (j ≡ i → ⊥) → slice_get (swap_remove xs i d) j ≡ slice_get xs j
+swap_other xs i j d less ne = swap_source xs (length xs) i j d refl less ∙ go (same_or j i)
+  where
+    go : (c : (j ≡ i) ⊎ (j ≡ i → ⊥)) → slice_get xs (pick c (length xs - 1)) ≡ slice_get xs j
+    go (inl e) = absurd (ne e)
+    go (inr other) = refl
+
+pub swap_length : {A : Type 0} (xs : List A) (i : ℕ) (d : A) → length (swap_remove xs i d) ≡ length xs - 1
 swap_length xs i d =
     take_length (slice_set xs i (slice_index_or xs (length xs - 1) d)) (length xs - 1)
     (let same = set_length xs i (slice_index_or xs (length xs - 1) d) in omega (arith, same))
@@ -221,7 +237,7 @@ one_leaves name (Some y ∷ made) (suc j) x at named alone =
     rw (differs name y.name (λ e. let k = alone 0 y refl e in absurd (omega (arith, k))))
     (ap (λ (l : List Observer). y ∷ l) (one_leaves name made j x at named (λ l z there same. let e = alone (suc l) z there same in omega (arith, e))))
 
-among_place : (names : List (List ℕ)) (q : List ℕ) → is_among names q ≡ true → (i : ℕ) × (slice_get names i ≡ Some q)
+pub among_place : (names : List (List ℕ)) (q : List ℕ) → is_among names q ≡ true → (i : ℕ) × (slice_get names i ≡ Some q)
 among_place [] q is = absurd (cc)
 among_place (n ∷ names) q is = go (bytes_eq q n) refl is (λ e. among_place names q e)
   where
@@ -294,8 +310,11 @@ module _ (k : Kept) (name d : List ℕ) (i : ℕ) (o : ObsId) (g : GraphView (Un
       source_other last i j old.0
       (apart_once k.observers sound.apart (source last i j) i o (subst (λ (q : ObsId). slice_get k.observers (source last i j) ≡ Some q) is old.1) at_id)
 
+  slot_old : (p : ObsId) → (p.0 ≡ o.0 → ⊥) → slice_get g.observers p.0 ≡ slice_get k.graph.observers p.0
+  slot_old p ne = rw ends.observers (set_other k.graph.observers o.0 p.0 (ended ends.node) ne)
+
   looks_old : (p : ObsId) → (p.0 ≡ o.0 → ⊥) → node_at g.observers p ≡ node_at k.graph.observers p
-  looks_old p ne = rw ends.observers (ap looked_at (set_other k.graph.observers o.0 p.0 (record { node = ends.node; in_use = false }) ne))
+  looks_old p ne = ap looked_at (slot_old p ne)
 
   looking_left : (p : ObsId) → Among p new.observers → IsSome (node_at g.observers p)
   looking_left p among =
@@ -352,27 +371,20 @@ module _ (k : Kept) (name d : List ℕ) (i : ℕ) (o : ObsId) (g : GraphView (Un
     alone : (j : ℕ) (y : Observer) → slice_get w.made j ≡ Some (Some y) → y.name ≡ name → j ≡ o.0
     alone j y at same = ap (λ (q : ObsId). q.0) (w.apart (record { 0 = j }) o y ended_one.0 at ended_one.1 (same ∙ sym ended_one.2))
 
-    shown_still : (p : ObsId) (y : Observer) → (p.0 ≡ o.0 → ⊥) → IsShown k p y → IsShown new p y
-    shown_still p y ne h = record {
-      earlier = λ was. let e = h.earlier (was_still g k.graph p (sym ends.top.rooted) (sym (looks_old p ne)) was) in
-          (e.0, e.1, λ whole. ends.of_nodes.shown (node_in k.nodes y.target) tt ∙ e.2 whole);
-      later = λ never. h.later (λ was. never (was_still k.graph g p ends.top.rooted (looks_old p ne) was));
-    }
-
     looks_ended : (p : ObsId) → p.0 ≡ o.0 → node_at g.observers p ≡ None
     looks_ended p e =
         let less : o.0 < length k.graph.observers = let c = get_some w.made o.0 (Some ended_one.0) ended_one.1 in let l = w.one_each in omega (arith, c, l) in
-        rw (ends.observers, e) (ap looked_at (set_same k.graph.observers o.0 (record { node = ends.node; in_use = false }) less))
+        rw (ends.observers, e) (ap looked_at (set_same k.graph.observers o.0 (ended ends.node) less))
 
     watching : Watches then new
     watching = record {
       made = left;
       one_each = set_length w.made o.0 None ∙ w.one_each
-          ∙ sym (ap length ends.observers ∙ set_length k.graph.observers o.0 (record { node = ends.node; in_use = false }));
+          ∙ sym (ap length ends.observers ∙ set_length k.graph.observers o.0 (ended ends.node));
       in_order = ap (filter (is_other name)) w.in_order ∙ one_leaves name w.made o.0 ended_one.0 ended_one.1 ended_one.2 alone;
       ended = λ p at. was_ended p at (same_or p.0 o.0);
       observing = λ p y at. let old = was_made p.0 y at in let h = w.observing p y old.1 in
-          record { looks = looks_old p old.0 ∙ h.looks; target = h.target; shown = shown_still p y old.0 h.shown; refers = h.refers; today = h.today };
+          record { is = slot_old p old.0 ∙ h.is; target = h.target; refers = h.refers; told = h.told };
       named = λ j p n at_p at_n. let a = id_at j p at_p in let b = name_at j n at_n in let h = w.named (source last i j) p n a.1 b.1 in
           (h.0, left_other p.0 (other_id j p at_p) ∙ h.1, h.2);
       apart = λ p q y z at_p at_q same. w.apart p q y z (was_made p.0 y at_p).1 (was_made q.0 z at_q).1 same;

@@ -49,7 +49,7 @@ use Rattle.transfer.proofs.Typed.{bind_body, body_entry}
 module _ {F : Type 0} where
   -- what stays beside nodes stays but for the functions
   pub top_without : (a b : GraphView F) → KeepsTop a b → KeepsTop (without_functions a) (without_functions b)
-  top_without a b h = record { functions = refl; rooted = h.rooted; refused = h.refused; ran = h.ran }
+  top_without a b h = record { functions = refl; rooted = h.rooted; refused = h.refused; ran = h.ran; notices = h.notices }
 
   pub nodes_without : (Of : NodeId → Type 0) (a b : GraphView F) → KeepsNodes Of a b → KeepsNodes Of (without_functions a) (without_functions b)
   nodes_without Of a b h = record { shown = h.shown; chosen = h.chosen; built = h.built; last = h.last }
@@ -73,6 +73,7 @@ module _ {F : Type 0} where
       rooted = h.top.rooted ∙ g.top.rooted;
       refused = h.top.refused ∙ g.top.refused;
       ran = h.top.ran ∙ g.top.ran;
+      notices = h.top.notices ∙ g.top.notices;
     };
     observers = h.observers ∙ g.observers;
     need = record { links = λ p q. h.need.links p q ∙ g.need.links p q; roots = λ p. h.need.roots p ∙ g.need.roots p };
@@ -90,7 +91,7 @@ module _ {F : Type 0} where
   pub extends_itself : (s : GraphView F) → Extends s s
   extends_itself s = record {
     beside = record {
-      top = record { functions = refl; rooted = refl; refused = refl; ran = refl };
+      top = record { functions = refl; rooted = refl; refused = refl; ran = refl; notices = refl };
       observers = refl;
       need = record { links = λ p q. refl; roots = λ p. refl };
       of_nodes = record { shown = λ n h. refl; chosen = λ n h. refl; built = λ n h. refl; last = λ n h. refl };
@@ -184,7 +185,13 @@ same_unit x y = refl
 -- where there are no functions all stays beside
 pub extends_beside : (a b : GraphView (Unit {0})) → Extends a b → KeepsBesideGiven a b
 extends_beside a b h = record {
-  top = record { functions = same_unit b.functions a.functions; rooted = h.beside.top.rooted; refused = h.beside.top.refused; ran = h.beside.top.ran };
+  top = record {
+    functions = same_unit b.functions a.functions;
+    rooted = h.beside.top.rooted;
+    refused = h.beside.top.refused;
+    ran = h.beside.top.ran;
+    notices = h.beside.top.notices;
+  };
   observers = h.beside.observers;
   need = record { links = h.beside.need.links; roots = h.beside.need.roots };
   of_nodes = record {

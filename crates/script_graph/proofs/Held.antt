@@ -9,11 +9,12 @@ use Rattle.inc_terms.specs.Need.{Holder, Observing, Freezing, Observed, nodes_of
 use Rattle.inc_terms.proofs.Local.{reach_more}
 use Rattle.inc_terms.proofs.Plan.{among_map}
 use Rattle.stabilizer.specs.Left.{StoodBeside}
-use Rattle.graph.specs.Standing.{look, GraphView, in_use, looked_at, node_at, rooted_nodes, IsNeeded, AreRooted, times_linked, times_rooted}
-use Rattle.graph.specs.declared.observer.Observer.{Observer as Looking}
+use Rattle.graph.specs.Standing.{look, GraphView, rooted_nodes, IsNeeded, AreRooted, times_linked, times_rooted}
+use Rattle.observers.specs.Observers.{in_use, looked_at, node_at}
+use Rattle.observers.specs.declared.observer.Observer.{Observer as Looking}
 use Rattle.graph.proofs.Needing.{needed_root, needed_linked, needed_has}
 use Rattle.stabilize_round.proofs.Points.{count_among, among_count}
-use Rattle.script_graph.specs.Represents.{rooted_at, WasThere}
+use Rattle.script_graph.specs.Represents.{rooted_at}
 use Rattle.script_graph.specs.Settled.{observed_from, root_of, side_of, observed_by}
 
 -- ---- observers
@@ -40,6 +41,12 @@ looks_taken zero os j low = absurd (omega (arith, low))
 looks_taken (suc r) [] j low = refl
 looks_taken (suc r) (o ∷ os) zero low = refl
 looks_taken (suc r) (o ∷ os) (suc j) low = looks_taken r os j (omega (arith, low))
+
+taken_among : (r : ℕ) (os : List Looking) (j : ℕ) (x : Looking) → j < r → slice_get os j ≡ Some x → Among x (take r os)
+taken_among zero os j x low e = absurd (omega (arith, low))
+taken_among (suc r) [] j x low e = absurd (cc)
+taken_among (suc r) (o ∷ os) zero x low e = inl (cc)
+taken_among (suc r) (o ∷ os) (suc j) x low e = inr (taken_among r os j x (omega (arith, low)) e)
 
 -- an observer in use stands among those that are
 observed_there : (i : ℕ) (os : List Looking) (j : ℕ) (n : NodeId) → looked_at (slice_get os j) ≡ Some n
@@ -115,12 +122,10 @@ module _ {A : Type 0} where
   pub looks_rooted : (g : GraphView A) (o : ObsId) (n : NodeId) → o.0 < g.rooted → node_at g.observers o ≡ Some n → rooted_at g o ≡ Some n
   looks_rooted g o n low e = looks_taken g.rooted g.observers o.0 low ∙ e
 
-  -- one that looks at a node was there then, if there were more observers
-  pub was_there : (g : GraphView A) (o : ObsId) (n : NodeId) → o.0 < g.rooted → node_at g.observers o ≡ Some n → WasThere g o
-  was_there g o n low e = (n, looks_rooted g o n low e)
-
-  pub wasnt_there : (g : GraphView A) (o : ObsId) → g.rooted ≤ o.0 → WasThere g o → ⊥
-  wasnt_there g o high was = let low = (rooted_looks g o was.0 was.1).0 in absurd (omega (arith, low, high))
+  -- one that was there then
+  pub rooted_among : (g : GraphView A) (o : ObsId) (x : Looking) → o.0 < g.rooted → slice_get g.observers o.0 ≡ Some x
+      → Among x (take g.rooted g.observers)
+  rooted_among g o x low e = taken_among g.rooted g.observers o.0 x low e
 
   -- so it is in use
   root_holds : (g : GraphView A) (holder : Holder) (n : NodeId) → root_of g holder ≡ Some n → StillHolds (observed_by g) holder
@@ -136,9 +141,6 @@ module _ {A : Type 0} where
   rooted_still g h o same looks n was =
       let then = rooted_looks g o n was in
       looks_rooted h o n (subst (λ (r : ℕ). o.0 < r) (sym same) then.0) (looks ∙ then.1)
-
-  pub was_still : (g h : GraphView A) (o : ObsId) → h.rooted ≡ g.rooted → node_at h.observers o ≡ node_at g.observers o → WasThere g o → WasThere h o
-  was_still g h o same looks was = (was.0, rooted_still g h o same looks was.0 was.1)
 
   -- what is needed is held beside the graph
   module _ (g : GraphView A) (roots : AreRooted g (rooted_nodes g)) where

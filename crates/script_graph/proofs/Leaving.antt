@@ -11,7 +11,8 @@ use Rattle.inc_terms.specs.Same.{same_outcome}
 use Rattle.inc_terms.specs.Term.{Functions}
 use Rattle.inc_terms.specs.Within.{Given}
 use Rattle.inc_terms.proofs.Same.{outcome_decides}
-use Rattle.graph.specs.Standing.{GraphView, graph, look, in_use}
+use Rattle.graph.specs.Standing.{GraphView, graph, look}
+use Rattle.observers.specs.Observers.{in_use}
 use Rattle.graph.specs.Stabilizes.{LeavesNodes, left_by, died_by}
 use Rattle.stabilizer.specs.Left.{IsBuiltOther, BuildsRightIn}
 use Rattle.node_arena.specs.Arena.{row_at}

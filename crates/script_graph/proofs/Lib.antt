@@ -44,6 +44,8 @@ pub mod Showing
 pub mod Sounding
 pub mod Staying
 pub mod Spots
+pub mod Told
 pub mod TooDeep
+pub mod Watched
 pub mod Watching
 pub mod Without

@@ -2,8 +2,8 @@
 use Rattle.std.proofs.Common.{◌≡◌, inl, inr, ℕ, suc, Bool, true, false, cond, List, [], ◌∷◌, ◌++◌, map, length, Option, None, Some, refl, ap, sym, subst, ◌∙◌, arith, slice_get}
 use Rattle.inc_value.specs.Choice.{Among, and_then}
 use Rattle.inc_value.specs.declared.node.NodeId.{NodeId}
-use Rattle.graph.specs.Standing.{in_use, looked_at}
-use Rattle.graph.specs.declared.observer.Observer.{Observer as Looking}
+use Rattle.observers.specs.Observers.{in_use, looked_at}
+use Rattle.observers.specs.declared.observer.Observer.{Observer as Looking}
 use Rattle.inc_terms.proofs.Plan.{among_map}
 use Rattle.script_model.specs.Formula.{State, Entry, Body, Observer, Variable, Computed, After, Every, Grab}
 use Rattle.script_model.specs.Need.{Item, Named, own_root, own_roots, roots}

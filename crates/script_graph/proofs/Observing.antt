@@ -1,11 +1,12 @@
 -- An observer that is made, and what one shows.
-use Rattle.std.proofs.Common.{◌≡◌, ◌⊎◌, inl, inr, ℕ, zero, suc, ◌+◌, ◌<◌, ◌≤◌, Bool, true, false, cond, ◌||◌, List, [], ◌∷◌, ◌++◌, map, length, Option, None, Some, IsSome, refl, ap, sym, subst, ◌∙◌, arith, slice_get}
+use Rattle.std.proofs.Common.{◌≡◌, ◌⊎◌, inl, inr, ℕ, zero, suc, ◌+◌, ◌<◌, ◌≤◌, Bool, true, false, cond, ◌||◌, List, [], ◌∷◌, ◌++◌, map, length, Option, None, Some, option_map, IsSome, refl, ap, sym, subst, ◌∙◌, arith, slice_get}
 use Rattle.std.proofs.lemmas.Slice.Eq.{bytes_eq-Decides}
 use Rattle.std.specs.List.{list_any}
 use Rattle.std.specs.Prelude.{IsFalse}
 use Rattle.std.specs.Str.{bytes_eq}
 use Rattle.graph.specs.Effects.{Observes}
-use Rattle.graph.specs.Standing.{GraphView, graph, node_at, looked_at, shown_of, called_last, cutoff_of, times_linked}
+use Rattle.graph.specs.Standing.{GraphView, graph, called_last, cutoff_of, times_linked}
+use Rattle.observers.specs.Observers.{node_at, looked_at, shown_at, shown_in, new_observer as made_observer}
 use Rattle.inc_value.specs.Choice.{Among}
 use Rattle.inc_value.specs.declared.node.NodeId.{NodeId}
 use Rattle.inc_value.specs.declared.node.ObsId.{ObsId}
@@ -13,14 +14,15 @@ use Rattle.node_arena.specs.Arena.{Arena, row_at}
 use Rattle.inc_value.specs.declared.outcome.Outcome as engine
 use Rattle.script_model.specs.Check.{Observe, declared_of, is_among, names_of}
 use Rattle.script_model.specs.Formula.{State, Entry, Body, Observer, Meanings, body_at}
+use Rattle.script_model.specs.Values.{Outcome}
 use Rattle.script_model.specs.Step.{Moment, moved, find_observer, new_observer, shown_by}
 use Rattle.script_graph.specs.Kept.{Kept, node_in}
-use Rattle.script_graph.specs.Represents.{there_in, AreNames, IsObserver, IsShown, Watches}
+use Rattle.script_graph.specs.Represents.{there_in, AreNames, IsObserver, Watches}
 use Rattle.script_graph.specs.Settled.{ScopesBuilt, StillDeclares}
 use Rattle.script_graph.specs.Shown.{ShowsIt}
 use Rattle.script_graph.specs.State.{MatchesMoment}
 use Rattle.script_graph.proofs.Carrying.{LeavesBeside, settled_on}
-use Rattle.script_graph.proofs.Held.{rooted_looks, rooted_still, was_still, was_there, wasnt_there}
+use Rattle.script_graph.proofs.Held.{rooted_looks, rooted_still}
 use Rattle.script_graph.proofs.Same.{represents_so}
 use Rattle.transfer.specs.Both.{graph_outcome}
 
@@ -156,7 +158,7 @@ module _ (F : Meanings) (k : Kept) (m : Moment) (name : List ℕ) (target : ℕ)
   nodes_same : g.nodes ≡ k.graph.nodes
   nodes_same = ap (λ (h : GraphView (Unit {0})). h.nodes) observes.rest
 
-  observers_more : g.observers ≡ k.graph.observers ++ record { node = node_in k.nodes target; in_use = true } ∷ []
+  observers_more : g.observers ≡ k.graph.observers ++ made_observer (node_in k.nodes target) ∷ []
   observers_more = ap (λ (h : GraphView (Unit {0})). h.observers) observes.rest
 
   rooted_same : g.rooted ≡ k.graph.rooted
@@ -174,24 +176,20 @@ module _ (F : Meanings) (k : Kept) (m : Moment) (name : List ℕ) (target : ℕ)
       not_both true is never = absurd (cc)
       not_both false is never = absurd (cc)
 
-  looks_old : (p : ObsId) → p.0 < length k.graph.observers → node_at g.observers p ≡ node_at k.graph.observers p
-  looks_old p less = rw observers_more (ap looked_at (get_within k.graph.observers _ p.0 less))
+  slot_old : (p : ObsId) → p.0 < length k.graph.observers → slice_get g.observers p.0 ≡ slice_get k.graph.observers p.0
+  slot_old p less = rw observers_more (get_within k.graph.observers _ p.0 less)
 
-  old_shown : (p : ObsId) (y : Observer) → p.0 < length k.graph.observers → IsShown k p y → IsShown new p y
-  old_shown p y less h = record {
-    earlier = λ was. let e = h.earlier (was_still g k.graph p (sym rooted_same) (sym (looks_old p less)) was) in
-        (e.0, e.1, λ whole. ap (λ (h : GraphView (Unit {0})). shown_of h (node_in k.nodes y.target)) observes.rest ∙ e.2 whole);
-    later = λ never. h.later (λ was. never (was_still k.graph g p rooted_same (looks_old p less) was));
-  }
+  looks_old : (p : ObsId) → p.0 < length k.graph.observers → node_at g.observers p ≡ node_at k.graph.observers p
+  looks_old p less = ap looked_at (slot_old p less)
 
   old_observer : (p : ObsId) (y : Observer) → slice_get w.made p.0 ≡ Some (Some y) → IsObserver then new p y
   old_observer p y at =
       let h = w.observing p y at in
       let less : p.0 < length k.graph.observers = let c = get_some w.made p.0 (Some y) at in let e = w.one_each in omega (arith, c, e) in
-      record { looks = looks_old p less ∙ h.looks; target = h.target; shown = old_shown p y less h.shown; refers = h.refers; today = h.today }
+      record { is = slot_old p less ∙ h.is; target = h.target; refers = h.refers; told = h.told }
 
-  new_looks : (p : ObsId) → p.0 ≡ length w.made → node_at g.observers p ≡ Some (node_in k.nodes target)
-  new_looks p e = rw (observers_more, e, w.one_each) (ap looked_at (get_end k.graph.observers (record { node = node_in k.nodes target; in_use = true })))
+  new_slot : (p : ObsId) → p.0 ≡ length w.made → slice_get g.observers p.0 ≡ Some (made_observer (node_in k.nodes target))
+  new_slot p e = rw (observers_more, e, w.one_each) (get_end k.graph.observers (made_observer (node_in k.nodes target)))
 
   target_there : (b : Body) × (body_at s target ≡ Some b)
   target_there =
@@ -202,14 +200,10 @@ module _ (F : Meanings) (k : Kept) (m : Moment) (name : List ℕ) (target : ℕ)
 
   new_observer_is : (p : ObsId) → p.0 ≡ length w.made → IsObserver then new p x
   new_observer_is p e = record {
-    looks = new_looks p e;
+    is = new_slot p e;
     target = target_there;
-    shown = record {
-      earlier = λ was. absurd (wasnt_there g p (let r = rooted in let c = w.one_each in let same = rooted_same in omega (arith, e, r, c, same)) was);
-      later = λ never. refl;
-    };
     refers = λ q is. absurd (cc);
-    today = record { unwatched = refl };
+    told = λ q is. absurd (cc);
   }
 
   watching : Watches then new
@@ -310,7 +304,7 @@ module _ (F : Meanings) (k : Kept) (m : Moment) (name : List ℕ) (target : ℕ)
 
 -- ---- what one shows
 
-module _ (F : Meanings) (k : Kept) (m : Moment) (stands : MatchesMoment F k m) (unbroken : m.broken ≡ None) (i : ℕ) (o : ObsId) (name : List ℕ)
+module _ (F : Meanings) (k : Kept) (m : Moment) (stands : MatchesMoment F k m) (i : ℕ) (o : ObsId) (name : List ℕ)
     (at_id : slice_get k.observers i ≡ Some o) (at_name : slice_get k.names.observers i ≡ Some name) where
   seen_by : Watches m.present k
   seen_by = stands.watches
@@ -325,17 +319,22 @@ module _ (F : Meanings) (k : Kept) (m : Moment) (stands : MatchesMoment F k m) (
             (there_is_found seen_by.made o.0 h.0 h.1 (λ j z at same. ap (λ (q : ObsId). q.0) (seen_by.apart (record { 0 = j }) o z h.0 at h.1 same))),
       )
 
-  -- what the graph shows of its node, where it was there when a stabilize was accepted last
-  pub shows_it : (n : NodeId) (out : engine.Outcome) → node_at k.graph.observers o ≡ Some n → shown_of k.graph n ≡ Some out → o.0 < k.graph.rooted
-      → ShowsIt (node_in k.nodes) m.present name out
-  shows_it n out looks shows earlier =
-      let f = found in
-      let e = f.1.shown.earlier (was_there k.graph o n earlier looks) in
-      let same_node : node_in k.nodes f.0.target ≡ n = let l = sym f.1.looks ∙ looks in cc in
-      let same : graph_outcome (node_in k.nodes) e.0 ≡ out =
-      let l = sym (e.2 (sym stands.broken ∙ unbroken)) ∙ ap (shown_of k.graph) same_node ∙ shows in cc in
-      record { outcome = e.0; is_shown = rw f.2 e.1; refers = f.1.refers e.0 e.1; same = same }
+  -- what the graph shows of it
+  pub shows_it : (out : engine.Outcome) → shown_at k.graph.observers o ≡ Some out → ShowsIt (node_in k.nodes) m.present name out
+  shows_it out shows = let f = found in by_shown f.0 f.1 f.2 f.0.shown refl (sym (ap shown_in f.1.is) ∙ shows)
+    where
+      by_shown : (y : Observer) → IsObserver m.present k o y → find_observer m.present.observers name ≡ Some y → (p : Option Outcome) → y.shown ≡ p
+          → option_map (graph_outcome (node_in k.nodes)) y.shown ≡ Some out → ShowsIt (node_in k.nodes) m.present name out
+      by_shown y h at None is e = absurd (let none = sym (ap (option_map (graph_outcome (node_in k.nodes))) is) ∙ e in cc)
+      by_shown y h at (Some p) is e =
+          let same : Some (graph_outcome (node_in k.nodes) p) ≡ Some out = sym (ap (option_map (graph_outcome (node_in k.nodes))) is) ∙ e in
+          record { outcome = p; is_shown = rw at is; refers = h.refers p is; same = cc }
 
-  -- nothing where it was made later
-  pub shows_nothing : k.graph.rooted ≤ o.0 → shown_by m.present name ≡ None
-  shows_nothing later = let f = found in rw f.2 (f.1.shown.later (wasnt_there k.graph o later))
+  -- nothing where it shows nothing yet
+  pub shows_nothing : shown_at k.graph.observers o ≡ None → shown_by m.present name ≡ None
+  shows_nothing none = let f = found in by_shown f.0 f.2 f.0.shown refl (sym (ap shown_in f.1.is) ∙ none)
+    where
+      by_shown : (y : Observer) → find_observer m.present.observers name ≡ Some y → (p : Option Outcome) → y.shown ≡ p
+          → option_map (graph_outcome (node_in k.nodes)) y.shown ≡ None → shown_by m.present name ≡ None
+      by_shown y at None is e = rw at is
+      by_shown y at (Some p) is e = absurd (let some = sym (ap (option_map (graph_outcome (node_in k.nodes))) is) ∙ e in cc)

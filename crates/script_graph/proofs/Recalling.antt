@@ -21,7 +21,8 @@ use Rattle.inc_terms.proofs.Local.{needed_more}
 use Rattle.inc_terms.specs.Term as term
 use Rattle.inc_terms.proofs.Unfolding.{scope_stands}
 use Rattle.stabilizer.specs.Left.{IsObservedIn}
-use Rattle.graph.specs.Standing.{GraphView, graph, in_use, shown_of, chosen_by, called_last}
+use Rattle.graph.specs.Standing.{GraphView, graph, shown_of, chosen_by, called_last}
+use Rattle.observers.specs.Observers.{in_use}
 use Rattle.graph.specs.Stabilizes.{Stabilizes, left_by, died_by}
 use Rattle.node_arena.specs.Arena.{Arena, row_at}
 use Rattle.script_model.specs.Formula.{State, Meanings}

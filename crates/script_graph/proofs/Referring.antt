@@ -1,5 +1,5 @@
 -- What values refer to.
-use Rattle.std.proofs.Common.{◌≡◌, ℕ, Option, Some, refl, ap, sym, ◌∙◌}
+use Rattle.std.proofs.Common.{◌≡◌, ℕ, true, Option, None, Some, option_map, refl, ap, sym, ◌∙◌}
 use Rattle.script_model.proofs.Leaves.{reference_more}
 use Rattle.script_model.specs.Leaves.{EveryReference}
 use Rattle.inc_value.specs.Choice.{and_then}
@@ -8,9 +8,11 @@ use Rattle.inc_value.specs.declared.ty.Ty.{Ty}
 use Rattle.inc_value.specs.declared.outcome.Outcome.TheVariants as outcome
 use Rattle.inc_value.specs.declared.value.Value.TheVariants as engine
 use Rattle.script_model.specs.Check.{target_of_body}
-use Rattle.script_model.specs.Formula.{State, Entry, entry_at}
+use Rattle.observers.specs.declared.observer.Watch.TheVariants as watch
+use Rattle.script_model.specs.Formula.{State, Entry, Observer, Watch, Unwatched, Fresh, Told, entry_at}
 use Rattle.script_model.specs.Valid.{NameHasType, ValueHasType, OutcomeHasType}
 use Rattle.script_model.specs.Values.{Value, Int, Bool, Text, Reference, Outcome, Val, Invalid}
+use Rattle.script_graph.specs.Represents.{graph_observer, graph_watch}
 use Rattle.script_graph.specs.Today.{AllPlain, IsDeclaredTarget, RefersTo}
 use Rattle.script_graph.proofs.Owning.{own_body}
 use Rattle.transfer.specs.Both.{graph_value, graph_outcome}
@@ -29,6 +31,26 @@ module _ (P : ℕ → Type 0) (nodes nodes' : ℕ → NodeId) (same : (t : ℕ) 
   pub outcome_agrees : (o : Outcome) → RefersTo P o → graph_outcome nodes o ≡ graph_outcome nodes' o
   outcome_agrees (Val v) refers = ap (λ w. outcome.Val w) (value_agrees v refers)
   outcome_agrees Invalid refers = refl
+
+  shown_agrees : (o : Option Outcome) → ((p : Outcome) → o ≡ Some p → RefersTo P p)
+      → option_map (graph_outcome nodes) o ≡ option_map (graph_outcome nodes') o
+  shown_agrees None refers = refl
+  shown_agrees (Some p) refers = ap (λ o. Some o) (outcome_agrees p (refers p refl))
+
+  watch_agrees : (w : Watch) → ((p : Outcome) → w ≡ Told p → RefersTo P p) → graph_watch nodes w ≡ graph_watch nodes' w
+  watch_agrees Unwatched refers = refl
+  watch_agrees Fresh refers = refl
+  watch_agrees (Told p) refers = ap (λ o. watch.Since o) (outcome_agrees p (refers p refl))
+
+  -- so is an observer of the same node
+  pub observer_agrees : (x : Observer) → nodes' x.target ≡ nodes x.target → ((p : Outcome) → x.shown ≡ Some p → RefersTo P p)
+      → ((p : Outcome) → x.watch ≡ Told p → RefersTo P p) → graph_observer nodes x ≡ graph_observer nodes' x
+  observer_agrees x node shown told = λ i. record {
+    node = sym node i;
+    in_use = true;
+    shown = shown_agrees x.shown shown i;
+    watch = watch_agrees x.watch told i;
+  }
 
 -- ---- what has the one property has the other
 

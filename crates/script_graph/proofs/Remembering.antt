@@ -1,5 +1,5 @@
 -- What a session keeps of the last accepted stabilize is what the laws of calls ask for.
-use Rattle.std.proofs.Common.{◌≡◌, ◌⊎◌, inl, inr, ℕ, zero, suc, ◌≤◌, List, [], ◌∷◌, map, length, Option, None, Some, IsSome, refl, ap, sym, subst, ◌∙◌, arith, slice_get}
+use Rattle.std.proofs.Common.{◌≡◌, ◌⊎◌, inl, inr, ℕ, zero, suc, ◌≤◌, List, [], ◌∷◌, map, length, Option, None, Some, option_map, IsSome, refl, ap, sym, subst, ◌∙◌, arith, slice_get}
 use Rattle.inc_value.specs.Choice.{Among, Every as Each, and_then}
 use Rattle.inc_value.specs.declared.function.FnRef.{FnRef}
 use Rattle.inc_value.specs.declared.node.NodeId.{NodeId}
@@ -15,7 +15,8 @@ use Rattle.inc_terms.proofs.Plan.{among_left, among_map}
 use Rattle.stabilizer.specs.Left.{StoodBeside, IsMetIn}
 use Rattle.graph.specs.Sound.{IsWhole}
 use Rattle.graph.specs.Stabilizes.{left_by, died_by}
-use Rattle.graph.specs.Standing.{look, GraphView, graph, in_use, node_at, IsNeeded, cutoff_of}
+use Rattle.graph.specs.Standing.{look, GraphView, graph, IsNeeded, cutoff_of}
+use Rattle.observers.specs.Observers.{in_use, looked_at, node_at}
 use Rattle.map_nodes.proofs.Stopping.{equal_stops}
 use Rattle.node_arena.specs.Arena.{row_at}
 use Rattle.script_model.specs.Formula.{State, Entry, Body, Formula, Observer, Meanings, meanings_of, body_at, entry_at, formula_of_body, Variable, Computed, After, Every, Grab}
@@ -24,17 +25,17 @@ use Rattle.script_model.specs.Step.{Moment}
 use Rattle.script_model.specs.Valid.{Valid, ValidObserver}
 use Rattle.stabilize_round.specs.Calls.{arguments_of}
 use Rattle.script_graph.specs.Kept.{Kept, node_in, no_node}
-use Rattle.script_graph.specs.Represents.{graph_functions, besides, there_in, Watches}
+use Rattle.script_graph.specs.Represents.{graph_functions, graph_observer, besides, there_in, Watches}
 use Rattle.script_graph.specs.Today.{AllPlain, IsPlainBody, IsEarlierTarget, IsDeclaredTarget}
 use Rattle.script_graph.specs.Settled.{side_of, observed_by, Settled}
 use Rattle.script_graph.specs.State.{Stands}
 use Rattle.script_graph.proofs.Extending.{never_given, node_past}
-use Rattle.script_graph.proofs.Held.{looked_within, observed_nodes, rooted_looks, needed_held, stood_beside}
+use Rattle.script_graph.proofs.Held.{looked_within, observed_nodes, rooted_looks, rooted_among, needed_held, stood_beside}
 use Rattle.script_graph.proofs.Leaving.{scopes_stay}
 use Rattle.script_graph.proofs.Looking.{roots_are, among_image, same_name}
 use Rattle.script_graph.proofs.Middle.{IsStabilize, middle, given, fits_then}
 use Rattle.script_graph.proofs.Watching.{roots_are_in}
-use Rattle.transfer.specs.Both.{Both}
+use Rattle.transfer.specs.Both.{Both, graph_outcome}
 use Rattle.transfer.specs.Holding.{ScopesStay, Later, HoldersAre, LastKept, MarksAreNew, Remembers}
 use Rattle.transfer.specs.Items.{node_at as place_node, CoveredBy, RootsAre}
 use Rattle.transfer.specs.Shows.{Fits, plain}
@@ -44,7 +45,7 @@ use Rattle.transfer.proofs.Working.{met_is_covered, work_is_covered}
 
 -- ---- observers
 
-among_there : (made : List (Option Observer)) (j : ℕ) (z : Observer) → slice_get made j ≡ Some (Some z) → Among z (there_in made)
+pub among_there : (made : List (Option Observer)) (j : ℕ) (z : Observer) → slice_get made j ≡ Some (Some z) → Among z (there_in made)
 among_there [] j z e = absurd (cc)
 among_there (None ∷ made) zero z e = absurd (cc)
 among_there (None ∷ made) (suc j) z e = among_there made j z e
@@ -69,7 +70,12 @@ made_there s k w o n looks = go (slice_get w.made o.0) refl
     go (Some None) is = absurd (let none = w.ended o is in cc)
     go (Some (Some z)) is = (z, is)
 
-every_one : {A : Type 0} (P : A → Type 0) (x : A) (xs : List A) → Each P xs → Among x xs → P x
+-- where something is made of what is shown, something is shown
+shown_some : {A B : Type 0} (f : A → B) (o : Option A) → IsSome (option_map f o) → IsSome o
+shown_some f None is = is
+shown_some f (Some a) is = refl
+
+pub every_one : {A : Type 0} (P : A → Type 0) (x : A) (xs : List A) → Each P xs → Among x xs → P x
 every_one P x [] all among = absurd among
 every_one P x (y ∷ ys) all (inl e) = subst P (sym e) all.0
 every_one P x (y ∷ ys) all (inr among) = every_one P x ys all.1 among
@@ -188,11 +194,12 @@ module _ (named : List ℕ → Option FnRef) (value : FnRef → List GraphValue 
       let w = stands.matches.watches in
       let z = made_there s k w o n looks.1 in
       let is = w.observing o z.0 z.1 in
-      let p = is.shown.earlier (n, root) in
+      let shows = shown_some (graph_outcome (node_in k.nodes)) z.0.shown
+      (c.sound.showing (graph_observer (node_in k.nodes) z.0) (rooted_among k.graph o (graph_observer (node_in k.nodes) z.0) looks.0 is.is) refl) in
       let among : Among z.0 s.observers = subst (Among z.0) (sym w.in_order) (among_there w.made o.0 z.0 z.1) in
-      let root_then = st.watched z.0 among (subst (λ (x : Option _). IsSome x) (sym p.1) refl) in
+      let root_then = st.watched z.0 among shows in
       let entry = root_entry F before st.today.plain stands.valid.0 z.0.target root_then in
-      let node : node_in k.nodes z.0.target ≡ n = (let e = sym is.looks ∙ looks.1 in cc) in
+      let node : node_in k.nodes z.0.target ≡ n = (let e = sym (ap looked_at is.is) ∙ looks.1 in cc) in
       (z.0.target, sym node ∙ st.still.names z.0.target entry.0 entry.1, root_then, observed_root s z.0 among)
   holders (Freezing f) n root still = absurd (cc)
 

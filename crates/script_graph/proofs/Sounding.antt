@@ -4,9 +4,9 @@ use Rattle.std.proofs.lemmas.Bool.{cases_eq}
 use Rattle.std.proofs.lemmas.List.{length-append, get_or_append_left, get_or_at}
 use Rattle.std.proofs.lemmas.Option.{slice_get_within}
 use Rattle.graph.specs.Effects.{Sets}
-use Rattle.graph.specs.Standing as standing
 use Rattle.graph.specs.Standing.{GraphView, IsUnbroken}
-use Rattle.graph.specs.declared.observer.Observer.{Observer as Looking}
+use Rattle.observers.specs.Observers.{node_at}
+use Rattle.observers.specs.declared.observer.Observer.{Observer as Looking}
 use Rattle.inc_value.specs.declared.node.NodeId.{NodeId}
 use Rattle.inc_value.specs.declared.ty.Ty.{Ty}
 use Rattle.inc_value.specs.declared.value.Value.{Value as GraphValue}
@@ -68,8 +68,8 @@ module _ (a : Arena) (sound : arena.IsSoundArena a) (declared : List Declared) (
 
 module _ (k : Kept) (h : IsSoundSession k) (sound : arena.IsSoundArena (arena_of k)) where
   module _ (g : GraphView (Unit {0})) (more : Extends k.graph g) where
-    looks_on : (o : _) → IsSome (standing.node_at k.graph.observers o) → IsSome (standing.node_at g.observers o)
-    looks_on o is = subst (λ (os : List Looking). IsSome (standing.node_at os o)) (sym more.beside.observers) is
+    looks_on : (o : _) → IsSome (node_at k.graph.observers o) → IsSome (node_at g.observers o)
+    looks_on o is = subst (λ (os : List Looking). IsSome (node_at os o)) (sym more.beside.observers) is
 
     unbroken_on : k.broken ≡ None → IsUnbroken g
     unbroken_on whole = more.beside.top.refused ∙ h.unbroken whole
@@ -310,7 +310,7 @@ module _ (k : Kept) (h : IsSoundSession k) (sound : arena.IsSoundArena (arena_of
       has_nodes = λ i d is. has_set v i d (h.has_nodes i d is);
       few = few_set v;
       one_observer_each = h.one_observer_each;
-      looking = λ o among. subst (λ (os : List Looking). IsSome (standing.node_at os o)) (sym sets.beside.observers) (h.looking o among);
+      looking = λ o among. subst (λ (os : List Looking). IsSome (node_at os o)) (sym sets.beside.observers) (h.looking o among);
       apart = h.apart;
       unbroken = λ whole. sets.beside.top.refused ∙ h.unbroken whole;
       clock = sets.set.changes.time ∙ h.clock;

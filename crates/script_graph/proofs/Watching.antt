@@ -2,7 +2,7 @@
 use Rattle.std.proofs.Common.{◌≡◌, inl, inr, map, Option, Some, ap, sym, ◌∙◌}
 use Rattle.inc_value.specs.declared.node.NodeId.{NodeId}
 use Rattle.inc_terms.specs.Term.{Functions}
-use Rattle.graph.specs.Standing.{in_use}
+use Rattle.observers.specs.Observers.{in_use, looked_at}
 use Rattle.node_arena.specs.Arena.{Arena}
 use Rattle.wiring.specs.Graph.{graph_at}
 use Rattle.wiring.specs.declared.work.Work.{Work}
@@ -18,7 +18,7 @@ use Rattle.transfer.specs.Items.{RootsAre, RootsHave}
 -- the nodes that are observed are those of the targets, in order
 pub observed_are : (s : State) (k : Kept) → Watches s k → in_use k.graph.observers ≡ map (λ (x : Observer). node_in k.nodes x.target) s.observers
 observed_are s k w =
-    looked_all (node_in k.nodes) w.made k.graph.observers w.one_each (λ j e. w.ended (record { 0 = j }) e) (λ j x e. (w.observing (record { 0 = j }) x e).looks)
+    looked_all (node_in k.nodes) w.made k.graph.observers w.one_each (λ j e. w.ended (record { 0 = j }) e) (λ j x e. ap looked_at (w.observing (record { 0 = j }) x e).is)
     ∙ sym (ap (map (λ (x : Observer). node_in k.nodes x.target)) w.in_order)
 
 -- so the roots of a graph of these observers are those of the script, whatever its functions, and who died

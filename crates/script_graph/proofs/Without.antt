@@ -10,12 +10,14 @@ module _ {A : Type 0} where
   -- ---- what it keeps
 
   whole_without : (W : Meaning) (s : GraphView A) → IsWhole W s → IsWhole W (without_functions s)
-  whole_without W s h = record { roots = h.roots; fit = h.fit; given = h.given; shown = h.shown }
+  whole_without W s h = record { roots = h.roots; fit = h.fit; given = h.given; shown = h.shown; seen = h.seen }
 
   pub sound_without : (W : Meaning) (s : GraphView A) → IsSoundGraph W s → IsSoundGraph W (without_functions s)
   sound_without W s h = record {
     few = h.few;
     earlier = h.earlier;
+    showing = h.showing;
+    later = h.later;
     nodes = h.nodes;
     scopes = h.scopes;
     built = h.built;
@@ -33,6 +35,7 @@ module _ {A : Type 0} where
     stays = done.stays;
     builds = done.builds;
     observers = done.observers;
+    notices = done.notices;
     rooted = done.rooted;
     shows = done.shows;
     right = done.right;

@@ -1,20 +1,24 @@
 -- What a graph has to do with the state of a script.
-use Rattle.std.specs.Prelude.{◌≡◌, ◌+◌, ℕ, pos, List, [], ◌∷◌, map, take, length, Option, None, Some, option_map, slice_get}
+use Rattle.std.specs.Prelude.{◌≡◌, ◌+◌, ℕ, pos, true, List, [], ◌∷◌, map, take, length, Option, None, Some, option_map, slice_get}
 use Rattle.inc_value.specs.declared.node.NodeId.{NodeId}
 use Rattle.inc_value.specs.declared.node.ObsId.{ObsId}
 use Rattle.inc_terms.specs.Depend.{none_died}
 use Rattle.inc_terms.specs.Graph.{Graph}
 use Rattle.inc_terms.specs.Rebuilding.{outcome_of}
 use Rattle.inc_terms.specs.Term.{Functions}
-use Rattle.graph.specs.Standing.{GraphView, graph, node_at, shown_of}
+use Rattle.graph.specs.Standing.{GraphView, graph}
+use Rattle.observers.specs.Observers.{node_at}
+use Rattle.observers.specs.declared.observer.Observer.{Observer as Looking}
+use Rattle.observers.specs.declared.observer.Watch.{Watch as GraphWatch}
+use Rattle.observers.specs.declared.observer.Watch.TheVariants as watch
 use Rattle.node_arena.specs.RightSideLaws.{meaning}
 use Rattle.script_functions.specs.Bodies as Bodies
 use Rattle.script_functions.specs.Keeping.{makers, side_in}
 use Rattle.script_model.specs.Check.{Names, names_of, is_among, target_of_body}
-use Rattle.script_model.specs.Formula.{Body, Entry, Formula, State, Observer, Meanings, bind_at, body_at, built_at, entry_at, places_of}
+use Rattle.script_model.specs.Formula.{Body, Entry, Formula, State, Observer, Watch, Unwatched, Fresh, Told, Meanings, bind_at, body_at, built_at, entry_at, places_of}
 use Rattle.script_model.specs.Values.{Outcome, to_engine, from_engine}
 use Rattle.script_graph.specs.Kept.{Kept, node_in}
-use Rattle.script_graph.specs.Today.{IsDeclaredTarget, RefersTo, IsTodaysObserver, IsTodaysScript}
+use Rattle.script_graph.specs.Today.{IsDeclaredTarget, RefersTo, IsTodaysScript}
 use Rattle.transfer.specs.Both.{Both, graph_outcome}
 use Rattle.transfer.specs.Keeping.{GrabsForms, NodesApart}
 use Rattle.transfer.specs.Shows.{Declares}
@@ -77,24 +81,27 @@ module _ {A : Type 0} where
   abbrev pub rooted_at : GraphView A → ObsId → Option NodeId
   rooted_at g o = node_at (take g.rooted g.observers) o
 
-  -- an observer in use was there then
-  abbrev pub WasThere : GraphView A → ObsId → Type 0
-  WasThere g o = (n : NodeId) × (rooted_at g o ≡ Some n)
+-- how the graph has an observer watched that the script has watched so
+abbrev pub graph_watch : (ℕ → NodeId) → Watch → GraphWatch
+graph_watch nodes Unwatched = watch.Off
+graph_watch nodes Fresh = watch.Fresh
+graph_watch nodes (Told p) = watch.Since (graph_outcome nodes p)
 
--- an observer that was there when a stabilize was accepted last shows an outcome, which is what the graph shows of its node unless the session is broken; a
--- later one shows nothing yet
-pub record IsShown (k : Kept) (o : ObsId) (x : Observer) : Type 0 where
-  pub earlier : WasThere k.graph o → (p : Outcome) × (x.shown ≡ Some p)
-      × (k.broken ≡ None → shown_of k.graph (node_in k.nodes x.target) ≡ Some (graph_outcome (node_in k.nodes) p))
-  pub later : (WasThere k.graph o → ⊥) → x.shown ≡ None
+-- an observer of the script as the graph has it: it looks at its target's node, shows the same, and is watched as it is
+abbrev pub graph_observer : (ℕ → NodeId) → Observer → Looking
+graph_observer nodes x = record {
+  node = nodes x.target;
+  in_use = true;
+  shown = option_map (graph_outcome nodes) x.shown;
+  watch = graph_watch nodes x.watch;
+}
 
--- an observer of the script is one of the graph; what it shows refers to what is declared
+-- an observer of the script is one of the graph; what it shows, and what was told of it last, refers to what is declared
 pub record IsObserver (s : State) (k : Kept) (o : ObsId) (x : Observer) : Type 0 where
-  pub looks : node_at k.graph.observers o ≡ Some (node_in k.nodes x.target)
+  pub is : slice_get k.graph.observers o.0 ≡ Some (graph_observer (node_in k.nodes) x)
   pub target : (b : Body) × (body_at s x.target ≡ Some b)
-  pub shown : IsShown k o x
   pub refers : (p : Outcome) → x.shown ≡ Some p → RefersTo (IsDeclaredTarget s) p
-  pub today : IsTodaysObserver x
+  pub told : (p : Outcome) → x.watch ≡ Told p → RefersTo (IsDeclaredTarget s) p
 
 -- the graph's observers in the order in which they were made, each with that of the script, if it wasn't ended; a name in use is that of one of them
 pub record Watches (s : State) (k : Kept) : Type 0 where

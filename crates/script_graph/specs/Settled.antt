@@ -7,7 +7,7 @@ use Rattle.inc_terms.specs.Local.{Scoped}
 use Rattle.inc_terms.specs.Need.{Beside, Holder, Observing, Freezing, Observed}
 use Rattle.inc_terms.specs.Within.{Given}
 use Rattle.graph.specs.Standing.{GraphView, called_last, cutoff_of, graph, times_linked}
-use Rattle.graph.specs.declared.observer.Observer.{Observer as Looking}
+use Rattle.observers.specs.declared.observer.Observer.{Observer as Looking}
 use Rattle.script_model.specs.Formula.{State, Entry, Observer, Meanings, entry_at}
 use Rattle.script_model.specs.Need.{Named, Needed, Visit, IsVisit, roots}
 use Rattle.script_graph.specs.Kept.{Kept, arena_of, node_in}

@@ -7,7 +7,8 @@ use Rattle.inc_value.specs.declared.node.ObsId.{ObsId}
 use Rattle.inc_terms.specs.Graph as graph_def
 use Rattle.inc_terms.specs.Graph.{Def, Row}
 use Rattle.inc_terms.specs.Within.{Given}
-use Rattle.graph.specs.Standing.{node_at, IsUnbroken}
+use Rattle.graph.specs.Standing.{IsUnbroken}
+use Rattle.observers.specs.Observers.{node_at}
 use Rattle.node_arena.specs.Arena.{Arena, row_at, IsVariable}
 use Rattle.node_arena.specs.Typing as typing
 use Rattle.script_functions.specs.Bodies.{Body}

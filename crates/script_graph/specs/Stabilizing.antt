@@ -1,4 +1,5 @@
 -- How a stabilize of a script ends.
+use Rattle.std.specs.List.{AllZip}
 use Rattle.std.specs.Prelude.{◌≡◌, ◌⊎◌, ◌<◌, ◌≤◌, ◌+◌, ℕ, List, [], ◌∷◌, ◌++◌, map, length, Option, None, Some, slice_get}
 use Rattle.height_order.specs.Chains.{StartsAt}
 use Rattle.inc_value.specs.declared.node.NodeId.{NodeId}
@@ -6,29 +7,61 @@ use Rattle.inc_value.specs.declared.node.Point.{Point}
 use Rattle.inc_terms.specs.Depend.{main}
 use Rattle.graph.specs.Standing.{GraphView, IsOwner, graph}
 use Rattle.node_arena.specs.Arena.{row_at}
+use Rattle.observers.specs.declared.notice.Notice.{Notice as GraphNotice}
+use Rattle.observers.specs.declared.notice.Told.{Told}
+use Rattle.observers.specs.declared.notice.Told.TheVariants as notice
 use Rattle.script_model.specs.Check.{Declared}
-use Rattle.script_model.specs.Formula.{Meanings}
+use Rattle.script_model.specs.Formula.{State, Observer, Meanings}
 use Rattle.script_model.specs.Need.{WithinWork}
 use Rattle.script_model.specs.Run.{most_calls}
-use Rattle.script_model.specs.Settle.{Notice}
+use Rattle.script_model.specs.Settle.{Notice, First, Changed, TurnedInvalid}
 use Rattle.script_model.specs.Step as step
 use Rattle.script_model.specs.Step.{Moment, Stable, Stabilizes, Tells}
+use Rattle.script_model.specs.Values.{Val}
 use Rattle.script_graph.specs.Kept.{Kept, node_in}
 use Rattle.script_graph.specs.State.{MatchesMoment}
-use Rattle.script_graph.specs.Today.{NoNotices}
+use Rattle.script_graph.specs.Today.{IsDeclaredTarget, RefersTo}
+use Rattle.transfer.specs.Both.{graph_outcome}
 use Rattle.wiring.specs.declared.refused.Refused.{Refused}
 use Rattle.wiring.specs.declared.refused.Refused.TheVariants.{Cycle, Height}
 
--- it was accepted: the model accepts it with these notices, no more functions were called than are due, and the moment after it is matched
+-- what the script tells of an observer, as the graph tells it
+abbrev pub graph_told : (ℕ → NodeId) → Notice → Told
+graph_told nodes (First observer p) = notice.Init (graph_outcome nodes p)
+graph_told nodes (Changed observer was v) = notice.Change (graph_outcome nodes was) (graph_outcome nodes (Val v))
+graph_told nodes (TurnedInvalid observer) = notice.Invalid
+
+-- the name of the observer of which it is told
+abbrev pub name_told : Notice → List ℕ
+name_told (First observer p) = observer
+name_told (Changed observer was v) = observer
+name_told (TurnedInvalid observer) = observer
+
+-- what a notice refers to has the property
+abbrev pub NoticeRefersTo : (ℕ → Type 0) → Notice → Type 0
+NoticeRefersTo P (First observer p) = RefersTo P p
+NoticeRefersTo P (Changed observer was v) = RefersTo P was × RefersTo P (Val v)
+NoticeRefersTo P (TurnedInvalid observer) = Unit {0}
+
+-- a notice of the graph is the script's, of an observer that is there; what it refers to is declared
+pub record IsNotice (s : State) (nodes : List NodeId) (made : List (Option Observer)) (t : GraphNotice) (n : Notice) : Type 0 where
+  pub observer : Observer
+  pub is_there : slice_get made t.observer.0 ≡ Some (Some observer)
+  pub named : observer.name ≡ name_told n
+  pub same : t.told ≡ graph_told (node_in nodes) n
+  pub refers : NoticeRefersTo (IsDeclaredTarget s) n
+
+-- it was accepted: the model accepts it with these notices, no more functions were called than are due, the moment after it is matched, and the graph's
+-- notices are these
 pub record IsAccepted (F : Meanings) (m : Moment) (new : Kept) (called calls : ℕ) : Type 0 where
   pub after : Moment
   pub notices : List Notice
   pub stabilizes : Stabilizes F m after (Stable (m.present.accepted + 1) ∷ map (λ n. Tells n) notices)
-  pub today : NoNotices notices
   pub work : ℕ
   pub due : WithinWork F m.settled m.present work
   pub within : calls ≤ called + work
   pub matches : MatchesMoment F new after
+  pub told : AllZip (IsNotice after.present new.nodes matches.watches.made) new.graph.notices notices
 
 -- it was refused for what is too deep: the model may refuse it so, functions were called no more than by one visit of each place, and the broken moment is
 -- matched

@@ -8,9 +8,8 @@ use Rattle.inc_terms.specs.Graph.{Graph, Row}
 use Rattle.formula_elab.specs.Today.{IsLaidOutBody}
 use Rattle.graph.specs.Standing.{cutoff_of, graph as graph_of_standing}
 use Rattle.map_nodes.specs.declared.cutoff.Cutoff.TheVariants.{Equal}
-use Rattle.script_model.specs.Formula.{Formula, Formulas, Body, State, Observer, body_at, Literal, Name, Apply, Fold, If, Join, Bind, At, Steps, Now, End, More, Variable, Computed, After, Every, Grab, Unwatched}
+use Rattle.script_model.specs.Formula.{Formula, Formulas, Body, State, body_at, Literal, Name, Apply, Fold, If, Join, Bind, At, Steps, Now, End, More, Variable, Computed, After, Every, Grab}
 use Rattle.script_model.specs.Leaves.{EveryReference, EveryLeafOf}
-use Rattle.script_model.specs.Settle.{Notice}
 use Rattle.script_model.specs.Values.{Outcome, Val, Invalid}
 use Rattle.script_graph.specs.Kept.{Kept, node_in}
 use Rattle.transfer.specs.Shows.{IsOwn}
@@ -34,20 +33,12 @@ IsEarlierTarget s n t = (t < n) × IsOwn (body_at s t)
 abbrev pub AllPlain : State → Type 0
 AllPlain s = (n : ℕ) (body : Body) → body_at s n ≡ Some body → IsPlainBody (IsEarlierTarget s n) (IsDeclaredTarget s) body
 
--- ---- values: none is told
+-- ---- values: what they refer to is declared
 
 -- what an outcome refers to, if anything, has the property
 abbrev pub RefersTo : (ℕ → Type 0) → Outcome → Type 0
 RefersTo P (Val v) = EveryReference P v
 RefersTo P Invalid = Unit {0}
-
--- an observer that isn't watched
-pub record IsTodaysObserver (x : Observer) : Type 0 where
-  pub unwatched : x.watch ≡ Unwatched
-
--- no notice comes
-abbrev pub NoNotices : List Notice → Type 0
-NoNotices notices = notices ≡ []
 
 -- ---- beside the graph: no freezes, and no experts that were made stale
 
