@@ -1,0 +1,3 @@
+pub mod Counting
+pub mod Generated
+pub mod Summary
