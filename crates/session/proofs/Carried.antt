@@ -15,7 +15,7 @@ use Rattle.script_model.specs.Step as model
 use Rattle.script_model.specs.Step.{Answers, Follows, Moment, Reply, Refused, number_of, printed}
 use Rattle.session.specs.Answered.{Extends, IsAnswered, verdict_on}
 use Rattle.session.specs.Carried.{CarriesOut, IsBeside, Performs, Refuses, EndsStabilize, TakesBytes, Treats}
-use Rattle.session.specs.Replies.{cycle_line, refused_line, stable_line, too_deep_line, name_in}
+use Rattle.session.specs.Replies.{AreNoticeLines, cycle_line, refused_line, stable_line, too_deep_line, name_in}
 use Rattle.session.specs.Taken.{AsksStabilize, KeepsUnlessAccepted, Stops}
 use Rattle.session.specs.declared.answer.Did.{Did}
 use Rattle.session.specs.declared.answer.Did.TheVariants as did
@@ -244,7 +244,7 @@ module _ {L E : Type 0} (meanings : L → Meanings) (known : L → FnRef → Boo
         accepted = s.count;
         given = omega (arith, given);
         bodies = omega (arith, bodies);
-        observers = rw observers (omega arith);
+        observers = omega (arith, observers);
         known_still = s.known_still;
         calls_grow = s.calls_grow;
         builds_grow = s.builds_grow;
@@ -265,7 +265,7 @@ module _ {L E : Type 0} (meanings : L → Meanings) (known : L → FnRef → Boo
         accepted = s.count;
         given = omega (arith, given);
         bodies = omega (arith, bodies);
-        observers = rw observers (omega arith);
+        observers = omega (arith, observers);
         known_still = s.known_still;
         calls_grow = s.calls_grow;
         builds_grow = s.builds_grow;
@@ -324,24 +324,26 @@ module _ {L E : Type 0} (meanings : L → Meanings) (known : L → FnRef → Boo
 
   module _ {E' : Type 0} (old there : Script L) (written appended : List ℕ) (unbroken : old.kept.broken ≡ None) (how : Result Stabilized E')
       (done : EndsStabilize meanings known calls old there how) where
-    -- it was accepted, and its line was appended
-    pub performed_accepted : how ≡ Ok Accepted → appended ≡ written ++ stable_line there.kept.accepted
+    -- it was accepted, and its line was appended, and those of what it told
+    pub performed_accepted : how ≡ Ok Accepted → ((bytes : List ℕ) × AreNoticeLines there.kept there.kept.graph.notices bytes
+        × (appended ≡ written ++ (stable_line there.kept.accepted ++ bytes)))
         → Performs {E = E} meanings known calls check.Stabilize old there written appended (Ok did.Accepted)
     performed_accepted is print =
         let s = subst (EndsStabilize meanings known calls old there) is done in
         carried_stabilize old there written appended how done unbroken (Ok did.Accepted)
-        (λ m st. followed_stabilize (meanings old.library) there.kept m (calls old.library) (calls there.library) (s.accepted refl m st) written appended print)
+        (λ m st. followed_stabilize (meanings old.library) there.kept m (calls old.library) (calls there.library) (s.accepted refl m st)
+        s.one_observer_each written appended print.0 print.1 print.2)
         tt tt tt
 
-    -- there was no memory for its line
-    pub performed_unwritten : (e : E) → how ≡ Ok Accepted → appended ≡ written
+    -- there was no memory for its lines
+    pub performed_unwritten : (e : E) → how ≡ Ok Accepted → Extends written appended
         → Performs {E = E} meanings known calls check.Stabilize old there written appended (Err e)
-    performed_unwritten e is same =
+    performed_unwritten e is extended =
         let s = subst (EndsStabilize meanings known calls old there) is done in
         carried_stabilize old there written appended how done unbroken (Err e) tt
         (λ m line st asks. stops_accepted (meanings old.library) there.kept m (calls old.library) (calls there.library) (s.accepted refl m st) line
         st.keep st.valid asks (st.matches.broken ∙ unbroken))
-        (nothing_more written appended same) tt
+        extended tt
 
     -- it was cut short
     pub performed_cut_short : (e : E) (e' : E') → how ≡ Err e' → appended ≡ written
@@ -380,7 +382,7 @@ module _ {L E : Type 0} (meanings : L → Meanings) (known : L → FnRef → Boo
           accepted = done.count;
           given = omega (arith, given);
           bodies = omega (arith, bodies);
-          observers = rw observers (omega arith);
+          observers = omega (arith, observers);
           known_still = done.known_still;
           calls_grow = done.calls_grow;
           builds_grow = done.builds_grow;

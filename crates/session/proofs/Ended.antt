@@ -1,14 +1,15 @@
 -- What is kept once an observer is ended.
-use Rattle.std.proofs.Common.{◌≡◌, ℕ, zero, suc, ◌+◌, ◌<◌, Bool, true, false, cond, not, nat_lt, List, [], ◌∷◌, length, None, Some, IsSome, refl, ap, sym, subst, ◌∙◌, arith, swap_remove, slice_get, slice_index_or}
+use Rattle.std.proofs.Common.{◌≡◌, ℕ, zero, suc, ◌+◌, ◌<◌, Bool, true, false, cond, not, nat_lt, List, [], ◌∷◌, length, None, Some, IsSome, refl, ap, sym, subst, ◌∙◌, arith, swap_remove, slice_get}
 use Rattle.std.proofs.lemmas.Bool.{lt-ltb}
-use Rattle.std.proofs.lemmas.Option.{slice_get_read, slice_get_within}
+use Rattle.std.proofs.lemmas.Option.{slice_get_within}
 use Rattle.std.proofs.lemmas.Slice.Eq.{bytes_eq-Decides}
 use Rattle.std.specs.List.{position_or_len}
 use Rattle.std.specs.Str.{bytes_eq}
 use Rattle.indexmap.specs.IndexMap.{swap_remove_by}
 use Rattle.graph.specs.Effects.{Ends}
 use Rattle.script_graph.proofs.Extending.{top_without, nodes_without}
-use Rattle.graph.specs.Standing.{GraphView, node_at}
+use Rattle.graph.specs.Standing.{GraphView}
+use Rattle.observers.specs.Observers.{node_at}
 use Rattle.inc_value.specs.declared.node.ObsId.{ObsId}
 use Rattle.script_model.specs.Check.{Names, Unobserve}
 use Rattle.script_model.specs.Formula.{Meanings}
@@ -43,19 +44,11 @@ same_place name names i at first =
     (ap (λ (n : ℕ). cond (nat_lt n (length names)) (Some n) None) (found_first name names i at first)
     ∙ ap (λ (b : Bool). cond b (Some i) None) (lt-ltb i (length names) (slice_get_within names i name at)))
 
--- a place of a name is one of its observer
-pub place_within : (k : Kept) → IsSoundSession k → (i : ℕ) → i < length k.names.observers → i < length k.observers
-place_within k sound i within = let same = sound.one_observer_each in omega (arith, within, same)
-
 -- ---- the observer at a place
 
-module _ (k : Kept) (sound : IsSoundSession k) (i : ℕ) (within : i < length k.names.observers) (o : ObsId) (index : o ≡ slice_index_or k.observers i o) where
-  at_id : slice_get k.observers i ≡ Some o
-  at_id = slice_get_read k.observers (length k.observers) i o refl (place_within k sound i within) index
-
-  -- it is in use
-  pub is_looking : IsSome (node_at k.graph.observers o)
-  is_looking = sound.looking o (among_at k.observers i o at_id)
+-- it is in use
+pub is_looking : (k : Kept) → IsSoundSession k → (i : ℕ) (o : ObsId) → slice_get k.observers i ≡ Some o → IsSome (node_at k.graph.observers o)
+is_looking k sound i o at_id = sound.looking o (among_at k.observers i o at_id)
 
 -- ---- a graph whose observer was ended, but for its functions
 
@@ -75,8 +68,8 @@ ends_so old new o h = record {
 -- ---- what is kept without the observer
 
 module _ {F : Type 0} (k : Kept) (old new : GraphView F) (graph_is : k.graph ≡ without_functions old) (sound : IsSoundSession k) (name : List ℕ) (i : ℕ)
-    (o : ObsId) (within : i < length k.names.observers) (at_name : slice_get k.names.observers i ≡ Some name)
-    (first : (j : ℕ) → j < i → slice_get k.names.observers j ≡ Some name → ⊥) (index : o ≡ slice_index_or k.observers i o)
+    (o : ObsId) (at_name : slice_get k.names.observers i ≡ Some name)
+    (first : (j : ℕ) → j < i → slice_get k.names.observers j ≡ Some name → ⊥) (at_id : slice_get k.observers i ≡ Some o)
     (ends : Ends old new o) where
   place : (d : List ℕ) × (swap_remove_by (bytes_eq name) k.names.observers ≡ swap_remove k.names.observers i d)
   place = same_place name k.names.observers i at_name first
@@ -93,11 +86,11 @@ module _ {F : Type 0} (k : Kept) (old new : GraphView F) (graph_is : k.graph ≡
     pub ended_sound : IsSoundSession (record k { names = names; observers = os; graph = without_functions new })
     ended_sound =
         rw (names_now, os_are)
-        (ending_sound k name place.0 i o (without_functions new) sound (at_id k sound i within o index) at_name ends_now)
+        (ending_sound k name place.0 i o (without_functions new) sound at_id at_name ends_now)
 
     -- and it matches the moment without the observer
     pub ended_stands : k.broken ≡ None → (G : Meanings) (m : Moment) → MatchesMoment G k m
         → MatchesMoment G (record k { names = names; observers = os; graph = without_functions new }) (moved m (Unobserve name))
     ended_stands unbroken G m stands =
         rw (names_now, os_are)
-        (ending_stands k name place.0 i o (without_functions new) sound (at_id k sound i within o index) at_name ends_now G m stands (stands.broken ∙ unbroken))
+        (ending_stands k name place.0 i o (without_functions new) sound at_id at_name ends_now G m stands (stands.broken ∙ unbroken))

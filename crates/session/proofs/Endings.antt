@@ -35,7 +35,7 @@ use Rattle.script_model.specs.Values.{seen_value}
 use Rattle.session.proofs.Makers.{accepted_now, circular_now, cut_short_now, sound_now, too_deep_now}
 use Rattle.session.proofs.Room.{gives_few}
 use Rattle.session.proofs.SameMakers.{as_many, same_makers}
-use Rattle.session.proofs.Stabilized.{circular_closed, cycle_met, left_sound, library_still_knows, memory_met, of_sessions, told_of}
+use Rattle.session.proofs.Stabilized.{LookAlike, circular_closed, cycle_met, left_sound, library_still_knows, memory_met, of_sessions, told_of}
 use Rattle.session.specs.Carried.{EndsStabilize}
 use Rattle.session.specs.declared.script.stabilizing.Stabilized.TheVariants.{Accepted, Circular, TooDeep}
 use Rattle.stabilize_round.specs.Laws.{GraphStays}
@@ -49,7 +49,7 @@ module _ {A : Type 0} (maps maps' : FnRef → Bool) (k : Kept) (bodies : List Bo
     (knows : SameKnown (is_known maps (makers k.bodies)) (is_known maps' (makers bodies)))
     (sides : SameSides (side_in (makers k.bodies)) (side_in (makers bodies))) (arena : arenas.IsSoundArena old.nodes)
     (stays : GraphStays old.nodes.given new.nodes.given (graph old) (left_by old new))
-    (left : LeavesNodes (functions_over value k.bodies) old new before after) (observers : new.observers ≡ old.observers) where
+    (left : LeavesNodes (functions_over value k.bodies) old new before after) (observers : LookAlike old.observers new.observers) where
   -- the bodies make what those made that were kept
   pub made : makers bodies ≡ makers k.bodies
   made = same_makers maps maps' k.bodies bodies knows sides
@@ -74,7 +74,7 @@ module _ {L A : Type 0} (named : L → List ℕ → Option FnRef) (value : L →
     (same : k.graph ≡ without_functions old) (knows : SameKnown (is_known (known l) (makers k.bodies)) (is_known (known l') (makers bodies)))
     (sides : SameSides (side_in (makers k.bodies)) (side_in (makers bodies)))
     (stays : GraphStays old.nodes.given new.nodes.given (graph old) (left_by old new))
-    (left : LeavesNodes (functions_over (value l) k.bodies) old new before after) (observers : new.observers ≡ old.observers)
+    (left : LeavesNodes (functions_over (value l) k.bodies) old new before after) (observers : LookAlike old.observers new.observers)
     (unbroken : k.broken ≡ None) (W W' : Meaning) (sound_old : IsSoundGraph W old) (functions : W.functions ≡ functions_over (value l) k.bodies)
     (sound_new : IsSoundGraph W' new) (functions' : W'.functions ≡ functions_over (value l') bodies) (names : SameNames (named l) (named l'))
     (values : SameValues (seen_value (value l)) (seen_value (value l'))) (alone : (f : FnRef) → IsTrue (known l f) → f.id.kind ≡ Map)
@@ -113,8 +113,8 @@ module _ {L A : Type 0} (named : L → List ℕ → Option FnRef) (value : L →
       sound_old.nodes stays left observers) old.nodes.given ids in
       omega (arith, was, few)
 
-  observers_stay : new.observers ≡ k.graph.observers
-  observers_stay = observers ∙ sym (ap (λ (g : GraphView (Unit {0})). g.observers) same)
+  observers_stay : length new.observers ≡ length k.graph.observers
+  observers_stay = observers.count ∙ sym (ap (λ (g : GraphView (Unit {0})). length g.observers) same)
 
   as_many_bodies : length bodies ≡ length k.bodies
   as_many_bodies = as_many k.bodies bodies same_made
@@ -140,6 +140,7 @@ module _ {L A : Type 0} (named : L → List ℕ → Option FnRef) (value : L →
     for_memory = tt;
     count = omega arith;
     names = refl;
+    one_observer_each = sound.one_observer_each;
     given = given_few;
     observers = observers_stay;
     bodies = as_many_bodies;
@@ -170,6 +171,7 @@ module _ {L A : Type 0} (named : L → List ℕ → Option FnRef) (value : L →
     for_memory = tt;
     count = omega arith;
     names = refl;
+    one_observer_each = sound.one_observer_each;
     given = given_few;
     observers = observers_stay;
     bodies = as_many_bodies;
@@ -199,6 +201,7 @@ module _ {L A : Type 0} (named : L → List ℕ → Option FnRef) (value : L →
     for_memory = tt;
     count = omega arith;
     names = refl;
+    one_observer_each = sound.one_observer_each;
     given = given_few;
     observers = observers_stay;
     bodies = as_many_bodies;
@@ -223,6 +226,7 @@ module _ {L A : Type 0} (named : L → List ℕ → Option FnRef) (value : L →
     for_memory = memory;
     count = omega arith;
     names = refl;
+    one_observer_each = sound.one_observer_each;
     given = given_few;
     observers = observers_stay;
     bodies = as_many_bodies;

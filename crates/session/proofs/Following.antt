@@ -1,5 +1,5 @@
 -- What commands that are carried out or refused lead to.
-use Rattle.std.proofs.Common.{◌≡◌, ℕ, ◌+◌, ◌<◌, ◌≤◌, true, false, List, [], ◌∷◌, ◌++◌, map, None, Some, IsTrue, IsFalse, refl, sym, ◌∙◌, ap, subst, append-nil, arith}
+use Rattle.std.proofs.Common.{◌≡◌, ℕ, ◌+◌, ◌<◌, ◌≤◌, true, false, List, [], ◌∷◌, ◌++◌, map, length, None, Some, IsTrue, IsFalse, refl, sym, ◌∙◌, ap, subst, append-nil, arith}
 use Rattle.std.proofs.lemmas.Bool.{le-ltb, lt-ltb}
 use Rattle.std.proofs.Math.Dec.{ltb}
 use Rattle.std.specs.List.{flat_map}
@@ -14,7 +14,6 @@ use Rattle.script_model.specs.Grammar as grammar
 use Rattle.script_model.specs.Laws.{ValidMoment}
 use Rattle.script_model.specs.Run as run
 use Rattle.script_model.specs.Run.{Halts, most_calls}
-use Rattle.script_model.specs.Settle.{Notice}
 use Rattle.script_model.specs.Step.{Moment, Reply, is_built, name_of, moved, reply_to, Done, Stable, Shown, Tells, Refused, Height, Because, Cycle, Settle, Act, Refuse, printed, Follows, Stabilizes, settles, by_cycle, by_height, verdict_of}
 use Rattle.script_model.specs.Valid.{KeepToTypes}
 use Rattle.script_model.proofs.Validity.{halts_keep_validity}
@@ -25,7 +24,8 @@ use Rattle.script_graph.specs.State.{MatchesMoment, Stands}
 use Rattle.script_graph.proofs.CuttingShort.{broken_matches}
 use Rattle.session.specs.Answered.{Extends, IsAnswered, verdict_on}
 use Rattle.session.proofs.Referred.{name_there, printed_same}
-use Rattle.session.specs.Replies.{IsReferredName, line_of, cycle_line, done_line, named_of, referred_node, shown_line, refused_line, stable_line, too_deep_line, name_in}
+use Rattle.session.proofs.Telling.{notices_are}
+use Rattle.session.specs.Replies.{AreNoticeLines, IsReferredName, line_of, cycle_line, done_line, named_of, referred_node, shown_line, refused_line, stable_line, too_deep_line, name_in}
 use Rattle.session.specs.Taken.{AsksStabilize, Stops}
 use Rattle.session.specs.declared.answer.Did.TheVariants as did
 
@@ -169,36 +169,48 @@ count_of F m after round replies (settles notices free settled same unbroken is)
 count_of F m after round replies (by_cycle targets n cycle among met is replied) = absurd (cc)
 count_of F m after round replies (by_height target i met deep printed is replied) = absurd (cc)
 
+-- and leaves a moment that isn't broken
+whole_of : (F : Meanings) (m after : Moment) (round : ℕ) (replies : List Reply) → Stabilizes F m after (Stable round ∷ replies) → after.broken ≡ None
+whole_of F m after round replies (settles notices free settled same unbroken is) = unbroken
+whole_of F m after round replies (by_cycle targets n cycle among met is replied) = absurd (cc)
+whole_of F m after round replies (by_height target i met deep printed is replied) = absurd (cc)
+
 module _ (F : Meanings) (new : Kept) (m : Moment) (called calls : ℕ) (h : IsAccepted F m new called calls) where
   abbrev reply : Reply
   reply = Stable (m.present.accepted + 1)
 
-  -- no notice is told today
-  told_alone : Stabilizes F m h.after (reply ∷ [])
-  told_alone = subst (λ (ns : List Notice). Stabilizes F m h.after (reply ∷ map (λ n. Tells n) ns)) h.today h.stabilizes
+  abbrev replies : List Reply
+  replies = reply ∷ map (λ n. Tells n) h.notices
 
   count_is : new.accepted ≡ m.present.accepted + 1
-  count_is = sym h.matches.accepted ∙ count_of F m h.after (m.present.accepted + 1) [] told_alone
+  count_is = sym h.matches.accepted ∙ count_of F m h.after (m.present.accepted + 1) (map (λ n. Tells n) h.notices) h.stabilizes
 
-  pub followed_stabilize : (written appended : List ℕ) → appended ≡ written ++ stable_line new.accepted
+  -- the moment after it isn't broken
+  unbroken_then : h.after.broken ≡ None
+  unbroken_then = whole_of F m h.after (m.present.accepted + 1) (map (λ n. Tells n) h.notices) h.stabilizes
+
+  pub followed_stabilize : length new.observers ≡ length new.names.observers → (written appended bytes : List ℕ)
+      → AreNoticeLines new new.graph.notices bytes → appended ≡ written ++ (stable_line new.accepted ++ bytes)
       → IsAnswered F m (Follows F m (verdict_on m Stabilize)) new written appended called calls did.Accepted
-  followed_stabilize written appended print = record {
+  followed_stabilize each written appended bytes lines print = record {
     after = h.after;
-    replies = reply ∷ [];
-    leads = told_alone;
+    replies = replies;
+    leads = h.stabilizes;
     work = h.work;
     due = h.due;
     matches = h.matches;
-    printed_are = appended_one h.after.present written appended reply (print ∙ ap (λ n. written ++ stable_line n) count_is);
+    printed_are = print ∙ (ap (λ n. written ++ (stable_line n ++ bytes)) count_is
+        ∙ ap (λ (l : List ℕ). written ++ (stable_line (m.present.accepted + 1) ++ l))
+        (notices_are F new h.after h.matches unbroken_then each h.notices bytes h.told lines));
     within = h.within;
-    says = (reply, [], refl, refl);
+    says = (reply, map (λ n. Tells n) h.notices, refl, refl);
   }
 
   -- where its line finds no memory
   pub stops_accepted : (line : List ℕ) → KeepToTypes F → ValidMoment F m → AsksStabilize line → m.broken ≡ None → Stops F m line new called calls
   stops_accepted line keep valid asks unbroken =
-      let halts : Halts F m line h.after h.work = run.accepted (m.present.accepted + 1) [] asks
-      (subst (λ v. Follows F m v h.after (reply ∷ [])) (sym (asks_to_settle F m unbroken)) told_alone) h.due in
+      let halts : Halts F m line h.after h.work = run.accepted (m.present.accepted + 1) (map (λ n. Tells n) h.notices) asks
+      (subst (λ v. Follows F m v h.after replies) (sym (asks_to_settle F m unbroken)) h.stabilizes) h.due in
       record {
         after = h.after;
         due = h.work;

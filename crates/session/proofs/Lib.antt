@@ -9,6 +9,7 @@ mod Failing
 mod Following
 mod Keeping
 mod Passing
+mod Placing
 mod Observed
 mod OwnNodes
 mod Owned
@@ -19,5 +20,8 @@ mod SameMakers
 mod Makers
 mod Grabbing
 mod Making
+mod Noticing
 mod Refused
 mod Room
+mod Watched
+mod Telling

@@ -42,7 +42,7 @@ module _ (F : Meanings) (k : Kept) (bodies : List Body) (same : makers bodies �
     died = none_died;
   }) functions_same
 
-  represents_now : (s : State) → Represents F s k → Represents F s now
+  pub represents_now : (s : State) → Represents F s k → Represents F s now
   represents_now s h =
       let here : beside F s k ≡ beside F s now = both_same s k.nodes (graph k.graph) in
       record {
@@ -58,24 +58,23 @@ module _ (F : Meanings) (k : Kept) (bodies : List Body) (same : makers bodies �
         today = record { plain = h.today.plain; aged = h.today.aged };
       }
 
-  watches_now : (s : State) → Watches s k → Watches s now
+  abbrev watches_now : (s : State) → Watches s k → Watches s now
   watches_now s h = record {
     made = h.made;
     one_each = h.one_each;
     in_order = h.in_order;
     ended = h.ended;
     observing = λ o x at. let i = h.observing o x at in record {
-      looks = i.looks;
+      is = i.is;
       target = i.target;
-      shown = record { earlier = i.shown.earlier; later = i.shown.later };
       refers = i.refers;
-      today = i.today;
+      told = i.told;
     };
     named = h.named;
     apart = h.apart;
   }
 
-  settled_now : (before s : State) → Settled F before s k → Settled F before s now
+  pub settled_now : (before s : State) → Settled F before s k → Settled F before s now
   settled_now before s h = record {
     nodes = h.nodes;
     bodies = h.bodies;
@@ -107,7 +106,7 @@ module _ (F : Meanings) (k : Kept) (bodies : List Body) (same : makers bodies �
   }
 
   -- and matches the same moments
-  pub matches_now : (m : Moment) → MatchesMoment F k m → MatchesMoment F now m
+  abbrev pub matches_now : (m : Moment) → MatchesMoment F k m → MatchesMoment F now m
   matches_now m h = record {
     names = h.names;
     accepted = h.accepted;
@@ -124,11 +123,11 @@ module _ (F : Meanings) (k : Kept) (bodies : List Body) (same : makers bodies �
     after = h.after;
     notices = h.notices;
     stabilizes = h.stabilizes;
-    today = h.today;
     work = h.work;
     due = h.due;
     within = h.within;
     matches = matches_now h.after h.matches;
+    told = h.told;
   }
 
   pub too_deep_now : (m : Moment) (target called calls : ℕ) → IsTooDeep F m k target called calls → IsTooDeep F m now target called calls

@@ -1,7 +1,7 @@
 -- What is kept once an observer is made, what the observer of a name shows, and faults that don't come.
 use Rattle.std.proofs.Common.{◌≡◌, ◌⊎◌, inl, inr, ◌↔◌, ℕ, zero, suc, ◌+◌, ◌-◌, ◌<◌, ◌≤◌, ◌^◌, Bool, true, false, cond, not, nat_lt, ◌||◌, List, [], ◌∷◌, ◌++◌, length, take, Option, None, Some, IsSome, IsFalse, IsTrue, Result, Ok, Err, IfErr, IsErrOf, refl, ap, sym, subst, ◌∙◌, arith, position, swap_remove, slice_get, slice_index_or, slice_set}
 use Rattle.std.proofs.Math.Seq.{get_or-append_seam, set-append_seam, take-append_seam}
-use Rattle.std.proofs.lemmas.Bool.{cases_lt, lt-ltb}
+use Rattle.std.proofs.lemmas.Bool.{lt-ltb}
 use Rattle.std.proofs.lemmas.Slice.Eq.{bytes_eq-Decides}
 use Rattle.std.specs.List.{list_any, position_or_len}
 use Rattle.std.specs.Option.{option_map_or}
@@ -9,11 +9,12 @@ use Rattle.std.specs.Str.{bytes_eq}
 use Rattle.indexmap.specs.IndexMap.{swap_remove_by}
 use Rattle.formula_lang.specs.Fits.{ObserverFits}
 use Rattle.graph.specs.Effects.{Observes, IsObserveFault, IsObserverFault}
-use Rattle.graph.specs.Standing.{GraphView, node_at, looked_at, shown_of, IsUnbroken, IsBroken}
+use Rattle.graph.specs.Standing.{GraphView, IsUnbroken, IsBroken}
+use Rattle.observers.specs.Observers.{new_observer, node_at, looked_at, shown_at}
 use Rattle.graph.specs.declared.fault.GraphFault.{GraphFault}
 use Rattle.graph.specs.declared.fault.GraphFault.TheVariants as fault
 use Rattle.graph.specs.declared.fault.Kept.{Kept as Cause}
-use Rattle.graph.specs.declared.observer.Observer.{Observer as Looking}
+use Rattle.observers.specs.declared.observer.Observer.{Observer as Looking}
 use Rattle.inc_terms.specs.Within.{Given}
 use Rattle.inc_value.specs.Choice.{Among, NoRepeats}
 use Rattle.inc_value.specs.declared.node.NodeId.{NodeId}
@@ -29,7 +30,8 @@ use Rattle.script_graph.specs.Sound.{AreFew, HasNode, HaveNodes, IsSoundSession}
 use Rattle.script_graph.specs.Shown.{ShowsIt, ShowsNothing}
 use Rattle.script_graph.specs.State.{MatchesMoment}
 use Rattle.script_graph.proofs.Observing.{get_end, get_within, observing_stands, shows_it, shows_nothing, with_observer}
-use Rattle.script_graph.proofs.Ending.{get_at, among_at}
+use Rattle.script_graph.proofs.Ending.{among_at}
+use Rattle.session.specs.ObserverIds.{IsAbsent}
 
 -- ---- a name that is put in use and taken out again
 
@@ -134,6 +136,11 @@ looks_within [] i h = absurd (cc)
 looks_within (o ∷ os) zero h = omega arith
 looks_within (o ∷ os) (suc i) h = let rest = looks_within os i h in omega (arith, rest)
 
+-- a number that is given next is that of none
+pub later_absent : (k : Kept) → IsSoundSession k → (p : ObsId) → p.0 ≡ length k.graph.observers → IsAbsent k.observers p
+later_absent k sound p at i is =
+    let less = looks_within k.graph.observers p.0 (sound.looking p (among_at k.observers i p is)) in absurd (omega (arith, less, at))
+
 -- ---- a target's node
 
 -- the node at a declaration's place was given
@@ -184,14 +191,14 @@ pub observes_so : {F : Type 0} (old new : GraphView F) (o : ObsId) (node other :
 observes_so old new o node other h same = record {
   id = h.id;
   rest = ap without_functions h.rest
-      ∙ ap (λ (n : NodeId). record (without_functions old) { observers = old.observers ++ record { node = n; in_use = true } ∷ [] }) same;
+      ∙ ap (λ (n : NodeId). record (without_functions old) { observers = old.observers ++ new_observer n ∷ [] }) same;
 }
 
 -- ---- what is kept with a new observer
 
 module _ (k : Kept) (name : List ℕ) (target : ℕ) (o : ObsId) (g : GraphView (Unit {0})) (sound : IsSoundSession k)
     (observes : Observes k.graph g o (node_in k.nodes target)) where
-  observers_more : g.observers ≡ k.graph.observers ++ record { node = node_in k.nodes target; in_use = true } ∷ []
+  observers_more : g.observers ≡ k.graph.observers ++ new_observer (node_in k.nodes target) ∷ []
   observers_more = ap (λ (h : GraphView (Unit {0})). h.observers) observes.rest
 
   arena_same : g.nodes ≡ arena_of k
@@ -203,11 +210,11 @@ module _ (k : Kept) (name : List ℕ) (target : ℕ) (o : ObsId) (g : GraphView 
       subst (λ (n : Option NodeId). IsSome n) (sym (same (looks_within k.graph.observers p.0 looks))) looks
     where
       same : p.0 < length k.graph.observers → node_at g.observers p ≡ node_at k.graph.observers p
-      same less = rw observers_more (ap looked_at (get_within k.graph.observers (record { node = node_in k.nodes target; in_use = true } ∷ []) p.0 less))
+      same less = rw observers_more (ap looked_at (get_within k.graph.observers (new_observer (node_in k.nodes target) ∷ []) p.0 less))
 
   looks_new : (p : ObsId) → p.0 ≡ length k.graph.observers → IsSome (node_at g.observers p)
   looks_new p at =
-      rw (observers_more, at, get_end k.graph.observers (record { node = node_in k.nodes target; in_use = true })) refl
+      rw (observers_more, at, get_end k.graph.observers (new_observer (node_in k.nodes target))) refl
 
   new_id : Among o k.observers → ⊥
   new_id among = let less = looks_within k.graph.observers o.0 (sound.looking o among) in let id = observes.id in absurd (omega (arith, less, id))
@@ -275,54 +282,40 @@ module _ {F : Type 0} (s : GraphView F) (unbroken : IsUnbroken s) where
   memory_wanting (Err e) node observing broken unknown too_many given few =
       only_memory (Err e) e node refl observing broken unknown too_many given few
 
-  -- an observer in use isn't asked in vain, but that no stabilize was accepted since it was made
+  -- an observer in use isn't asked in vain, but that it shows nothing yet
   pub only_later : {T : Type 0} (r : Result T GraphFault) (e : GraphFault) (o : ObsId) → r ≡ Err e → IfErr r IsObserverFault
       → ((cause : Cause) → IsErrOf r (fault.Broken cause) ↔ IsBroken s cause)
       → (IsErrOf r fault.Unknown ↔ (IsUnbroken s × (node_at s.observers o ≡ None)))
-      → (IsErrOf r fault.NotStabilized ↔ (IsUnbroken s × IsSome (node_at s.observers o) × (s.rooted ≤ o.0)))
-      → IsSome (node_at s.observers o) → s.rooted ≤ o.0
-  only_later {T} r e o is telling broken unknown not_stabilized looks = go (subst (λ (q : Result T GraphFault). IfErr q IsObserverFault) is telling)
+      → (IsErrOf r fault.NotStabilized ↔ (IsUnbroken s × IsSome (node_at s.observers o) × (shown_at s.observers o ≡ None)))
+      → IsSome (node_at s.observers o) → shown_at s.observers o ≡ None
+  only_later {T} r e o is telling broken unknown not_shown looks = go (subst (λ (q : Result T GraphFault). IfErr q IsObserverFault) is telling)
     where
       by : {x : GraphFault} → e ≡ x → IsErrOf r x
       by {x} same = is ∙ ap (λ (y : GraphFault). Err y) same
 
-      go : IsObserverFault e → s.rooted ≤ o.0
+      go : IsObserverFault e → shown_at s.observers o ≡ None
       go (inl b) = absurd (not_broken b.0 ((broken b.0).0 (by b.1)))
       go (inr (inl u)) = let none = (unknown.0 (by u)).1 in let h = subst (λ (n : Option NodeId). IsSome n) none looks in absurd (cc)
-      go (inr (inr n)) = (not_stabilized.0 (by n)).2
+      go (inr (inr n)) = (not_shown.0 (by n)).2
 
 -- ---- what the observer of a name shows
 
-module _ (k : Kept) (sound : IsSoundSession k) (unbroken : k.broken ≡ None) (name : List ℕ) (i : ℕ) (o : ObsId) (within : i < length k.names.observers)
-    (at_name : slice_get k.names.observers i ≡ Some name) (index : o ≡ slice_index_or k.observers i o) where
-  at_id : slice_get k.observers i ≡ Some o
-  at_id =
-      get_at k.observers i o (let same = sound.one_observer_each in omega (arith, within, same)) ∙ sym (ap (λ (p : ObsId). Some p) index)
-
+module _ (k : Kept) (sound : IsSoundSession k) (name : List ℕ) (i : ℕ) (o : ObsId) (at_id : slice_get k.observers i ≡ Some o)
+    (at_name : slice_get k.names.observers i ≡ Some name) where
   looks : IsSome (node_at k.graph.observers o)
   looks = sound.looking o (among_at k.observers i o at_id)
 
   -- what the graph tells
-  pub told_shows : {T : Type 0} (r : Result T GraphFault) (x : T) (out : engine.Outcome) → r ≡ Ok x
-      → ((n : NodeId) × (node_at k.graph.observers o ≡ Some n) × (shown_of k.graph n ≡ Some out))
-      → (IsErrOf r fault.NotStabilized ↔ (IsUnbroken k.graph × IsSome (node_at k.graph.observers o) × (k.graph.rooted ≤ o.0)))
+  pub told_shows : (out : engine.Outcome) → shown_at k.graph.observers o ≡ Some out
       → (F : Meanings) (m : Moment) → MatchesMoment F k m → ShowsIt (node_in k.nodes) m.present name out
-  told_shows r x out is told not_stabilized F m stands =
-      shows_it F k m stands (stands.broken ∙ unbroken) i o name at_id at_name told.0 out told.1 told.2 earlier
-    where
-      earlier : o.0 < k.graph.rooted
-      earlier = go (cases_lt o.0 k.graph.rooted)
-        where
-          go : (o.0 < k.graph.rooted) ⊎ (k.graph.rooted ≤ o.0) → o.0 < k.graph.rooted
-          go (inl less) = less
-          go (inr later) = let never = not_stabilized.1 (sound.unbroken unbroken, looks, later) in absurd (cc)
+  told_shows out told F m stands = shows_it F k m stands i o name at_id at_name out told
 
   -- nothing, where it refuses to tell
-  pub untold_shows : {T : Type 0} (r : Result T GraphFault) (e : GraphFault) → r ≡ Err e → IfErr r IsObserverFault
+  pub untold_shows : k.broken ≡ None → {T : Type 0} (r : Result T GraphFault) (e : GraphFault) → r ≡ Err e → IfErr r IsObserverFault
       → ((cause : Cause) → IsErrOf r (fault.Broken cause) ↔ IsBroken k.graph cause)
       → (IsErrOf r fault.Unknown ↔ (IsUnbroken k.graph × (node_at k.graph.observers o ≡ None)))
-      → (IsErrOf r fault.NotStabilized ↔ (IsUnbroken k.graph × IsSome (node_at k.graph.observers o) × (k.graph.rooted ≤ o.0)))
+      → (IsErrOf r fault.NotStabilized ↔ (IsUnbroken k.graph × IsSome (node_at k.graph.observers o) × (shown_at k.graph.observers o ≡ None)))
       → (F : Meanings) (m : Moment) → MatchesMoment F k m → ShowsNothing m.present name
-  untold_shows r e is telling broken unknown not_stabilized F m stands =
-      shows_nothing F k m stands (stands.broken ∙ unbroken) i o name at_id at_name
-      (only_later k.graph (sound.unbroken unbroken) r e o is telling broken unknown not_stabilized looks)
+  untold_shows unbroken r e is telling broken unknown not_shown F m stands =
+      shows_nothing F k m stands i o name at_id at_name
+      (only_later k.graph (sound.unbroken unbroken) r e o is telling broken unknown not_shown looks)

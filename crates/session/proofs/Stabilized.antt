@@ -1,5 +1,5 @@
 -- What is kept of a script once a stabilize ended, and the faults that don't come.
-use Rattle.std.proofs.Common.{◌≡◌, ◌⊎◌, inl, inr, Bool, ℕ, ◌+◌, ◌<◌, ◌≤◌, List, [], ◌∷◌, ◌++◌, arith, Option, None, Some, IsSome, is_some, Result, Err, IsErrOf, IsTrue, refl, ap, sym, subst, ◌∙◌}
+use Rattle.std.proofs.Common.{◌≡◌, ◌⊎◌, inl, inr, Bool, ℕ, ◌+◌, ◌<◌, ◌≤◌, List, [], ◌∷◌, ◌++◌, length, slice_get, arith, Option, None, Some, IsSome, is_some, Result, Err, IsErrOf, IsTrue, refl, ap, sym, subst, ◌∙◌}
 use Rattle.std.proofs.lemmas.Bool.{cases_lt}
 use Rattle.std.specs.Prelude.{min}
 use Rattle.std.proofs.Math.Nat.{min-eq_left}
@@ -8,12 +8,13 @@ use Rattle.stabilize_round.specs.Counts.{last_count}
 use Rattle.graph.specs.Fault.{kept_of}
 use Rattle.graph.specs.Sound.{IsSoundGraph as IsSoundGraph}
 use Rattle.graph.specs.Stabilizes.{left_by, IsRefusedFor, LeavesNodes}
-use Rattle.graph.specs.Standing.{GraphView, graph, IsUnbroken, node_at}
+use Rattle.graph.specs.Standing.{GraphView, graph, IsUnbroken}
+use Rattle.observers.specs.Observers.{looked_at, node_at, told_by}
 use Rattle.graph.specs.declared.fault.Kept.{Kept as Cause}
 use Rattle.graph.specs.declared.fault.Kept.TheVariants as cause
 use Rattle.graph.specs.declared.fault.StabilizeFault.{StabilizeFault}
 use Rattle.graph.specs.declared.fault.StabilizeFault.TheVariants as fault
-use Rattle.graph.specs.declared.observer.Observer.{Observer as Looking}
+use Rattle.observers.specs.declared.observer.Observer.{Observer as Looking}
 use Rattle.inc_terms.specs.Graph.{Row}
 use Rattle.inc_terms.specs.Rebuild.{Inside, direct, nested}
 use Rattle.inc_terms.specs.Term.{Functions}
@@ -21,7 +22,9 @@ use Rattle.inc_terms.specs.Within.{Given}
 use Rattle.inc_value.specs.declared.function.FnKind.TheVariants.{Map}
 use Rattle.inc_value.specs.declared.function.FnRef.{FnRef}
 use Rattle.inc_value.specs.declared.node.NodeId.{NodeId}
+use Rattle.inc_value.specs.declared.node.ObsId.{ObsId}
 use Rattle.inc_value.specs.declared.node.Point.{Point}
+use Rattle.inc_value.specs.declared.outcome.Outcome.{Outcome}
 use Rattle.node_arena.specs.Arena.{Arena, row_at, IsVariable}
 use Rattle.inc_value.specs.declared.value.Value.{Value as GraphValue}
 use Rattle.node_arena.specs.Meanings.{KeepsKnown, SameKnown, SameValues}
@@ -34,6 +37,7 @@ use Rattle.script_functions.specs.Keeping.{Maker, is_known, makers, side_in}
 use Rattle.script_functions.specs.KeepingLaws.{map_known, known_map}
 use Rattle.script_graph.proofs.Few.{sum_less}
 use Rattle.script_graph.proofs.Refusing.{IsSessions}
+use Rattle.script_graph.proofs.Told.{told_at, told_length, told_looked}
 use Rattle.script_graph.specs.Growing.{functions_over}
 use Rattle.script_graph.specs.Kept.{Kept, arena_of, node_in, without_functions}
 use Rattle.script_graph.specs.Sound.{AreFew, HasLiveNode, HaveNodes, IsLiveBind, IsSoundSession, weight_at, weight_of}
@@ -46,6 +50,25 @@ use Rattle.stabilize_round.specs.Laws.{GraphStays}
 use Rattle.wiring.specs.Stands.{Counts}
 use Rattle.wiring.specs.declared.refused.Refused.{Refused}
 use Rattle.wiring.specs.declared.refused.Refused.TheVariants as refused
+
+-- ---- observers that a stabilize leaves
+
+-- there are as many, and they look at what they looked at
+pub record LookAlike (old new : List Looking) : Type 0 where
+  pub count : length new ≡ length old
+  pub looks : (o : ObsId) → node_at new o ≡ node_at old o
+
+-- so it is of the same
+pub same_alike : (old new : List Looking) → new ≡ old → LookAlike old new
+same_alike old new same = record { count = ap length same; looks = λ o. ap (λ (os : List Looking). node_at os o) same }
+
+-- and of those that were told
+pub told_alike : (shows : NodeId → Outcome) (old new : List Looking) → new ≡ told_by shows old → LookAlike old new
+told_alike shows old new told = record {
+  count = ap length told ∙ told_length shows old;
+  looks = λ o. ap (λ (os : List Looking). node_at os o) told
+      ∙ (ap looked_at (told_at shows old o.0) ∙ told_looked shows (slice_get old o.0));
+}
 
 -- ---- nodes that a stabilize leaves
 
@@ -149,18 +172,19 @@ module _ {A : Type 0} (M : Functions) (old new : GraphView A) (before after : Co
               let e : weight_at bodies new.nodes n ≡ 0 = ap (λ (o : Option Row). counted bodies o) dead in
               omega (arith, e)
 
-  -- what is kept fits together over the graph as it is left, if that is unbroken where nothing broke the session
-  pub left_sound : (k : Kept) → IsSoundSession k → k.graph ≡ without_functions old → new.observers ≡ old.observers → (accepted : ℕ) (broken : Option ℕ)
+  -- what is kept fits together over the graph as it is left, whose observers look at what they looked at, if that is unbroken where nothing broke the session
+  pub left_sound : (k : Kept) → IsSoundSession k → k.graph ≡ without_functions old → LookAlike old.observers new.observers → (accepted : ℕ) (broken : Option ℕ)
       → (broken ≡ None → IsUnbroken new) → IsSoundSession (record k { accepted = accepted; broken = broken; graph = without_functions new })
   left_sound k sound same observers accepted broken unbroken =
       let nodes : arena_of k ≡ old.nodes = ap (λ (g : GraphView (Unit {0})). g.nodes) same in
-      let watching : k.graph.observers ≡ new.observers = ap (λ (g : GraphView (Unit {0})). g.observers) same ∙ sym observers in
+      let watching : k.graph.observers ≡ old.observers = ap (λ (g : GraphView (Unit {0})). g.observers) same in
       record {
         one_node_each = sound.one_node_each;
         has_nodes = have_nodes k.names.declared k.nodes (subst (λ (a : Arena). HaveNodes a k.names.declared k.nodes) nodes sound.has_nodes);
         few = few_still k.bodies k.room (subst (λ (a : Arena). AreFew k.bodies a k.room) nodes sound.few);
         one_observer_each = sound.one_observer_each;
-        looking = λ o among. subst (λ (os : List Looking). IsSome (node_at os o)) watching (sound.looking o among);
+        looking = λ o among. subst (λ (n : Option NodeId). IsSome n) (sym (observers.looks o))
+            (subst (λ (os : List Looking). IsSome (node_at os o)) watching (sound.looking o among));
         apart = sound.apart;
         unbroken = unbroken;
         clock = stays.clock ∙ (sym (ap (λ (a : Arena). a.time) nodes) ∙ sound.clock);

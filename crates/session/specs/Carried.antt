@@ -120,9 +120,11 @@ module _ {L E : Type 0} (meanings : L → Meanings) (known : L → FnRef → Boo
     -- at most one stabilize was accepted
     pub count : new.kept.accepted ≤ old.kept.accepted + 1
     pub names : new.kept.names ≡ old.kept.names
+    -- each observer's name in use has its observer
+    pub one_observer_each : length new.kept.observers ≡ length new.kept.names.observers
     -- few ids of nodes were given
     pub given : (arena_of new.kept).given ≤ (arena_of old.kept).given + 2 ^ 20
-    pub observers : new.kept.graph.observers ≡ old.kept.graph.observers
+    pub observers : length new.kept.graph.observers ≡ length old.kept.graph.observers
     pub bodies : length new.kept.bodies ≡ length old.kept.bodies
     -- the library knows what it knew
     pub known_still : (f : FnRef) → IsTrue (known old.library f) → IsTrue (known new.library f)

@@ -3,6 +3,8 @@ pub mod Carried
 pub mod Grabbed
 pub mod Making
 pub mod Naming
+pub mod Notices
+pub mod ObserverIds
 pub mod RefusalView
 pub mod Replies
 pub mod RequestView

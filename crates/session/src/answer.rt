@@ -3,24 +3,26 @@ ghost use Rattle.std.specs.Prelude.{IsTrue, true, ◌≡◌, ◌<◌, ◌≤◌,
 ghost use Rattle.formula_lang.specs.CommandView.{body_view, constant_view};
 ghost use Rattle.formula_lang.specs.Fits.{AssignmentFits, DeclarationFits, GrabFits, ObserverFits, TimeFits};
 ghost use Rattle.line_parser.specs.TreeView.{line_view};
-ghost use Rattle.script_model.specs.Check.{Advance, Assign, Declare, Observe, Show, Stabilize, Take, Unobserve, is_among};
+ghost use Rattle.script_model.specs.Check.{Advance, Assign, Declare, Observe, Show, Stabilize, Take, Unobserve, Watch, is_among};
 ghost use Rattle.script_model.specs.Formula.{binds_of_body, meanings_of};
 ghost use Rattle.script_model.specs.Grammar.{IsLine};
 ghost use Rattle.script_model.specs.Here.{is_here};
 ghost use Rattle.session.specs.Answered.{Extends};
 ghost use Rattle.session.specs.Carried.{HasRoom, Performs, Refuses, TakesBytes, Treats};
-ghost use Rattle.session.specs.Replies.{broken_line, cycle_line, refused_line, too_deep_line, name_in};
+ghost use Rattle.session.specs.Replies.{AreNoticeLines, IsNoticeLine, broken_line, cycle_line, refused_line, stable_line, too_deep_line, name_in};
 ghost use Rattle.session.specs.declared.answer.Did.TheVariants.{Refused};
 ghost use Rattle.script_graph.specs.Stabilizing.{CyclePasses, IsCycleMet, closed};
 
 use crate::places::room_behind_body;
 use crate::refusal::Refusal;
 use crate::reply::{
-    write_broken, write_done, write_refused, write_shown, write_stable, write_too_deep,
+    write_broken, write_change, write_done, write_init, write_invalid, write_refused, write_shown,
+    write_stable, write_too_deep,
 };
 use crate::request::{Request, read_request};
 use crate::script::{Script, Stabilized};
 use formula_lang::{CheckFault, Command, Constant, Declaration, Names, check};
+use graph::{Notice, Told};
 use inc_value::Ty;
 use line_parser::Line;
 use node_arena::Library;
@@ -110,6 +112,7 @@ fn carry_out<L: Library>(
         Command::Assign { target, value } => set(script, *target, value, out),
         Command::Observe { observer, target } => observe(script, observer.bytes(), *target, out),
         Command::Unobserve { observer } => unobserve(script, observer.bytes(), out),
+        Command::Watch { observer } => watch(script, observer.bytes(), out),
         Command::Advance { time } => advance(script, *time, out),
         Command::Stabilize => stabilize(alloc, script, out),
         Command::Show { observer } => show(alloc, script, observer.bytes(), out),
@@ -255,6 +258,68 @@ fn unobserve<L: Library>(
     }
 }
 
+/// Watches an observer.
+fn watch<L: Library>(
+    script: &mut Script<L>,
+    name: &[u8],
+    out: &mut Vec<u8>,
+) -> Result<Did, AllocError>
+    requires unbroken { script.old.kept.broken ≡ None }
+    requires in_use { IsTrue (is_among script.old.kept.names.observers name.now) }
+    ensures { Performs (λ l. meanings_of (L.named l) (L.value l)) L.known L.calls (Watch name.now) script.old script.new
+        out.old.items out.new.items result }
+{
+    match write_done(out) {
+        Ok(()) => {
+            script.watch(name);
+            Ok(Did::Accepted)
+        }
+        Err(fault) => Err(fault),
+    }
+}
+
+/// Appends notices. Without memory some of them may be written.
+fn write_notices<L: Library>(
+    alloc: Global,
+    script: &Script<L>,
+    notices: &[Notice],
+    out: &mut Vec<u8>,
+) -> Result<(), AllocError>
+    ensures ok { OnOk result ((bytes : List ℕ) × AreNoticeLines script.now.kept notices.now bytes × (out.new.items ≡ out.old.items ++ bytes)) }
+    ensures err { OnErr result (Extends out.old.items out.new.items) }
+{
+    for notice in notices {
+        write_notice(alloc, script, notice, out)?;
+    }
+    Ok(())
+}
+
+/// Appends a notice. Without memory nothing is written.
+fn write_notice<L: Library>(
+    alloc: Global,
+    script: &Script<L>,
+    notice: &Notice,
+    out: &mut Vec<u8>,
+) -> Result<(), AllocError>
+    ensures ok { OnOk result ((line : List ℕ) × IsNoticeLine script.now.kept notice.now line × (out.new.items ≡ out.old.items ++ line)) }
+    ensures err { OnErr result (out.new.items ≡ out.old.items) }
+{
+    let name = script.observer_name(notice.observer);
+    match &notice.told {
+        Told::Init(now) => write_init(alloc, name, now, script.referred_name(now), out),
+        Told::Change(before, now) => write_change(
+            alloc,
+            name,
+            before,
+            script.referred_name(before),
+            now,
+            script.referred_name(now),
+            out,
+        ),
+        Told::Invalid => write_invalid(alloc, name, out),
+    }
+}
+
 /// Writes what an observer shows, once it shows something.
 fn show<L: Library>(
     alloc: Global,
@@ -278,8 +343,8 @@ fn show<L: Library>(
     }
 }
 
-/// Accepts a stabilize. Without memory the session is broken, or the stabilize was accepted and its
-/// line is missing.
+/// Accepts a stabilize. Without memory the session is broken, or the stabilize was accepted, and of its lines some are
+/// missing.
 fn stabilize<L: Library>(
     alloc: Global,
     script: &mut Script<L>,
@@ -291,12 +356,30 @@ fn stabilize<L: Library>(
         out.old.items out.new.items result }
 {
     match script.stabilize() {
-        Ok(Stabilized::Accepted) => match write_stable(alloc, script.accepted(), out) {
-            Ok(()) => Ok(Did::Accepted),
-            Err(fault) => Err(fault),
-        },
+        Ok(Stabilized::Accepted) => {
+            match write_accepted(alloc, script, out) {
+                Ok(()) => Ok(Did::Accepted),
+                Err(fault) => Err(fault),
+            }
+        }
         Ok(Stabilized::Circular) => refuse_circular(alloc, script, out),
         Ok(Stabilized::TooDeep { target }) => refuse_too_deep(alloc, script, target, out),
+        Err(fault) => Err(fault),
+    }
+}
+
+/// Appends the reply to an accepted stabilize, and what it told. Without memory some of it may be written.
+fn write_accepted<L: Library>(
+    alloc: Global,
+    script: &Script<L>,
+    out: &mut Vec<u8>,
+) -> Result<(), AllocError>
+    ensures ok { OnOk result ((bytes : List ℕ) × AreNoticeLines script.now.kept script.now.kept.graph.notices bytes
+        × (out.new.items ≡ out.old.items ++ (stable_line script.now.kept.accepted ++ bytes))) }
+    ensures err { OnErr result (Extends out.old.items out.new.items) }
+{
+    match write_stable(alloc, script.accepted(), out) {
+        Ok(()) => write_notices(alloc, script, script.notices(), out),
         Err(fault) => Err(fault),
     }
 }

@@ -2,6 +2,7 @@
 #![tactic(auto)]
 
 mod answer;
+mod observer_ids;
 mod places;
 mod refusal;
 mod reply;
@@ -10,4 +11,4 @@ mod script;
 mod session;
 
 pub use answer::Did;
-pub use session::Session;
+pub use session::{NoticeKind, NoticeParts, Session};

@@ -1,6 +1,6 @@
 //! The lines that a session writes.
 ghost use Rattle.std.specs.Prelude.{◌≡◌, ◌++◌, OnOk, OnErr};
-ghost use Rattle.session.specs.Replies.{broken_line, done_line, refused_line, shown_line, stable_line, too_deep_line};
+ghost use Rattle.session.specs.Replies.{broken_line, change_line, done_line, first_line, invalid_line, refused_line, shown_line, stable_line, too_deep_line};
 
 use inc_value::Outcome;
 use std::alloc::{AllocError, Global};
@@ -73,5 +73,63 @@ pub(crate) fn write_shown(
     line.extend_from_slice(b" = ")?;
     outcome.print_into(alloc, referred, &mut line)?;
     line.push(b'\n')?;
+    out.extend_from_slice(&line)
+}
+
+/// Appends the first notice of a watched observer, where a reference is printed as the name `referred`.
+pub(crate) fn write_init(
+    alloc: Global,
+    observer: &[u8],
+    outcome: &Outcome,
+    referred: &[u8],
+    out: &mut Vec<u8>,
+) -> Result<(), AllocError>
+    ensures ok { OnOk result (out.new.items ≡ out.old.items ++ first_line observer.now referred.now outcome.now) }
+    ensures err { OnErr result (out.new.items ≡ out.old.items) }
+{
+    let mut line = Vec::new(alloc);
+    line.extend_from_slice(observer)?;
+    line.extend_from_slice(b" init ")?;
+    outcome.print_into(alloc, referred, &mut line)?;
+    line.push(b'\n')?;
+    out.extend_from_slice(&line)
+}
+
+/// Appends a notice of a change, where references are printed as these names.
+pub(crate) fn write_change(
+    alloc: Global,
+    observer: &[u8],
+    before: &Outcome,
+    referred_before: &[u8],
+    now: &Outcome,
+    referred: &[u8],
+    out: &mut Vec<u8>,
+) -> Result<(), AllocError>
+    ensures ok { OnOk result (out.new.items
+        ≡ out.old.items ++ change_line observer.now referred_before.now before.now referred.now now.now) }
+    ensures err { OnErr result (out.new.items ≡ out.old.items) }
+{
+    let mut line = Vec::new(alloc);
+    line.extend_from_slice(observer)?;
+    line.extend_from_slice(b" change ")?;
+    before.print_into(alloc, referred_before, &mut line)?;
+    line.push(b' ')?;
+    now.print_into(alloc, referred, &mut line)?;
+    line.push(b'\n')?;
+    out.extend_from_slice(&line)
+}
+
+/// Appends a notice that an outcome turned to Invalid.
+pub(crate) fn write_invalid(
+    alloc: Global,
+    observer: &[u8],
+    out: &mut Vec<u8>,
+) -> Result<(), AllocError>
+    ensures ok { OnOk result (out.new.items ≡ out.old.items ++ invalid_line observer.now) }
+    ensures err { OnErr result (out.new.items ≡ out.old.items) }
+{
+    let mut line = Vec::new(alloc);
+    line.extend_from_slice(observer)?;
+    line.extend_from_slice(b" invalid\n")?;
     out.extend_from_slice(&line)
 }

@@ -14,9 +14,9 @@ mod observing;
 mod setting;
 mod stabilizing;
 
+use crate::observer_ids::ObserverIds;
 use formula_lang::Names;
 use graph::{Graph, GraphFault};
-use inc_value::ObsId;
 use indexed_nodes::IndexedNodes;
 use naming::name_at;
 use node_arena::Library;
@@ -36,7 +36,7 @@ pub(crate) struct Script<L: Library> {
     graph: Graph<ScriptFns<L>>,
     names: Names,
     nodes: IndexedNodes,
-    observers: Vec<ObsId>,
+    observers: ObserverIds,
     room: usize,
     accepted: u64,
     broken: Option<u8>,
@@ -92,7 +92,7 @@ impl<L: Library> Script<L> {
             graph: Graph::new(alloc, ScriptFns::new(alloc, library)),
             names: Names::new(alloc),
             nodes: IndexedNodes::new(alloc),
-            observers: Vec::new(alloc),
+            observers: ObserverIds::new(alloc),
             room: PLACE_LIMIT,
             accepted: 0,
             broken: None,

@@ -1,13 +1,18 @@
 //! Sessions.
-ghost use Rattle.std.specs.Prelude.{◌≡◌, ℕ, ◌<◌, ◌≤◌, ◌+◌, ◌^◌, List, length, IsTrue, IfOk, OnOk, OnErr};
+ghost use Rattle.std.specs.Prelude.{◌≡◌, ℕ, ◌<◌, ◌≤◌, ◌+◌, ◌^◌, ◌++◌, List, length, IsTrue, IfOk, OnOk, OnErr};
+ghost use Rattle.generated_script.specs.Generated.{generated_text};
 ghost use Rattle.inc_value.specs.declared.function.FnRef.{FnRef};
 ghost use Rattle.script_model.specs.Step.{Moment, first_moment};
+
+mod notices;
 
 use crate::answer::{Did, answer_whole};
 use crate::refusal::Refusal;
 use crate::reply::write_refused;
 use crate::script::Script;
+use generated_script::append_text;
 use node_arena::Library;
+pub use notices::{NoticeKind, NoticeParts};
 use std::alloc::{AllocError, Global};
 use std::marker::Model;
 
@@ -89,7 +94,7 @@ impl<L: Library> Session<L> {
             → (self.new.kept ≡ self.old.kept) × (self.new.library ≡ self.old.library) × (self.new.builds ≡ self.old.builds) }
 
         // Without memory the count of lines has risen. A stabilize may have called functions, and then it was accepted, its
-        // line alone is missing, or the session is broken.
+        // lines alone are missing, or the session is broken.
         ensures stopped { let F = meanings_of (L.named self.old.library) (L.value self.old.library) in
             OnErr result ((m : Moment) → Stands F self.old.kept m
             → Stops F m text.now self.new.kept
@@ -117,6 +122,15 @@ impl<L: Library> Session<L> {
     {
         self.lines += 1;
         write_refused(self.alloc, Refusal::LineTooLong.number(), out)
+    }
+
+    /// Appends the text of the generated script with so many steps and this seed, whose lines a session
+    /// may take. Without memory the buffer is as before.
+    pub fn gen_text(&self, steps: u64, seed: u64, out: &mut Vec<u8>) -> Result<(), AllocError>
+        ensures text { OnOk result (out.new.items ≡ out.old.items ++ generated_text steps seed) }
+        ensures unwritten { OnErr result (out.new.items ≡ out.old.items) }
+    {
+        append_text(self.alloc, steps, seed, out)
     }
 
     /// The library, as the session has it now.

@@ -1,7 +1,7 @@
 use Rattle.std.proofs.Common.{◌≡◌, ℕ, List, Err, None, Some, refl, sym, ◌∙◌, ap, subst}
 use Rattle.formula_lang.specs.CommandView.{body_view, command_view}
 use Rattle.line_parser.specs.TreeView.{line_view}
-use Rattle.script_model.specs.Check.{Names, Declare, Observe, Show, Take, Unobserve, command_of, first_that, is_against, line_order}
+use Rattle.script_model.specs.Check.{Names, Declare, Observe, Show, Take, Unobserve, Watch, command_of, first_that, is_against, line_order}
 use Rattle.script_model.specs.Formula.{meanings_of}
 use Rattle.script_model.specs.Grammar.{Line}
 use Rattle.script_model.specs.Request.{Asks, IsRequest}
@@ -10,7 +10,7 @@ use Rattle.session.specs.Carried.{Performs}
 use Rattle.session.proofs.Answering.{answered_broken, answered_refused, followed_line, stabilize_line}
 use Rattle.session.proofs.Carried.{carried_nothing, carried_on, carried_refused, performed_as}
 use Rattle.session.proofs.Failing.{none_of}
-use Rattle.session.proofs.answer.carry_out.Goals.{in-Declare, in-Grab, in-Assign, in-Observe, in-Unobserve, in-Advance, in-Stabilize, in-Show}
+use Rattle.session.proofs.answer.carry_out.Goals.{in-Declare, in-Grab, in-Assign, in-Observe, in-Unobserve, in-Watch, in-Advance, in-Stabilize, in-Show}
 use Rattle.session.proofs.answer.carry_out.Goals as goal
 
 pub returns-in-Some : goal.returns-in-Some
@@ -35,6 +35,7 @@ returns g c =
       | in-Assign w ↦ let is = ap command_view (sym w.in-Assign.is) in rw (w.script-is, w.out-is, w.done-is) (performed_as _ _ _ _ _ is _ _ _ _ _ w.set-done.ensures)
       | in-Observe w ↦ let is = ap (λ (n : List ℕ). Observe n w.in-Observe.target) w.bytes-in-Observe.ensures ∙ ap command_view (sym w.in-Observe.is) in rw (w.script-is, w.out-is, w.done-is) (performed_as _ _ _ _ _ is _ _ _ _ _ w.observe-done.ensures)
       | in-Unobserve w ↦ let is = ap (λ (n : List ℕ). Unobserve n) w.bytes-in-Unobserve.ensures ∙ ap command_view (sym w.in-Unobserve.is) in rw (w.script-is, w.out-is, w.done-is) (performed_as _ _ _ _ _ is _ _ _ _ _ w.unobserve-done.ensures)
+      | in-Watch w ↦ let is = ap (λ (n : List ℕ). Watch n) w.bytes-in-Watch.ensures ∙ ap command_view (sym w.in-Watch.is) in rw (w.script-is, w.out-is, w.done-is) (performed_as _ _ _ _ _ is _ _ _ _ _ w.watch-done.ensures)
       | in-Advance w ↦ let is = ap command_view (sym w.in-Advance.is) in rw (w.script-is, w.out-is, w.done-is) (performed_as _ _ _ _ _ is _ _ _ _ _ w.advance-done.ensures)
       | in-Stabilize w ↦ let is = ap command_view (sym w.in-Stabilize.is) in rw (w.script-is, w.out-is, w.done-is) (performed_as _ _ _ _ _ is _ _ _ _ _ w.stabilize-done.ensures)
       | in-Show w ↦ let is = ap (λ (n : List ℕ). Show n) w.bytes-in-Show.ensures ∙ ap command_view (sym w.in-Show.is) in rw (w.script-is, w.out-is, w.done-is) (performed_as _ _ _ _ _ is _ _ _ _ _ w.show-done.ensures)

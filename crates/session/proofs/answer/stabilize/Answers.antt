@@ -1,6 +1,4 @@
 use Rattle.std.proofs.Common.{Ok, refl, ap, ◌∙◌}
-use Rattle.std.specs.Prelude.{◌++◌}
-use Rattle.session.specs.Replies.{stable_line}
 use Rattle.session.specs.declared.script.stabilizing.Stabilized.{Stabilized}
 use Rattle.session.proofs.Carried.{met_circular, performed_accepted, performed_circular, performed_cut_short, performed_too_deep, performed_unwritten}
 use Rattle.session.proofs.answer.stabilize.Goals as goal
@@ -8,14 +6,13 @@ use Rattle.session.proofs.answer.stabilize.Goals as goal
 pub returns-in-Ok : goal.returns-in-Ok
 returns-in-Ok g c =
     let h = c.in-Ok-Accepted in
-    performed_accepted _ _ _ _ _ _ _ c.requires.unbroken _ c.stabilize.ensures (h.is ∙ ap (λ (s : Stabilized). Ok s) h.field-0-is)
-    (c.in-Ok.ensures.ok ∙ ap (λ n. c.args.out.now.items ++ stable_line n) c.accepted.ensures)
+    performed_accepted _ _ _ _ _ _ _ c.requires.unbroken _ c.stabilize.ensures (h.is ∙ ap (λ (s : Stabilized). Ok s) h.field-0-is) c.in-Ok.ensures.ok
 
-pub returns-in-Err-write_stable : goal.returns-in-Err-write_stable
-returns-in-Err-write_stable g c =
+pub returns-in-Err-write_accepted : goal.returns-in-Err-write_accepted
+returns-in-Err-write_accepted g c =
     let h = c.in-Ok-Accepted in
     performed_unwritten _ _ _ _ _ _ _ c.requires.unbroken _ c.stabilize.ensures _ (h.is ∙ ap (λ (s : Stabilized). Ok s) h.field-0-is)
-    c.in-Err-write_stable.ensures.err
+    c.in-Err-write_accepted.ensures.err
 
 pub returns-in-Ok-TooDeep : goal.returns-in-Ok-TooDeep
 returns-in-Ok-TooDeep g c =

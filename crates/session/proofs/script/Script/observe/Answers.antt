@@ -1,13 +1,16 @@
 use Rattle.std.proofs.Common.{ap}
 use Rattle.graph.specs.Standing.{GraphView}
 use Rattle.script_graph.specs.Kept.{without_functions}
-use Rattle.session.proofs.Observed.{as_before, as_before_sound, given_node, last_among, observed_sound, observed_stands, observes_so, target_node}
+use Rattle.session.proofs.Observed.{as_before, as_before_sound, given_node, last_among, later_absent, observed_sound, observed_stands, observes_so, target_node}
 use Rattle.session.proofs.script.Script.observe.Goals as goal
 
 pub observe_node-requires-clause-given : goal.observe_node-requires-clause-given
 observe_node-requires-clause-given g c =
     let fits = rw (← c.self.view_is) at c.requires.fits in
     given_node _ c.self.invariant c.keeps_sound.ensures.sound.nodes c.args.target fits.earlier c.at-node.result c.at-node.ensures
+
+pub observe_node-requires-clause-absent : goal.observe_node-requires-clause-absent
+observe_node-requires-clause-absent g c = later_absent _ c.self.invariant
 
 pub invariant_of-self : goal.invariant_of-self
 invariant_of-self g c =

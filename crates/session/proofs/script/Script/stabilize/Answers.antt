@@ -7,7 +7,7 @@ use Rattle.session.proofs.Endings.{ends_accepted, ends_circular, ends_for_memory
 use Rattle.session.proofs.Observed.{not_broken}
 use Rattle.session.proofs.OwnNodes.{have_targets}
 use Rattle.session.proofs.Room.{gives_few, never_full}
-use Rattle.session.proofs.Stabilized.{not_fallen, refused_for}
+use Rattle.session.proofs.Stabilized.{not_fallen, refused_for, same_alike, told_alike}
 use Rattle.session.proofs.script.Script.stabilize.Goals as goal
 
 -- ---- accepted
@@ -20,7 +20,7 @@ invariant_of-self g c =
     kept_sound _ _ _ _ c.self.inside.graph c.stabilize-stabilized.new.self
     (g.L.Library.value c.self.inside.graph.functions.library) _ _ c.self.invariant refl same.known
     same.sides c.keeps_sound.ensures.sound.nodes done.stays (c.stabilize-stabilized.ensures.left (c.self.invariant.unbroken unbroken))
-    done.observers _ _ (λ whole. done.unbroken)
+    (told_alike _ _ _ done.observers) _ _ (λ whole. done.unbroken)
 
 pub returns-in-Ok : goal.returns-in-Ok
 returns-in-Ok g c =
@@ -34,7 +34,7 @@ returns-in-Ok g c =
     let left = c.stabilize-stabilized.ensures.left (c.self.invariant.unbroken unbroken) in
     rw (← c.self.view_is) (ends_accepted g.L.Library.named g.L.Library.value g.L.Library.known g.L.Library.calls l new.functions.library
     c.self.inside.graph.functions.builds new.functions.builds _ new.functions.bodies.items c.self.inside.graph new _ _ c.self.invariant refl
-    same.known same.sides done.stays left done.observers unbroken _ _
+    same.known same.sides done.stays left (told_alike _ _ _ done.observers) unbroken _ _
     c.keeps_sound.ensures.sound refl c.keeps_sound-2.ensures.sound refl same.names same.values
     (g.met.L.Library.maps_alone l) c.stabilize-stabilized.ensures.ids c.stabilize-stabilized.ensures.calls_grow
     (not_fallen c.self.inside.graph.functions.builds new.functions.builds few_builds left.builds.1.count.kept)
@@ -56,7 +56,7 @@ invariant_of-self-in-Some g c =
     kept_sound _ _ _ _ c.self.inside.graph c.stabilize-stabilized.new.self
     (g.L.Library.value c.self.inside.graph.functions.library) _ _ c.self.invariant refl same.known
     same.sides c.keeps_sound.ensures.sound.nodes done.stays (c.stabilize-stabilized.ensures.left (c.self.invariant.unbroken unbroken))
-    done.observers _ _ (λ whole. absurd (cc))
+    (same_alike _ _ done.observers) _ _ (λ whole. absurd (cc))
 
 pub returns-in-Some : goal.returns-in-Some
 returns-in-Some g c =
@@ -72,7 +72,7 @@ returns-in-Some g c =
     let left = c.stabilize-stabilized.ensures.left (c.self.invariant.unbroken unbroken) in
     rw (← c.self.view_is) (ends_too_deep g.L.Library.named g.L.Library.value g.L.Library.known g.L.Library.calls l new.functions.library
     c.self.inside.graph.functions.builds new.functions.builds _ new.functions.bodies.items c.self.inside.graph new _ _ c.self.invariant refl
-    same.known same.sides done.stays left done.observers unbroken _ _
+    same.known same.sides done.stays left (same_alike _ _ done.observers) unbroken _ _
     c.keeps_sound.ensures.sound refl c.keeps_sound-2.ensures.sound refl same.names same.values
     (g.met.L.Library.maps_alone l) c.stabilize-stabilized.ensures.ids c.stabilize-stabilized.ensures.calls_grow
     (not_fallen c.self.inside.graph.functions.builds new.functions.builds few_builds left.builds.1.count.kept) c.in-Some.target done (c.stabilize-stabilized.ensures.few cause.Height for) c.in-Some.ensures.found c.in-Some.ensures.within)
@@ -89,7 +89,7 @@ invariant_of-self-in-None g c =
     kept_sound _ _ _ _ c.self.inside.graph c.stabilize-stabilized.new.self
     (g.L.Library.value c.self.inside.graph.functions.library) _ _ c.self.invariant refl same.known
     same.sides c.keeps_sound.ensures.sound.nodes done.stays (c.stabilize-stabilized.ensures.left (c.self.invariant.unbroken unbroken))
-    done.observers _ _ (λ whole. absurd (cc))
+    (same_alike _ _ done.observers) _ _ (λ whole. absurd (cc))
 
 pub returns-in-None : goal.returns-in-None
 returns-in-None g c =
@@ -105,7 +105,7 @@ returns-in-None g c =
     let left = c.stabilize-stabilized.ensures.left (c.self.invariant.unbroken unbroken) in
     rw (← c.self.view_is) (ends_untold g.L.Library.named g.L.Library.value g.L.Library.known g.L.Library.calls l new.functions.library
     c.self.inside.graph.functions.builds new.functions.builds _ new.functions.bodies.items c.self.inside.graph new _ _ c.self.invariant refl
-    same.known same.sides done.stays left done.observers unbroken _ _
+    same.known same.sides done.stays left (same_alike _ _ done.observers) unbroken _ _
     c.keeps_sound.ensures.sound refl c.keeps_sound-2.ensures.sound refl same.names same.values
     (g.met.L.Library.maps_alone l) c.stabilize-stabilized.ensures.ids c.stabilize-stabilized.ensures.calls_grow
     (not_fallen c.self.inside.graph.functions.builds new.functions.builds few_builds left.builds.1.count.kept) _ done (c.stabilize-stabilized.ensures.few cause.Height for) c.in-None.ensures.none)
@@ -122,7 +122,7 @@ invariant_of-self-in-Err-Refused-Memory g c =
     kept_sound _ _ _ _ c.self.inside.graph c.stabilize-stabilized.new.self
     (g.L.Library.value c.self.inside.graph.functions.library) _ _ c.self.invariant refl same.known
     same.sides c.keeps_sound.ensures.sound.nodes done.stays (c.stabilize-stabilized.ensures.left (c.self.invariant.unbroken unbroken))
-    done.observers _ _ (λ whole. absurd (cc))
+    (same_alike _ _ done.observers) _ _ (λ whole. absurd (cc))
 
 pub returns-in-Err-Refused-Memory : goal.returns-in-Err-Refused-Memory
 returns-in-Err-Refused-Memory g c =
@@ -138,7 +138,7 @@ returns-in-Err-Refused-Memory g c =
     let left = c.stabilize-stabilized.ensures.left (c.self.invariant.unbroken unbroken) in
     rw (← c.self.view_is) (ends_for_memory g.L.Library.named g.L.Library.value g.L.Library.known g.L.Library.calls l new.functions.library
     c.self.inside.graph.functions.builds new.functions.builds _ new.functions.bodies.items c.self.inside.graph new _ _ c.self.invariant refl
-    same.known same.sides done.stays left done.observers unbroken _ _
+    same.known same.sides done.stays left (same_alike _ _ done.observers) unbroken _ _
     c.keeps_sound.ensures.sound refl c.keeps_sound-2.ensures.sound refl same.names same.values
     (g.met.L.Library.maps_alone l) c.stabilize-stabilized.ensures.ids c.stabilize-stabilized.ensures.calls_grow
     (not_fallen c.self.inside.graph.functions.builds new.functions.builds few_builds left.builds.1.count.kept) _ done (c.stabilize-stabilized.ensures.few cause.Memory for))
@@ -155,7 +155,7 @@ invariant_of-self-in-Err-Refused-Cycle g c =
     kept_sound _ _ _ _ c.self.inside.graph c.stabilize-stabilized.new.self
     (g.L.Library.value c.self.inside.graph.functions.library) _ _ c.self.invariant refl same.known
     same.sides c.keeps_sound.ensures.sound.nodes done.stays (c.stabilize-stabilized.ensures.left (c.self.invariant.unbroken unbroken))
-    done.observers _ _ (λ whole. absurd (cc))
+    (same_alike _ _ done.observers) _ _ (λ whole. absurd (cc))
 
 pub returns-in-Err-Refused-Cycle : goal.returns-in-Err-Refused-Cycle
 returns-in-Err-Refused-Cycle g c =
@@ -171,7 +171,7 @@ returns-in-Err-Refused-Cycle g c =
     let left = c.stabilize-stabilized.ensures.left (c.self.invariant.unbroken unbroken) in
     rw (← c.self.view_is) (ends_circular g.L.Library.named g.L.Library.value g.L.Library.known g.L.Library.calls l new.functions.library
     c.self.inside.graph.functions.builds new.functions.builds _ new.functions.bodies.items c.self.inside.graph new _ _ c.self.invariant refl
-    same.known same.sides done.stays left done.observers unbroken _ _
+    same.known same.sides done.stays left (same_alike _ _ done.observers) unbroken _ _
     c.keeps_sound.ensures.sound refl c.keeps_sound-2.ensures.sound refl same.names same.values
     (g.met.L.Library.maps_alone l) c.stabilize-stabilized.ensures.ids c.stabilize-stabilized.ensures.calls_grow
     (not_fallen c.self.inside.graph.functions.builds new.functions.builds few_builds left.builds.1.count.kept) done (c.stabilize-stabilized.ensures.few cause.Cycle for))
@@ -188,7 +188,7 @@ unreachable-requires g c =
     let few = kept_few _ _ _ _ c.self.inside.graph c.stabilize-stabilized.new.self
     (g.L.Library.value c.self.inside.graph.functions.library) _ _ c.self.invariant refl same.known
     same.sides c.keeps_sound.ensures.sound.nodes done.stays
-    (c.stabilize-stabilized.ensures.left (c.self.invariant.unbroken r.unbroken)) done.observers in
+    (c.stabilize-stabilized.ensures.left (c.self.invariant.unbroken r.unbroken)) (same_alike _ _ done.observers) in
     let given = gives_few _ _ _ few _ c.stabilize-stabilized.ensures.ids in
     let ids = r.ids in
     never_full _ _ _ few (c.stabilize-stabilized.ensures.full for).0 (omega (arith, given, ids))
