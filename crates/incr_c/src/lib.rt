@@ -3,10 +3,11 @@
 
 ghost use Rattle.std.specs.Prelude.{◌≡◌, ◌≤◌, ◌<◌, length};
 ghost use Rattle.session_slots.specs.Answers.{code_of};
-ghost use Rattle.session_slots.specs.Slots.{At, Closes, Opens, ReadsIn, TakesIn};
+ghost use Rattle.session_slots.specs.Notices.{nothing_told};
+ghost use Rattle.session_slots.specs.Slots.{At, Closes, NoticesIn, Opens, ReadsIn, TakesIn};
 ghost use Rattle.session_slots.specs.declared.answer.Answer.TheVariants.{NoSlot};
 
-use session_slots::{Slot, close_at, line_at, open_at, rest_at};
+use session_slots::{Slot, Told, close_at, line_at, notice_at, open_at, rest_at};
 use std::alloc::Global;
 
 /// Opens a session in the slot: 1. Where the slot has one already that one stays, and the answer is -5; without memory the
@@ -45,6 +46,23 @@ pub extern "C" fn incr_rest(
     ensures { ReadsIn out.old out.new count.new slot.old result slot.new }
 {
     slot.rest(alloc, out, count)
+}
+
+/// Copies out a notice of the last accepted stabilize of the slot's session, by its number from 0 on, where there is room for it: the
+/// observer's name, what was told of it before and what it shows now, one directly behind the other. `told` says how long they are, and
+/// which stabilize it was. The answer is 1 for what is told first of an observer, 2 for a change, 3 where it turned to Invalid, 0 where
+/// there is no notice with this number, -1 without a session and -2 without memory. Nothing changes in the session.
+#[unsafe(no_mangle)]
+pub extern "C" fn incr_notice(
+    alloc: Global,
+    slot: &mut Slot,
+    notice: usize,
+    out: &mut [u8],
+    told: &mut Told,
+) -> i32
+    ensures { NoticesIn notice out.old out.new told.new slot.old result slot.new }
+{
+    slot.notice(alloc, notice, out, told)
 }
 
 /// Ends the session of the slot: 1, or -1 where it has none.
@@ -93,6 +111,22 @@ pub extern "C" fn incr_rest_at(
     ensures within { number < length slots.old → At slots.old number slots.new (λ old new. ReadsIn out.old out.new count.new old result new) }
 {
     rest_at(alloc, slots, number, out, count)
+}
+
+/// `incr_notice` at the slot with this number, or -4 where there is none.
+#[unsafe(no_mangle)]
+pub extern "C" fn incr_notice_at(
+    alloc: Global,
+    slots: &mut [Slot],
+    number: usize,
+    notice: usize,
+    out: &mut [u8],
+    told: &mut Told,
+) -> i32
+    ensures beyond { length slots.old ≤ number → (result ≡ code_of NoSlot) × (slots.new ≡ slots.old) × (told.new ≡ nothing_told 0) × (out.new ≡ out.old) }
+    ensures within { number < length slots.old → At slots.old number slots.new (λ old new. NoticesIn notice out.old out.new told.new old result new) }
+{
+    notice_at(alloc, slots, number, notice, out, told)
 }
 
 /// `incr_close` at the slot with this number, or -4 where there is none.

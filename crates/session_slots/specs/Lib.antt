@@ -2,4 +2,5 @@ pub mod Answers
 pub mod Handed
 pub mod Handles
 pub mod Holding
+pub mod Notices
 pub mod Slots

@@ -2,10 +2,12 @@
 use Rattle.std.specs.Prelude.{◌≡◌, ◌<◌, ◌⊎◌, ℕ, ℤ, List, length, slice_get, set, Some, IfSome}
 use Rattle.session_slots.specs.Answers.{code_of}
 use Rattle.session_slots.specs.Holding.{IsFirst, Reads, TakesLine}
+use Rattle.session_slots.specs.Notices.{TellsNotice, nothing_told}
 use Rattle.session_slots.specs.declared.answer.Answer.{Answer}
 use Rattle.session_slots.specs.declared.answer.Answer.TheVariants.{Done, NoMemory, NoSession, OpenAlready}
 use Rattle.session_slots.specs.declared.holder.Holder.{Holder}
 use Rattle.session_slots.specs.declared.slot.Slot.{Slot}
+use Rattle.session_slots.specs.declared.told.Told.{Told}
 
 -- the slot has this session
 abbrev pub Has : Slot → Holder → Type 0
@@ -37,6 +39,14 @@ ReadsIn room after count old code new = (old.live ≡ 0 → FindsNone room after
     × (0 < old.live → (code ≡ code_of Done) × (new.live ≡ 1)
     × ((was is : Holder) → old.handle.value ≡ Some was → new.handle.value ≡ Some is
     → (is.session ≡ was.session) × (count ≡ length was.printed.items) × Reads was.printed.items room after is.printed.items))
+
+-- the slot's session tells a notice and stays as it was; or there is no session, and nothing is copied
+abbrev pub NoticesIn : ℕ → List ℕ → List ℕ → Told → Slot → ℤ → Slot → Type 0
+NoticesIn number room after told old code new =
+    (old.live ≡ 0 → (code ≡ code_of NoSession) × (new.live ≡ 0) × (told ≡ nothing_told 0) × (after ≡ room))
+    × (0 < old.live → (new.live ≡ 1)
+    × ((was is : Holder) → old.handle.value ≡ Some was → new.handle.value ≡ Some is
+    → (is ≡ was) × (what : Answer) × (code ≡ code_of what) × TellsNotice was number room what after told))
 
 -- the slot has no session any more, and the answer tells whether it had one
 abbrev pub Closes : Slot → ℤ → Slot → Type 0

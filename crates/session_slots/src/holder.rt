@@ -1,8 +1,10 @@
 //! A session, and what it printed that is still to be read.
 ghost use Rattle.std.specs.Prelude.{◌≡◌, ◌<◌, ◌^◌, length, IfOk};
 ghost use Rattle.session_slots.specs.Holding.{IsFirst, Reads, TakesLine};
+ghost use Rattle.session_slots.specs.Notices.{Copies, TellsNotice};
 
 use crate::answer::Answer;
+use crate::told::Told;
 use session::{Did, Session};
 use std::alloc::{AllocError, Global};
 use std_library::StdLib;
@@ -76,5 +78,43 @@ impl Holder {
             self.printed.clear();
         }
         count
+    }
+
+    /// Copies out the parts of a notice, one directly behind the other, where there is room for all of them, and tells how long each is.
+    pub(crate) fn notice(
+        &self,
+        alloc: Global,
+        number: usize,
+        out: &mut [u8],
+        told: &mut Told,
+    ) -> Answer
+        ensures { TellsNotice self.now number out.old result out.new told.new }
+    {
+        let round = self.session.accepted();
+        let mut text = Vec::new(alloc);
+        match self.session.notice(number, &mut text) {
+            Ok(Some(parts)) => {
+                *told = Told::of(round, parts);
+                copy(&text, out);
+                Answer::Notice(parts.kind)
+            }
+            Ok(None) => {
+                *told = Told::nothing(round);
+                Answer::NoNotice
+            }
+            Err(AllocError) => {
+                *told = Told::nothing(round);
+                Answer::NoMemory
+            }
+        }
+    }
+}
+
+/// Copies a text where there is room for it.
+fn copy(text: &[u8], out: &mut [u8])
+    ensures { Copies text.now out.old out.new }
+{
+    if text.len() <= out.len() {
+        out[..text.len()].copy_from_slice(text);
     }
 }

@@ -1,11 +1,12 @@
 //! What the calls do at a slot.
 ghost use Rattle.std.specs.Prelude.{◌≡◌, ◌<◌, Some, MatchOption};
-ghost use Rattle.session_slots.specs.Slots.{Closes, Has, Opens, ReadsIn, TakesIn};
+ghost use Rattle.session_slots.specs.Slots.{Closes, Has, NoticesIn, Opens, ReadsIn, TakesIn};
 
 use super::Slot;
 use crate::answer::Answer;
 use crate::handle::Handle;
 use crate::holder::Holder;
+use crate::told::Told;
 use box_parts::Parts;
 use std::alloc::{AllocError, Global};
 use std::mem::replace;
@@ -95,6 +96,22 @@ impl Slot {
         *count = held.read(out);
         self.put(held);
         Answer::Done.code()
+    }
+
+    /// Copies out a notice of the last accepted stabilize, by its number from 0 on, where there is room for it: the observer's name,
+    /// what was told of it before and what it shows now, one directly behind the other. `told` says how long they are, and which stabilize it was. The answer
+    /// is 1 for what is told first of an observer, 2 for a change, 3 where it turned to Invalid, 0 where there is no notice with this
+    /// number, -1 without a session and -2 without memory. Nothing changes in the session.
+    pub fn notice(&mut self, alloc: Global, number: usize, out: &mut [u8], told: &mut Told) -> i32
+        ensures { NoticesIn number out.old out.new told.new self.old result self.new }
+    {
+        let Some(held) = self.take(alloc) else {
+            *told = Told::nothing(0);
+            return Answer::NoSession.code();
+        };
+        let what = held.notice(alloc, number, out, told);
+        self.put(held);
+        what.code()
     }
 
     /// Ends the session: 1, or -1 where there is none.
