@@ -4,7 +4,7 @@ use Rattle.std.specs.Str.{bytes_eq}
 use Rattle.std.specs.Str.Parse.{IsNumeral, digits_value, without_leading_plus}
 use Rattle.incr_bench.specs.declared.job.Job.{Job}
 use Rattle.incr_bench.specs.declared.job.Shape.{Shape}
-use Rattle.incr_bench.specs.declared.job.Shape.TheVariants.{Chain, Fan, Tree, Fold, Cut, Never, Idle, Flip, Flipx, Aside, Switch, Bind, Nested, Boxed, Ticks}
+use Rattle.incr_bench.specs.declared.job.Shape.TheVariants.{Chain, Fan, Tree, Fold, Cut, Never, Idle, Flip, Flipx, Aside, Switch, Bind, Nested, Boxed, Ticks, Watched, Turns, Told, Shown, Ended}
 
 -- the shape that a word names
 abbrev pub shape_of : List ℕ → Option Shape
@@ -24,7 +24,12 @@ shape_of name =
     else (if bytes_eq name (codes "nested") then Some Nested
     else (if bytes_eq name (codes "boxed") then Some Boxed
     else (if bytes_eq name (codes "ticks") then Some Ticks
-    else None))))))))))))))
+    else (if bytes_eq name (codes "watched") then Some Watched
+    else (if bytes_eq name (codes "turns") then Some Turns
+    else (if bytes_eq name (codes "told") then Some Told
+    else (if bytes_eq name (codes "shown") then Some Shown
+    else (if bytes_eq name (codes "ended") then Some Ended
+    else None)))))))))))))))))))
 
 -- the largest size of a shape: as long as a chain may be, and as many nodes as a graph may have
 abbrev pub most_of : Shape → ℕ

@@ -53,6 +53,21 @@ pub enum Shape {
 
     /// Timers of one span, of which one is due in each round.
     Ticks,
+
+    /// Variables whose observers are watched, of which the first changes in each round.
+    Watched,
+
+    /// The same, where another one changes in each round.
+    Turns,
+
+    /// The same, where all of them change in each round.
+    Told,
+
+    /// Variables that are observed and not watched, all of which change in each round.
+    Shown,
+
+    /// Variables whose observers are watched, of which a round ends one.
+    Ended,
 }
 
 /// What the words ask for.
@@ -80,7 +95,12 @@ fn most(shape: Shape) -> usize
         | Shape::Aside
         | Shape::Switch
         | Shape::Boxed
-        | Shape::Ticks => 1_000_000,
+        | Shape::Ticks
+        | Shape::Watched
+        | Shape::Turns
+        | Shape::Told
+        | Shape::Shown
+        | Shape::Ended => 1_000_000,
     }
 }
 
@@ -104,6 +124,11 @@ fn shape_named(name: &str) -> Option<Shape>
         "nested" => Some(Shape::Nested),
         "boxed" => Some(Shape::Boxed),
         "ticks" => Some(Shape::Ticks),
+        "watched" => Some(Shape::Watched),
+        "turns" => Some(Shape::Turns),
+        "told" => Some(Shape::Told),
+        "shown" => Some(Shape::Shown),
+        "ended" => Some(Shape::Ended),
         _ => None,
     }
 }

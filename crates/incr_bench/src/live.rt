@@ -1,5 +1,5 @@
 //! A graph with the nodes that were made.
-ghost use Rattle.std.specs.Prelude.{◌≡◌, ◌≤◌, ◌+◌, ◌++◌, [], ◌∷◌, length, IfOk, IfErr, OnOk, OnErr, IsOk, IsErr, IsErrOf, IsTrue, None, Some};
+ghost use Rattle.std.specs.Prelude.{◌≡◌, ◌≤◌, ◌+◌, ◌-◌, ◌^◌, ◌++◌, [], ◌∷◌, length, min, IfOk, IfErr, OnOk, OnErr, IsOk, IsErr, IsErrOf, IsTrue, None, Some};
 ghost use Rattle.incr_bench.specs.Shown.{node_in, number_in, shown_by};
 ghost use Rattle.incr_bench.specs.Status.{of_graph};
 
@@ -11,11 +11,13 @@ use std::alloc::Global;
 use std_library::Function;
 
 /// A graph, with its nodes in the order in which they were made, and the function that is called for a negation. Nodes go by
-/// their places in that order.
+/// their places in that order, and observers by theirs.
 pub struct Live<F: Functions> {
     graph: Graph<F>,
     nodes: Vec<NodeId>,
     negation: FnRef,
+    /// How many notices its stabilizes told of watched observers, up to 2^64 - 1.
+    notices: u64,
 }
 
 /// Puts the node that a graph made behind the others, or tells the graph's fault.
@@ -60,6 +62,7 @@ impl<F: Functions> Live<F> {
             graph: Graph::new(alloc, functions),
             nodes: Vec::new(alloc),
             negation,
+            notices: 0,
         }
     }
 
@@ -69,6 +72,7 @@ impl<F: Functions> Live<F> {
             graph,
             nodes,
             negation: _negation,
+            notices: _notices,
         } = self;
         drop(nodes);
         drop(graph.into_functions());
@@ -199,6 +203,7 @@ impl<F: Functions> Live<F> {
     pub fn advance(&mut self, span: u64) -> Result<(), Fault>
         ensures uncalled { self.new.graph.functions ≡ self.old.graph.functions }
         ensures same_nodes { self.new.nodes.items ≡ self.old.nodes.items }
+        ensures untold { self.new.notices ≡ self.old.notices }
     {
         let Some(time) = self.graph.time().checked_add_unsigned(span) else {
             return Err(Fault::Refused);
@@ -221,10 +226,39 @@ impl<F: Functions> Live<F> {
         }
     }
 
+    /// Watches the observer at a place.
+    pub fn watch(&mut self, place: usize) -> Result<(), Fault>
+        ensures uncalled { self.new.graph.functions ≡ self.old.graph.functions }
+        ensures same_nodes { self.new.nodes.items ≡ self.old.nodes.items }
+    {
+        let Ok(number) = u32::try_from(place) else {
+            return Err(Fault::Refused);
+        };
+        match self.graph.watch(ObsId(number)) {
+            Ok(()) => Ok(()),
+            Err(fault) => Err(of_graph(fault)),
+        }
+    }
+
+    /// Ends the observer at a place.
+    pub fn unobserve(&mut self, place: usize) -> Result<(), Fault>
+        ensures uncalled { self.new.graph.functions ≡ self.old.graph.functions }
+        ensures untold { self.new.notices ≡ self.old.notices }
+    {
+        let Ok(number) = u32::try_from(place) else {
+            return Err(Fault::Refused);
+        };
+        match self.graph.unobserve(ObsId(number)) {
+            Ok(()) => Ok(()),
+            Err(fault) => Err(of_graph(fault)),
+        }
+    }
+
     /// Gives a variable another value.
     pub fn set(&mut self, place: usize, value: Value) -> Result<(), Fault>
         ensures uncalled { self.new.graph.functions ≡ self.old.graph.functions }
         ensures same_nodes { self.new.nodes.items ≡ self.old.nodes.items }
+        ensures untold { self.new.notices ≡ self.old.notices }
     {
         let node = self.node(place);
         match self.graph.set_var(node, value) {
@@ -245,15 +279,28 @@ impl<F: Functions> Live<F> {
         }
     }
 
-    /// Brings what is observed up to date.
+    /// Brings what is observed up to date, and counts what is told of it.
     pub fn stabilize(&mut self) -> Result<(), Fault>
         ensures calls_grow { F.calls self.old.graph.functions ≤ F.calls self.new.graph.functions }
         ensures same_nodes { self.new.nodes.items ≡ self.old.nodes.items }
+        ensures told { OnOk result (self.new.notices ≡ min (self.old.notices + length self.new.graph.notices) (2 ^ 64 - 1)) }
+        ensures untold { OnErr result (self.new.notices ≡ self.old.notices) }
     {
         match self.graph.stabilize() {
-            Ok(()) => Ok(()),
+            Ok(()) => {
+                let told = self.graph.round().notices.len() as u64;
+                self.notices = self.notices.saturating_add(told);
+                Ok(())
+            }
             Err(fault) => Err(of_stabilize(fault)),
         }
+    }
+
+    /// How many notices its stabilizes told so far, up to 2^64 - 1.
+    pub fn notices(&self) -> u64
+        ensures { result ≡ self.now.notices }
+    {
+        self.notices
     }
 
     /// The number that the first observer shows. Where it shows none, the answer is a fault.

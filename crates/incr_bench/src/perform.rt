@@ -1,8 +1,11 @@
 //! Runs that are timed.
-ghost use Rattle.std.specs.Prelude.{◌≡◌, [], IfSome, IsTrue};
+ghost use Rattle.std.specs.Prelude.{◌≡◌, [], ℕ, List, IfOk, IfSome, IsTrue, string_bytes};
+ghost use Rattle.std.specs.Io.KnownBytes.{Appends};
 ghost use Rattle.incr_bench.specs.Jobs.{IsWithin};
+ghost use Rattle.incr_bench.specs.Reports.{IsReport};
 ghost use Rattle.incr_bench.specs.Status.{SinksTell};
-ghost use Rattle.incr_bench.specs.declared.report.Ending.TheVariants.{Unwritten};
+ghost use Rattle.incr_bench.specs.declared.fault.Fault.{Fault as AFault};
+ghost use Rattle.incr_bench.specs.declared.report.Ending.TheVariants.{Told, Unwritten, Stopped};
 
 use crate::boxed::Negation;
 use crate::clock::{begin, since};
@@ -124,6 +127,7 @@ fn over_box<C: Clock>(alloc: Global, clock: &C, job: Job) -> Result<Rounds, Faul
 /// What the words ask for.
 fn found<C: Clock>(alloc: Global, clock: &C, job: Job) -> Result<Report, Fault>
     requires { IsWithin job }
+    ensures { IfOk result (λ report. IsReport job report.counts.items (string_bytes report.times)) }
 {
     let rounds = match job.shape {
         Shape::Bind | Shape::Nested => over_sides(alloc, clock, job)?,
@@ -142,6 +146,9 @@ pub fn perform<C: Clock, K: Sink, N: Sink>(
     notes: &mut N,
 ) -> Ending
     requires { IsWithin job }
+    ensures told { result ≡ Told → (counts times : List ℕ) × IsReport job counts times
+        × Appends (K.written out.old) (K.written out.new) counts × Appends (N.written notes.old) (N.written notes.new) times }
+    ensures stopped { (fault : AFault) → result ≡ Stopped fault → (out.new ≡ out.old) × (notes.new ≡ notes.old) }
     ensures sinks { SinksTell (result ≡ Unwritten) (K.faults out.old) (K.faults out.new) (N.faults notes.old) (N.faults notes.new) }
 {
     match found(alloc, clock, job) {

@@ -1,7 +1,7 @@
 //! What a run tells.
 ghost use Rattle.std.specs.Prelude.{◌≡◌, ◌≢◌, ◌⊎◌, ◌++◌, [], IfOk, OnOk, string_bytes};
 ghost use Rattle.std.specs.Io.KnownBytes.{Appends};
-ghost use Rattle.incr_bench.specs.Reports.{calls_line, each_of, last_line, with_number, with_time, with_times};
+ghost use Rattle.incr_bench.specs.Reports.{count_line, counts_of, each_of, last_line, with_number, with_time, with_times};
 ghost use Rattle.incr_bench.specs.Status.{SinksTell, status_of};
 ghost use Rattle.incr_bench.specs.declared.report.Ending.TheVariants.{Told, Unwritten};
 
@@ -31,11 +31,11 @@ pub enum Ending {
     Stopped(Fault),
 }
 
-/// Tells how many functions were called in the rounds.
-fn tell_calls(alloc: Global, counts: &mut Vec<u8>, calls: u64) -> Result<(), AllocError>
-    ensures { OnOk result (counts.new.items ≡ counts.old.items ++ calls_line calls) }
+/// Tells how many of something there were in the rounds.
+fn tell_count(alloc: Global, counts: &mut Vec<u8>, name: &str, count: u64) -> Result<(), AllocError>
+    ensures { OnOk result (counts.new.items ≡ counts.old.items ++ count_line name.now count) }
 {
-    let line = format!(in alloc; "calls {calls}\n")?;
+    let line = format!(in alloc; "{name} {count}\n")?;
     counts.extend_from_slice(line.as_bytes())
 }
 
@@ -84,23 +84,25 @@ fn tell_time(
     tell_number(alloc, times, "", count, "\n")
 }
 
-/// Tells the times of rounds: by nodes built, by rounds and by calls.
+/// Tells the times of rounds: by nodes built, by rounds, by calls and by notices.
 fn tell_times(alloc: Global, times: &mut String, job: Job, rounds: Rounds) -> Result<(), AllocError>
     ensures { OnOk result (string_bytes times.new ≡ with_times (string_bytes times.old) job rounds) }
 {
     tell_time(alloc, times, "built", rounds.building, job.size as u64)?;
     tell_time(alloc, times, "rounds", rounds.running, job.rounds)?;
-    tell_time(alloc, times, "calls", rounds.running, rounds.calls)
+    tell_time(alloc, times, "calls", rounds.running, rounds.calls)?;
+    tell_time(alloc, times, "notices", rounds.running, rounds.notices)
 }
 
 /// What rounds found.
 pub fn of_rounds(alloc: Global, job: Job, rounds: Rounds) -> Result<Report, AllocError>
-    ensures counts { IfOk result (λ report. report.counts.items ≡ calls_line rounds.calls ++ last_line rounds.last) }
+    ensures counts { IfOk result (λ report. report.counts.items ≡ counts_of rounds) }
     ensures times { IfOk result (λ report. string_bytes report.times ≡ with_times [] job rounds) }
 {
     let mut counts = Vec::new(alloc);
     let mut times = String::new(alloc);
-    tell_calls(alloc, &mut counts, rounds.calls)?;
+    tell_count(alloc, &mut counts, "calls", rounds.calls)?;
+    tell_count(alloc, &mut counts, "notices", rounds.notices)?;
     tell_last(alloc, &mut counts, rounds.last)?;
     tell_times(alloc, &mut times, job, rounds)?;
     Ok(Report { counts, times })

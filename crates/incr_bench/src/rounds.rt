@@ -1,5 +1,5 @@
 //! Rounds that change a graph.
-ghost use Rattle.std.specs.Prelude.{◌≡◌, ◌≤◌, ◌<◌, ◌+◌, ◌*◌, ◌%◌, ◌^◌, Some, pos, IfOk};
+ghost use Rattle.std.specs.Prelude.{◌≡◌, ◌≤◌, ◌<◌, ◌+◌, ◌-◌, ◌*◌, ◌%◌, ◌^◌, Some, pos, IfOk};
 ghost use Rattle.inc_value.specs.declared.value.Value.TheVariants.{Int};
 ghost use Rattle.incr_bench.specs.Shown.{shown_by};
 
@@ -13,12 +13,14 @@ use inc_value::{Base, Value};
 use node_arena::Functions;
 use std::time::Clock;
 
-/// What was measured, in nanoseconds, how many functions were called in the rounds, and what the first observer shows then.
+/// What was measured, in nanoseconds, how many functions were called in the rounds, how many notices they told of watched
+/// observers, and what the first observer shows then.
 #[derive(Clone, Copy)]
 pub struct Rounds {
     pub building: u64,
     pub running: u64,
     pub calls: u64,
+    pub notices: u64,
     pub last: i64,
 }
 
@@ -38,12 +40,24 @@ fn fresh(round: u64) -> Value
     Value::Int((round % 2_000_000_000) as i64 + 2)
 }
 
-/// Changes what a round of a shape changes.
+/// Gives so many variables another value.
+fn set_all<F: Functions>(live: &mut Live<F>, size: usize, round: u64) -> Result<(), Fault>
+    ensures uncalled { live.new.graph.functions ≡ live.old.graph.functions }
+    ensures untold { live.new.notices ≡ live.old.notices }
+{
+    for place in 0..size {
+        live.set(place, fresh(round))?;
+    }
+    Ok(())
+}
+
+/// Changes what a round of a shape changes. The first observer of `ended` stays.
 fn change<F: Functions>(live: &mut Live<F>, job: Job, round: u64) -> Result<(), Fault>
     ensures uncalled { live.new.graph.functions ≡ live.old.graph.functions }
+    ensures untold { live.new.notices ≡ live.old.notices }
 {
     match job.shape {
-        Shape::Tree | Shape::Fold => live.set(turn(round, job.size), fresh(round)),
+        Shape::Tree | Shape::Fold | Shape::Turns => live.set(turn(round, job.size), fresh(round)),
         Shape::Nested => live.set(turn(round, 2), fresh(round)),
         Shape::Flip | Shape::Aside => live.set(0, Value::Bool(round % 2 == 1)),
         Shape::Flipx => {
@@ -55,6 +69,8 @@ fn change<F: Functions>(live: &mut Live<F>, job: Job, round: u64) -> Result<(), 
             live.set(job.size, Value::Node(target, Base::Int))
         }
         Shape::Ticks => live.advance(TICK),
+        Shape::Told | Shape::Shown => set_all(live, job.size, round),
+        Shape::Ended => live.unobserve(turn(round, job.size).saturating_add(1)),
         _ => live.set(0, fresh(round)),
     }
 }
@@ -79,9 +95,11 @@ pub fn measure<F: Counted, C: Clock>(
 ) -> Result<Rounds, Fault>
     ensures building { IfOk result (λ rounds. rounds.building ≡ building) }
     ensures calls { IfOk result (λ rounds. F.calls live.old.graph.functions + rounds.calls ≡ F.calls live.new.graph.functions) }
+    ensures notices { IfOk result (λ rounds. rounds.notices ≡ live.new.notices - live.old.notices) }
     ensures last { IfOk result (λ rounds. shown_by live.new.graph (record { 0 = 0 }) ≡ Some rounds.last) }
 {
     let before = live.functions().count();
+    let told_before = live.notices();
     let start = begin(clock);
     run(live, job)?;
     let running = since(clock, start);
@@ -90,6 +108,7 @@ pub fn measure<F: Counted, C: Clock>(
         building,
         running,
         calls: live.functions().count().saturating_sub(before),
+        notices: live.notices().saturating_sub(told_before),
         last,
     })
 }

@@ -164,6 +164,25 @@ fn ticks<F: Functions>(live: &mut Live<F>, size: usize) -> Result<(), Fault>
     observe_all(live, 0, size)
 }
 
+/// Variables, all observed.
+fn shown<F: Functions>(live: &mut Live<F>, size: usize) -> Result<(), Fault>
+    ensures uncalled { live.new.graph.functions ≡ live.old.graph.functions }
+{
+    variables(live, size)?;
+    observe_all(live, 0, size)
+}
+
+/// Variables, all observed, whose observers are watched.
+fn watched<F: Functions>(live: &mut Live<F>, size: usize) -> Result<(), Fault>
+    ensures uncalled { live.new.graph.functions ≡ live.old.graph.functions }
+{
+    shown(live, size)?;
+    for place in 0..size {
+        live.watch(place)?;
+    }
+    Ok(())
+}
+
 /// A variable and a bind on it, which is observed, of right sides that a function makes.
 pub fn bind<F: Functions>(live: &mut Live<F>, side: FnRef) -> Result<(), Fault>
     requires known { IsTrue (F.known live.old.graph.functions side) }
@@ -215,6 +234,9 @@ pub fn fill<F: Functions>(live: &mut Live<F>, shape: Shape, size: usize) -> Resu
         Shape::Switch => switch(live, size),
         Shape::Fan | Shape::Boxed => fan(live, size),
         Shape::Ticks => ticks(live, size),
+        Shape::Watched | Shape::Turns | Shape::Told => watched(live, size),
+        Shape::Shown => shown(live, size),
+        Shape::Ended => watched(live, size + 1),
         Shape::Bind | Shape::Nested => Err(Fault::Refused),
     }
 }
