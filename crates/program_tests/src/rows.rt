@@ -484,9 +484,9 @@ pub(super) const LANGUAGE: &[Row] = &[
         script: &[
             Lines::Once(
                 "var x int 1\nlet x 2\nlet y q\nlet y foo(x)\nlet y add(x, true)\nlet y add(x)\n\
-                 let y add()\nlet y neg(x)\nset y 2\ngrab g y\nobserve o x\nobserve o y\n",
+                 let y add()\nlet y neg(x)\nset y 2\ngrab g y\nwatch o\nobserve o x\nobserve o y\n",
                 "ok\nrefused 3\nrefused 4\nrefused 5\nrefused 6\nrefused 6\nrefused 1\nok\nrefused 7\n\
-                 refused 8\nok\nrefused 12\n",
+                 refused 8\nrefused 11\nok\nrefused 12\n",
             ),
             Lines::Once(
                 "let z add(after 1s, 1)\nlet z every 0s\nlet z at 9223372037s\nlet z at 9223372036s\n",
@@ -566,6 +566,65 @@ pub(super) const CLOCK: &[Row] = &[
                  show o\n",
             "ok\nok\nok\nstable 1\ncalls 0\nbuilds 1\no = 0\nok\nstable 2\ncalls 0\nbuilds 1\no = 1\nok\n\
                  stable 3\ncalls 1\no = 101\nok\nstable 4\ncalls 1\nbuilds 1\no = 102\n",
+        )],
+        outside: USUAL,
+        status: 0,
+    },
+];
+
+/// What is told of watched observers.
+pub(super) const WATCHES: &[Row] = &[
+    Row {
+        name: "two observers, of which one is watched twice and ends",
+        script: &[Lines::Once(
+            "var x int 1\nobserve o x\nwatch o\nwatch o\nobserve p x\nwatch p\nstabilize\nset x 2\nunobserve o\n\
+                 stabilize\n",
+            "ok\nok\nok\nok\nok\nok\nstable 1\no init 1\np init 1\ncalls 0\nok\nok\nstable 2\np change 1 2\n\
+                 calls 0\n",
+        )],
+        outside: USUAL,
+        status: 0,
+    },
+    Row {
+        name: "a reference to a grab that dies, watched",
+        script: &[Lines::Once(
+            "var x int 1\nvar h node int &x\nlet b bind v = x in neg(v)\nobserve o b\nstabilize\ngrab r b\nset h &r\n\
+                 let j join(h)\nobserve q j\nwatch q\nstabilize\nset x 2\nstabilize\nset h &x\nstabilize\n",
+            "ok\nok\nok\nok\nstable 1\ncalls 1\nbuilds 1\nok\nok\nok\nok\nok\nstable 2\nq init -1\ncalls 0\nok\n\
+                 stable 3\nq invalid\ncalls 1\nbuilds 1\nok\nstable 4\nq change invalid 2\ncalls 0\n",
+        )],
+        outside: USUAL,
+        status: 0,
+    },
+    Row {
+        name: "the same, seven bytes a read",
+        script: &[Lines::Once(
+            "var x int 1\nvar h node int &x\nlet b bind v = x in neg(v)\nobserve o b\nstabilize\ngrab r b\nset h &r\n\
+                 let j join(h)\nobserve q j\nwatch q\nstabilize\nset x 2\nstabilize\nset h &x\nstabilize\n",
+            "ok\nok\nok\nok\nstable 1\ncalls 1\nbuilds 1\nok\nok\nok\nok\nok\nstable 2\nq init -1\ncalls 0\nok\n\
+                 stable 3\nq invalid\ncalls 1\nbuilds 1\nok\nstable 4\nq change invalid 2\ncalls 0\n",
+        )],
+        outside: SEVEN_BYTES,
+        status: 0,
+    },
+    Row {
+        name: "a sum that is told once, though it is asked for again",
+        script: &[Lines::Once(
+            "var x int 5\nlet e fold add from 0 [x]\nobserve o e\nwatch o\nstabilize\nset x 6\nset x 5\nstabilize\n\
+                 watch p\n",
+            "ok\nok\nok\nok\nstable 1\no init 5\ncalls 1\nok\nok\nstable 2\ncalls 0\nrefused 11\n",
+        )],
+        outside: USUAL,
+        status: 1,
+    },
+    Row {
+        name: "an observer that is watched late, and one that has its name again",
+        script: &[Lines::Once(
+            "var t text \"a\"\nvar h node text &t\nobserve z h\nobserve a t\nstabilize\nwatch a\nset t \"b\"\nwatch z\n\
+                 stabilize\nunobserve z\nset t \"c\"\nstabilize\nobserve z t\nset t \"d\"\nstabilize\nwatch z\nstabilize\n",
+            "ok\nok\nok\nok\nstable 1\ncalls 0\nok\nok\nok\nstable 2\nz init &t\na init \"b\"\ncalls 0\nok\nok\n\
+                 stable 3\na change \"b\" \"c\"\ncalls 0\nok\nok\nstable 4\na change \"c\" \"d\"\ncalls 0\nok\n\
+                 stable 5\nz init \"d\"\ncalls 0\n",
         )],
         outside: USUAL,
         status: 0,

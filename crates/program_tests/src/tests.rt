@@ -1,7 +1,8 @@
 //! Whether the rows are answered as they say.
 
 use crate::driver::is_answered;
-use crate::rows::{BINDS, CHOICES, CLOCK, LANGUAGE, LIMITS, Row, STREAMS, SUMS};
+use crate::generated::{GENERATED, is_summed_up};
+use crate::rows::{BINDS, CHOICES, CLOCK, LANGUAGE, LIMITS, Row, STREAMS, SUMS, WATCHES};
 use std::alloc::Global;
 use std::test::Fail;
 
@@ -54,6 +55,21 @@ fn clock_is_answered(rt: HostRuntime) -> Result<(), Fail> {
 }
 
 #[test]
+fn watches_are_answered(rt: HostRuntime) -> Result<(), Fail> {
+    are_answered(rt.alloc(), WATCHES)
+}
+
+#[test]
 fn streams_are_answered(rt: HostRuntime) -> Result<(), Fail> {
     are_answered(rt.alloc(), STREAMS)
+}
+
+#[test]
+fn generated_scripts_are_summed_up(rt: HostRuntime) -> Result<(), Fail> {
+    for row in GENERATED {
+        if !is_summed_up(rt.alloc(), row) {
+            return Err(Fail::new(row.name));
+        }
+    }
+    Ok(())
 }

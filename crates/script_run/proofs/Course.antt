@@ -37,7 +37,7 @@ or_true false = refl
 
 -- ---- one turn more
 
-Chain-more : (F : Meanings) (m end : Moment) (turns : List Turn) (t : Turn) → Chain F m turns end → t.before ≡ end → IsTurn F t → Chain F m (turns ++ t ∷ []) t.after
+pub Chain-more : (F : Meanings) (m end : Moment) (turns : List Turn) (t : Turn) → Chain F m turns end → t.before ≡ end → IsTurn F t → Chain F m (turns ++ t ∷ []) t.after
 Chain-more F m end [] t h from it = (from ∙ sym h, it, refl)
 Chain-more F m end (u ∷ turns) t h from it = (h.0, h.1, Chain-more F u.after end turns t h.2 from it)
 
@@ -47,11 +47,11 @@ turns_of-more counted c = map-append (λ (u : Counted). u.turn) counted (c ∷ [
 all_told-more : (behind : Behind) (counted : List Counted) (c : Counted) → all_told behind (counted ++ c ∷ []) ≡ all_told behind counted ++ told_of behind c
 all_told-more behind counted c = flat_map-append (told_of behind) counted (c ∷ []) ∙ ap (λ l. all_told behind counted ++ l) (append-nil (told_of behind c))
 
-any_refused-more : (turns : List Turn) (t : Turn) → any_refused (turns ++ t ∷ []) ≡ (any_refused turns || is_refused t)
+pub any_refused-more : (turns : List Turn) (t : Turn) → any_refused (turns ++ t ∷ []) ≡ (any_refused turns || is_refused t)
 any_refused-more turns t = list_any-append is_refused turns (t ∷ []) ∙ ap (λ b. any_refused turns || b) (or_false (is_refused t))
 
 -- what was said tells whether there is a refusal
-refusal-said : (F : Meanings) (t : Turn) (how : Did) → IsTurn F t → Says how t.replies → list_any is_refusal t.replies ≡ is_refusal_said how
+pub refusal-said : (F : Meanings) (t : Turn) (how : Did) → IsTurn F t → Says how t.replies → list_any is_refusal t.replies ≡ is_refusal_said how
 refusal-said F t did.Blank is h = ap (list_any is_refusal) h
 refusal-said F t did.Accepted is h = turn_is_alike F t h.0 h.1 is h.2 h.3
 refusal-said F t (did.Refused n) is h = ap (list_any is_refusal) h.1

@@ -1,5 +1,6 @@
 mod Counting
 mod Course
+mod Generated
 mod Steps
 mod Sums
 pub mod Turns

@@ -6,4 +6,5 @@ pub mod Progress
 pub mod Running
 pub mod Saying
 pub mod Steps
+pub mod Summing
 pub mod Telling

@@ -10,6 +10,7 @@ mod laws;
 mod plain;
 mod report;
 mod running;
+mod summing;
 
 pub use asked::top;
 pub use counted::CountedLibrary;
@@ -18,3 +19,4 @@ pub use driving::drive;
 pub use laws::{counts_add_up, counts_are_within_work, plain_writes_transcripts};
 pub use plain::Plain;
 pub use report::Report;
+pub use summing::generate;

@@ -13,7 +13,7 @@ use session::{Did, Session};
 use std::alloc::{AllocError, Global};
 
 /// Whether a line was refused.
-fn is_refused(did: Did) -> bool
+pub fn is_refused(did: Did) -> bool
     ensures { result ≡ is_refusal_said did }
 {
     match did {
