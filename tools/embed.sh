@@ -1,7 +1,7 @@
 #!/bin/sh
-# Builds the clients of embed/ whose compilers are there and runs them: their price screens and every example must print the
-# transcript that the program prints, calls at their edges must answer what incr.h says, and where one allocation after another
-# fails nothing that was printed may be lost. It tells what it skips. The last line is `N passed, M failed`, and the status is 1
+# Builds the clients of embed/ whose compilers are there and runs them: their price screens must show what changed, and every example
+# must print the transcript that the program prints, calls at their edges must answer what incr.h says, and where one allocation after
+# another fails nothing that was printed, and no notice, may be lost. It tells what it skips. The last line is `N passed, M failed`, and the status is 1
 # where one failed.
 cd "$(dirname "$0")/.." || exit 1
 room=$(mktemp -d) || exit 1
@@ -34,7 +34,7 @@ makes() {
 # screens WORD..: a client, on no script and on each example.
 screens() {
     timeout 20 "$@" >"$room/written" 2>&1
-    judge "$*" $? "$room/written" examples/screen.out
+    judge "$*" $? "$room/written" embed/screen.out
     for script in examples/*.incr; do
         timeout 20 "$@" "$script" >"$room/written" 2>&1
         judge "$* $script" $? "$room/written" "${script%.incr}.out"
@@ -49,13 +49,15 @@ edges() {
     judge "$*" $status
 }
 
-# faults WORD..: a client that prints what a script printed in many runs, in each of which other allocations failed.
+# faults WANTED WORD..: a client that prints what a script printed in many runs, in each of which other allocations failed.
 faults() {
+    wanted=$1
+    shift
     timeout 60 "$@" embed/faults.incr >"$room/written" 2>"$room/log"
     status=$?
     [ $status -eq 0 ] || tail -n 5 "$room/log"
     judge "$* embed/faults.incr" $status
-    awk -f embed/allowed.awk embed/faults.out "$room/written" >"$room/log" 2>&1
+    awk -f embed/allowed.awk "$wanted" "$room/written" >"$room/log" 2>&1
     status=$?
     [ $status -eq 0 ] || cat "$room/log"
     judge "what $* lost" $status
@@ -109,16 +111,19 @@ if [ $status -eq 0 ] && makes out/libincr.a; then
         if makes c; then
             screens embed/out/screen_c
             edges embed/out/edges
-            faults embed/out/faults_c
+            faults embed/faults.out embed/out/faults_c
         fi
         if [ -z "$python" ]; then
             echo "embed: skipped: Python: there is no python3"
         elif makes python; then
             screens "$python" embed/python/screen.py
             edges "$python" embed/python/edges.py
-            for way in give line run; do
-                faults env INCR_LIBRARY=embed/out/failing "$python" embed/python/faults.py "$way"
+            for way in give line; do
+                faults embed/faults.out env INCR_LIBRARY=embed/out/failing "$python" embed/python/faults.py "$way"
             done
+            # (a run of many lines is over before a notice is read)
+            grep -v '^told ' embed/faults.out >"$room/printed"
+            faults "$room/printed" env INCR_LIBRARY=embed/out/failing "$python" embed/python/faults.py run
         fi
     fi
     if [ -z "$cxx" ]; then
@@ -127,14 +132,14 @@ if [ $status -eq 0 ] && makes out/libincr.a; then
         screens embed/out/screen_cpp
         edges embed/out/screen_cpp threads
         if [ -n "$cc" ] && makes out/faults_cpp; then
-            faults embed/out/faults_cpp
+            faults embed/faults.out embed/out/faults_cpp
         fi
     fi
     if [ -z "$rustc" ] || [ -z "$cc" ]; then
         echo "embed: skipped: Rust: there is no rustc, or no C compiler that links for it"
     elif makes rust; then
         screens embed/out/screen_rs
-        faults embed/out/faults_rs
+        faults embed/faults.out embed/out/faults_rs
     fi
 fi
 

@@ -2,7 +2,7 @@
 # Builds crates/incr_c/out/libincr_c.a over the libraries that the gate proved in this checkout.
 #
 # `rt lib` would prove every crate below once more, since it takes no library that the gate built. So .ci/run calls this right behind
-# the gate, where no library was there before it: each that is there now is the gate's. The eight calls are proved again, as for any
+# the gate, where no library was there before it: each that is there now is the gate's. The ten calls are proved again, as for any
 # archive. Where this doesn't work tools/embed.sh builds the archive by `rt lib`.
 cd "$(dirname "$0")/../crates/incr_c" || exit 1
 kit=$(dirname "$(rt doc)")

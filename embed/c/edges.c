@@ -25,6 +25,71 @@ static int32_t line(incr_slot *slot, const char *text) {
     return incr_line(slot, (const uint8_t *)text, strlen(text), out, sizeof out, &count);
 }
 
+static void tells(const char *what, incr_slot *slot, size_t notice, int32_t kind, const char *name, const char *before, const char *now) {
+    char wanted[sizeof out];
+    incr_told told;
+    is(what, incr_notice(slot, notice, out, sizeof out, &told), kind);
+    is(what, told.name == strlen(name) && told.before == strlen(before) && told.now == strlen(now), 1);
+    count = (size_t)snprintf(wanted, sizeof wanted, "%s%s%s", name, before, now);
+    prints(what, wanted);
+}
+
+/* What stabilizes told of watched observers. */
+static void notices(void) {
+    incr_slot slot = INCR_EMPTY;
+    incr_told told = {7, 7, 7, 7};
+    is("a notice without a session", incr_notice(&slot, 0, out, sizeof out, &told), INCR_NO_SESSION);
+    is("tells nothing", told.round == 0 && told.name == 0 && told.before == 0 && told.now == 0, 1);
+    incr_open(&slot);
+    is("a notice before the first stabilize", incr_notice(&slot, 0, out, sizeof out, &told), INCR_NO_NOTICE);
+    is("which is none", (long long)told.round, 0);
+    const char *const lines[] = {"var x int 3", "let y add(x, 4)", "observe o y", "observe p x", "watch p", "watch o", "stabilize"};
+    for (size_t i = 0; i < sizeof lines / sizeof *lines; i++) is(lines[i], line(&slot, lines[i]), INCR_ACCEPTED);
+    prints("and its lines", "stable 1\no init 7\np init 3\n");
+    tells("a first notice", &slot, 0, INCR_INIT, "o", "", "7");
+    tells("another one", &slot, 1, INCR_INIT, "p", "", "3");
+    is("no third one", incr_notice(&slot, 2, out, sizeof out, &told), INCR_NO_NOTICE);
+    is("none far beyond", incr_notice(&slot, SIZE_MAX, out, sizeof out, &told), INCR_NO_NOTICE);
+    is("the stabilize's number", (long long)told.round, 1);
+
+    memset(out, 7, sizeof out);
+    is("too little room", incr_notice(&slot, 1, out, 1, &told), INCR_INIT);
+    is("tells how much there is", told.name == 1 && told.before == 0 && told.now == 1, 1);
+    is("and copies nothing", out[0], 7);
+    is("no room at all", incr_notice(&slot, 1, 0, 0, &told), INCR_INIT);
+    is("room for it alone", incr_notice(&slot, 1, out, 2, &told), INCR_INIT);
+    is("takes it", memcmp(out, "p3", 2) == 0 && out[2] == 7, 1);
+
+    line(&slot, "set x -5");
+    tells("what was told stays", &slot, 0, INCR_INIT, "o", "", "7");
+    line(&slot, "stabilize");
+    tells("a change", &slot, 0, INCR_CHANGE, "o", "7", "-1");
+    tells("another change", &slot, 1, INCR_CHANGE, "p", "3", "-5");
+    line(&slot, "unobserve o");
+    tells("of one that ended", &slot, 0, INCR_CHANGE, "", "7", "-1");
+    line(&slot, "stabilize");
+    is("nothing new", incr_notice(&slot, 0, out, sizeof out, &told), INCR_NO_NOTICE);
+    is("of a later stabilize", (long long)told.round, 3);
+
+    /* a reference to what dies */
+    const char *const more[] = {"var h node int &x", "let b bind v = x in neg(v)", "observe q b", "stabilize", "grab r b", "set h &r", "let j join(h)",
+                                "observe j j", "observe h h", "watch j", "watch h", "stabilize"};
+    for (size_t i = 0; i < sizeof more / sizeof *more; i++) is(more[i], line(&slot, more[i]), INCR_ACCEPTED);
+    tells("a value", &slot, 0, INCR_INIT, "j", "", "5");
+    tells("a reference", &slot, 1, INCR_INIT, "h", "", "&r");
+    line(&slot, "set x 2");
+    line(&slot, "stabilize");
+    tells("a change", &slot, 0, INCR_CHANGE, "p", "-5", "2");
+    tells("what turned to invalid", &slot, 1, INCR_INVALID, "j", "", "invalid");
+    line(&slot, "set h &x");
+    line(&slot, "stabilize");
+    tells("what was invalid", &slot, 0, INCR_CHANGE, "j", "invalid", "2");
+    tells("another reference", &slot, 1, INCR_CHANGE, "h", "&r", "&x");
+
+    is("a close", incr_close(&slot), INCR_DONE);
+    is("a notice behind it", incr_notice(&slot, 0, out, sizeof out, &told), INCR_NO_SESSION);
+}
+
 int main(void) {
     incr_slot slot = INCR_EMPTY, slots[3] = {INCR_EMPTY, INCR_EMPTY, INCR_EMPTY};
     is("a slot is 16 bytes", sizeof slot, 16);
@@ -111,10 +176,22 @@ int main(void) {
     is("has nothing", (long long)count, 0);
     is("a rest by number", incr_rest_at(slots, 3, 2, out, sizeof out, &count), INCR_DONE);
     is("a rest beyond", incr_rest_at(slots, 3, 4, out, sizeof out, &count), INCR_NO_SLOT);
+    incr_told told = {7, 7, 7, 7};
+    line(&slots[2], "observe o x");
+    line(&slots[2], "watch o");
+    line(&slots[2], "stabilize");
+    is("a notice by number", incr_notice_at(slots, 3, 2, 0, out, sizeof out, &told), INCR_INIT);
+    is("is that one's", told.round == 1 && told.name == 1 && told.now == 1 && memcmp(out, "o3", 2) == 0, 1);
+    is("no further one", incr_notice_at(slots, 3, 2, 1, out, sizeof out, &told), INCR_NO_NOTICE);
+    is("a notice at another one", incr_notice_at(slots, 3, 0, 0, out, sizeof out, &told), INCR_NO_SESSION);
+    told = (incr_told){7, 7, 7, 7};
+    is("a notice beyond", incr_notice_at(slots, 3, 3, 0, out, sizeof out, &told), INCR_NO_SLOT);
+    is("tells nothing", told.round == 0 && told.name == 0 && told.before == 0 && told.now == 0, 1);
     is("a close beyond", incr_close_at(slots, 3, 3), INCR_NO_SLOT);
     is("a close by number", incr_close_at(slots, 3, 2), INCR_DONE);
     is("a second one", incr_close_at(slots, 3, 2), INCR_NO_SESSION);
 
+    notices();
     printf("%d passed, %d failed\n", passed, failed);
     return failed != 0;
 }

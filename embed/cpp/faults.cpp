@@ -16,8 +16,8 @@ void *operator new(size_t size) {
 void operator delete(void *block) noexcept { std::free(block); }
 void operator delete(void *block, size_t) noexcept { std::free(block); }
 
-// What the call gives, which is made again where it found no memory.
-template <class Call> static auto persistently(Call call) {
+// What the call gives, which is made again where it found no memory, once what is to come between was done.
+template <class Call, class Between> static auto persistently(Call call, Between between) {
     for (;;) {
         failing_watch(1);
         try {
@@ -26,20 +26,34 @@ template <class Call> static auto persistently(Call call) {
             return given;
         } catch (const std::bad_alloc &) {
             failing_watch(0);
+            between();
         }
     }
 }
 
+static void do_nothing() {}
+
+// Prints what the last stabilize told, if that is a later one than before.
+static void print_notices(incr::session &session, uint64_t &round) {
+    if (session.round() == round) return;
+    round = session.round();
+    for (const auto &[kind, name, before, now] : persistently([&] { return session.notices(); }, do_nothing))
+        std::cout << "told " << static_cast<int>(kind) << ' ' << name << ',' << before << ',' << now << '\n';
+}
+
 static void run(const std::string &script) {
     std::optional<incr::session> session;
-    persistently([&] { return session.emplace(), 0; });
+    uint64_t round = 0;
+    persistently([&] { return session.emplace(), 0; }, do_nothing);
     for (size_t at = 0, end; (end = script.find('\n', at)) != std::string::npos; at = end + 1) {
         const std::string_view text = std::string_view(script).substr(at, end - at);
-        std::cout << persistently([&] { return session->line(text); }).printed;
+        const auto print = [&] { print_notices(*session, round); };
+        std::cout << persistently([&] { return session->line(text); }, print).printed;
+        print();
     }
     // (a session that is moved takes along what waits)
     incr::session moved = std::move(*session);
-    std::cout << persistently([&] { return moved.rest(); }) << "--\n";
+    std::cout << persistently([&] { return moved.rest(); }, do_nothing) << "--\n";
 }
 
 int main(int argc, char **argv) {

@@ -7,6 +7,7 @@
 #include <string>
 #include <string_view>
 #include <utility>
+#include <vector>
 
 namespace incr {
 
@@ -17,6 +18,15 @@ struct answer {
     std::string printed;
     size_t waiting;
     bool refused() const { return how >= INCR_REFUSED; }
+};
+
+// What a notice tells of an observer: what it shows at first, another value, or that what it shows turned to invalid.
+enum class kind : int32_t { init = INCR_INIT, change = INCR_CHANGE, invalid = INCR_INVALID };
+
+// A notice: the observer's name, none where it ended since; what was told of it before, which only a change has; and what it shows now.
+struct notice {
+    incr::kind kind;
+    std::string name, before, now;
 };
 
 // The session was closed or moved away, or takes no more lines.
@@ -62,6 +72,29 @@ public:
         return hand_out();
     }
 
+    // What the last accepted stabilize told, in the order in which observers were made. It can be read until the next one, also where that
+    // one threw std::bad_alloc, and so can this: it changes nothing.
+    std::vector<notice> notices() {
+        std::vector<notice> all;
+        std::string room(least_room, '\0');
+        for (;;) {
+            incr_told told;
+            const int32_t what = read_notice(all.size(), room, told);
+            if (what == INCR_NO_NOTICE) return all;
+            if (what == INCR_NO_MEMORY) throw std::bad_alloc();
+            if (what < 0) throw ended("there is no session");
+            all.push_back(notice{kind(what), room.substr(0, told.name), room.substr(told.name, told.before),
+                                 room.substr(told.name + told.before, told.now)});
+        }
+    }
+
+    // How many stabilizes were accepted: the number of the one whose notices can be read.
+    uint64_t round() {
+        incr_told told;
+        if (incr_notice(&slot_, SIZE_MAX, nullptr, 0, &told) == INCR_NO_SESSION) throw ended("there is no session");
+        return told.round;
+    }
+
     // Ends the session, with what waits, and says whether there was one.
     bool close() {
         held_.clear();
@@ -88,6 +121,16 @@ private:
         }
         incr_rest(&slot_, room(before), count, &count);
         return 0;
+    }
+
+    // Reads a notice into the room, which grows for it.
+    int32_t read_notice(size_t number, std::string &room, incr_told &told) {
+        const auto read = [&] { return incr_notice(&slot_, number, reinterpret_cast<uint8_t *>(room.data()), room.size(), &told); };
+        const int32_t what = read();
+        const size_t length = told.name + told.before + told.now;
+        if (length <= room.size()) return what;
+        room.resize(length);
+        return read();
     }
 
     std::string hand_out() { return std::exchange(held_, std::string()); }

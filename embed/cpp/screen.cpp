@@ -13,18 +13,30 @@ static const char *const DECLARATIONS[] = {
     "let acme_spread add(acme_ask, neg(acme_bid))", "let bolt_spread add(bolt_ask, neg(bolt_bid))",
     "let acme pick(lt(acme_spread, widest), acme_ask, 0)", "let bolt pick(lt(bolt_spread, widest), bolt_ask, 0)",
     "let best pick(lt(acme, bolt), bolt, acme)",
-    "observe acme acme", "observe bolt bolt", "observe best best", "stabilize", "show acme", "show bolt", "show best",
+    "observe acme acme", "observe bolt bolt", "observe best best", "watch acme", "watch bolt", "watch best",
 };
 static const std::pair<const char *, int> TICKS[] = {
     {"acme_bid", 101}, {"acme_ask", 107}, {"bolt_ask", 99}, {"bolt_bid", 97}, {"widest", 7}, {"bolt_ask", 120},
     {"acme_ask", 103}, {"acme_ask", 103}, {"cash_ask", 50},
 };
 
+// Brings the screen up to date: prints only what changed.
+static void refresh(incr::session &session) {
+    session.line("stabilize");
+    for (const auto &[kind, name, before, now] : session.notices()) {
+        std::cout << name << ": ";
+        if (kind == incr::kind::change) std::cout << before << " -> ";
+        std::cout << now << '\n';
+    }
+}
+
 static void show_prices(incr::session &session) {
-    for (const char *text : DECLARATIONS) std::cout << session.line(text).printed;
+    for (const char *text : DECLARATIONS) session.line(text);
+    refresh(session);
     for (const auto &[name, price] : TICKS) {
-        std::cout << session.line("set " + std::string(name) + " " + std::to_string(price)).printed;
-        for (const char *text : {"stabilize", "show acme", "show bolt", "show best"}) std::cout << session.line(text).printed;
+        const incr::answer answer = session.line("set " + std::string(name) + " " + std::to_string(price));
+        if (answer.refused()) std::cout << name << " is no price: " << answer.how - INCR_REFUSED << '\n';
+        refresh(session);
     }
 }
 

@@ -46,10 +46,18 @@ with incr.Session() as session:
     is_so("an empty script has none", session.run(b"") == b"" and session.run(b"\n") == b"")
     is_so("each line was counted that was taken", session.lines == 15)
     is_so("nothing waits", session.rest() == b"")
+    is_so("nothing is told", session.notices() == [] and session.round == 1)
+    session.run(b"watch t\nwatch o\nstabilize\n")
+    notices = session.notices()
+    is_so("the first notices", [(n.kind, n.name, n.before) for n in notices] == [(incr.Kind.INIT, "o", ""), (incr.Kind.INIT, "t", "")])
+    is_so("have what is shown, past the first room", [n.now for n in notices] == ["7", '"%s"' % text])
+    is_so("and stay", session.line("set x 5") == "ok" and session.notices() == notices and session.round == 2)
+    session.run(b"stabilize\nunobserve o\n")
+    is_so("a change, of an observer that ended", session.notices() == [(incr.Kind.CHANGE, "", "7", "9")] and session.round == 3)
     caught = []
 
     def elsewhere():
-        for call in (lambda: session.line("show o"), session.close):
+        for call in (lambda: session.line("show o"), session.notices, lambda: session.round, session.close):
             try:
                 call()
             except incr.WrongThread:
@@ -58,13 +66,15 @@ with incr.Session() as session:
     thread = threading.Thread(target=elsewhere)
     thread.start()
     thread.join()
-    is_so("another thread is refused", caught == [True, True])
+    is_so("another thread is refused", caught == [True] * 4)
     try:
         session.line("set z 1")
     except incr.Refused as refused:
         is_so("a refusal has its number and its line", (refused.number, refused.printed) == (4, "refused 4"))
 is_so("the end of a `with` closes", session.closed)
 raises("a closed session", incr.Closed, lambda: session.line("show o"))
+raises("the notices of a closed session", incr.Closed, session.notices)
+raises("the count of a closed session", incr.Closed, lambda: session.round)
 session.close()
 is_so("a second close does nothing", session.closed)
 sessions = [incr.Session() for _ in range(100)]

@@ -89,9 +89,20 @@ def run(session, lines, watch):
     return watch(session.run, b"".join(line + b"\n" for line in lines[session.lines:]))
 
 
+def heard(session, round, watch):
+    """What the last stabilize told, if that is a later one than that of this number."""
+    while session.round > round:
+        try:
+            notices = watch(session.notices)
+        except WANTS:
+            continue
+        return b"".join(b"told %d %s,%s,%s\n" % (kind, name.encode(), before.encode(), now.encode()) for kind, name, before, now in notices)
+    return b""
+
+
 def transcript(way, lines, watch):
-    """What a session hands out for the lines, each given again that wasn't taken."""
-    told, session = b"", None
+    """What a session hands out for the lines, each given again that wasn't taken, and but in a `run` what each stabilize told."""
+    told, session, round = b"", None, 0
     while session is None:
         try:
             session = watch(incr.Session)
@@ -105,6 +116,9 @@ def transcript(way, lines, watch):
             except WANTS:
                 if session.lines > taken and watch is not by_library:
                     told += session.last + session.rest()
+            if way is not run:
+                told += heard(session, round, watch)
+                round = session.round
         return told + session.rest() + b"--\n"
 
 
@@ -124,7 +138,8 @@ def main(way, name):
             first += 1
     incr.ctypes = ctypes
     if interpreter:
-        for number in range(2 if way is run else len(lines) + 1):
+        calls = 2 if way is run else len(lines) + 1 + lines.count(b"stabilize")
+        for number in range(calls):
             for allocation in range(MOST_ALLOCATIONS * (len(lines) if way is run and number else 1)):
                 out.write(transcript(way, lines, ByPython(number, allocation)))
 

@@ -6,19 +6,37 @@
         session.line("observe o y")
         session.line("stabilize")
         print(session.line("show o"))               # o = 7
+        session.line("watch o")
+        session.line("stabilize")
+        print(session.notices())                    # [Notice(kind=<Kind.INIT: 1>, name='o', before='', now='7')]
 
 Nothing that was printed is lost for want of memory: it waits in the session, and the next answer, or `rest`, hands it out.
 
 The shared library is libincr.so in the folder that INCR_LIBRARY names, beside this file, or in ../out.
 """
 
+import collections
 import ctypes
+import enum
 import os
 import pathlib
 import threading
 
 NO_SESSION, NO_MEMORY, TOO_MANY, IS_OPEN = -1, -2, -3, -5
 BLANK, ACCEPTED, REFUSED = 0, 1, 100
+NO_NOTICE = 0
+NO_NUMBER = ctypes.c_size_t(-1).value
+
+
+class Kind(enum.IntEnum):
+    """What a notice tells of an observer: what it shows at first, another value, or that what it shows turned to invalid."""
+
+    INIT, CHANGE, INVALID = 1, 2, 3
+
+
+# A notice: its kind, the observer's name, which is empty where the observer ended since, what was told of it before, which only a change has, and
+# what it shows now, both as `show` prints them.
+Notice = collections.namedtuple("Notice", "kind name before now")
 
 
 class IncrError(Exception):
@@ -59,6 +77,10 @@ class _Slot(ctypes.Structure):
     _fields_ = [("live", ctypes.c_uint64), ("at", ctypes.c_void_p)]
 
 
+class _Told(ctypes.Structure):
+    _fields_ = [("round", ctypes.c_uint64), ("name", ctypes.c_size_t), ("before", ctypes.c_size_t), ("now", ctypes.c_size_t)]
+
+
 def _library():
     here = pathlib.Path(__file__).resolve().parent
     named = os.environ.get("INCR_LIBRARY")
@@ -73,8 +95,9 @@ def _library():
     library.incr_open.argtypes = [slot]
     library.incr_line.argtypes = [slot, ctypes.c_char_p, size, ctypes.c_char_p, size, count]
     library.incr_rest.argtypes = [slot, ctypes.c_char_p, size, count]
+    library.incr_notice.argtypes = [slot, size, ctypes.c_char_p, size, ctypes.POINTER(_Told)]
     library.incr_close.argtypes = [slot]
-    for call in (library.incr_open, library.incr_line, library.incr_rest, library.incr_close):
+    for call in (library.incr_open, library.incr_line, library.incr_rest, library.incr_notice, library.incr_close):
         call.restype = ctypes.c_int32
     return library
 
@@ -137,6 +160,38 @@ class Session:
         """The bytes that wait: what was printed and not handed out, where memory was wanting or a line of `run` raised."""
         self._check()
         return self._hand_out()
+
+    def notices(self):
+        """What the last accepted stabilize told: a `Notice` of each observer of which it told something, in the order in which these were made.
+
+        The notices can be read until the next accepted stabilize, also where that one raised NoMemory. Reading changes nothing.
+        """
+        self._check()
+        told, room, notices = _Told(), ctypes.create_string_buffer(256), []
+        while True:
+            what = _LIBRARY.incr_notice(self._at, len(notices), room, len(room), ctypes.byref(told))
+            length = told.name + told.before + told.now
+            if length > len(room):
+                room = ctypes.create_string_buffer(length)
+            elif what == NO_NOTICE:
+                return notices
+            elif what == NO_MEMORY:
+                raise NoMemory("no memory for a notice")
+            elif what == NO_SESSION:
+                raise Closed("the session was closed")
+            else:
+                text = ctypes.string_at(room, length).decode("ascii")
+                name, before = told.name, told.name + told.before
+                notices.append(Notice(Kind(what), text[:name], text[name:before], text[before:]))
+
+    @property
+    def round(self):
+        """How many stabilizes were accepted: the number of the one whose notices can be read."""
+        self._check()
+        told = _Told()
+        if _LIBRARY.incr_notice(self._at, NO_NUMBER, None, 0, ctypes.byref(told)) == NO_SESSION:
+            raise Closed("the session was closed")
+        return told.round
 
     def close(self):
         """Ends the session, and lets go of what waits. A second close does nothing."""

@@ -1,4 +1,4 @@
-"""A price screen, as c/screen.c is. With the name of a script it runs that one instead. What it prints is the transcript."""
+"""A price screen, as c/screen.c is. With the name of a script it runs that one instead, and prints the transcript."""
 
 import sys
 
@@ -19,27 +19,31 @@ let best pick(lt(acme, bolt), bolt, acme)
 observe acme acme
 observe bolt bolt
 observe best best
-stabilize
-show acme
-show bolt
-show best
+watch acme
+watch bolt
+watch best
 """
 TICKS = (("acme_bid", 101), ("acme_ask", 107), ("bolt_ask", 99), ("bolt_bid", 97), ("widest", 7), ("bolt_ask", 120),
          ("acme_ask", 103), ("acme_ask", 103), ("cash_ask", 50))
 
 
+def refresh(session):
+    """Brings the screen up to date: prints only what changed."""
+    session.line("stabilize")
+    for kind, name, before, now in session.notices():
+        print("%s: %s" % (name, "%s -> %s" % (before, now) if kind is incr.Kind.CHANGE else now))
+
+
 def show_prices(session):
     for line in DECLARATIONS.splitlines():
-        told = session.line(line)
-        if told:
-            print(told)
+        session.line(line)
+    refresh(session)
     for name, price in TICKS:
         try:
-            print(session.line("set %s %d" % (name, price)))
+            session.line("set %s %d" % (name, price))
         except incr.Refused as refused:
-            print(refused.printed)
-        for line in ("stabilize", "show acme", "show bolt", "show best"):
-            print(session.line(line))
+            print("%s is no price: %d" % (name, refused.number))
+        refresh(session)
 
 
 def main():

@@ -25,6 +25,25 @@ fn watched<T>(call: impl FnOnce() -> T) -> T {
     given
 }
 
+/// Prints what the last stabilize told, if that is a later one than before.
+fn print_notices(session: &mut Session, round: &mut u64, out: &mut impl Write) -> Result<(), Box<dyn Error>> {
+    if session.round() == *round {
+        return Ok(());
+    }
+    *round = session.round();
+    let notices = loop {
+        match watched(|| session.notices()) {
+            Ok(notices) => break notices,
+            Err(Fault::NoMemory) => {}
+            Err(fault) => return Err(fault.into()),
+        }
+    };
+    for notice in notices {
+        writeln!(out, "told {} {},{},{}", notice.kind as u8 + 1, notice.name, notice.before, notice.now)?;
+    }
+    Ok(())
+}
+
 fn run(script: &str, out: &mut impl Write) -> Result<(), Box<dyn Error>> {
     let mut session = loop {
         match watched(Session::open) {
@@ -33,12 +52,20 @@ fn run(script: &str, out: &mut impl Write) -> Result<(), Box<dyn Error>> {
             Err(fault) => return Err(fault.into()),
         }
     };
+    let mut round = 0;
     for line in script.lines() {
         loop {
-            match watched(|| session.line(line.as_bytes())) {
-                Ok((_, printed)) => break out.write_all(printed)?,
-                Err(Fault::NoMemory) => {}
+            let was_taken = match watched(|| session.line(line.as_bytes())) {
+                Ok((_, printed)) => {
+                    out.write_all(printed)?;
+                    true
+                }
+                Err(Fault::NoMemory) => false,
                 Err(fault) => return Err(fault.into()),
+            };
+            print_notices(&mut session, &mut round, out)?;
+            if was_taken {
+                break;
             }
         }
     }

@@ -14,10 +14,21 @@ struct Slot {
     at: *mut c_void,
 }
 
+/// What is told of a notice beside its bytes.
+#[repr(C)]
+#[derive(Default)]
+struct Told {
+    round: u64,
+    name: usize,
+    before: usize,
+    now: usize,
+}
+
 unsafe extern "C" {
     fn incr_open(slot: *mut Slot) -> i32;
     fn incr_line(slot: *mut Slot, text: *const u8, length: usize, out: *mut u8, room: usize, count: *mut usize) -> i32;
     fn incr_rest(slot: *mut Slot, out: *mut u8, room: usize, count: *mut usize) -> i32;
+    fn incr_notice(slot: *mut Slot, notice: usize, out: *mut u8, room: usize, told: *mut Told) -> i32;
     fn incr_close(slot: *mut Slot) -> i32;
 }
 
@@ -29,6 +40,29 @@ pub enum Took {
     Accepted,
     /// It was refused with this number.
     Refused(u8),
+}
+
+/// What a notice tells of an observer.
+#[derive(Clone, Copy, Debug, PartialEq, Eq)]
+pub enum Kind {
+    /// What it shows, for the first time since it is watched.
+    Init,
+    /// Another value.
+    Change,
+    /// That what it shows turned to invalid.
+    Invalid,
+}
+
+/// A notice of the last accepted stabilize. Values are as `show` prints them.
+#[derive(Clone, Debug, PartialEq, Eq)]
+pub struct Notice {
+    pub kind: Kind,
+    /// The observer's name; empty where it ended since.
+    pub name: String,
+    /// What was told of it before, which only a change has.
+    pub before: String,
+    /// What it shows now.
+    pub now: String,
 }
 
 /// Why there is no session, or a line was not taken.
@@ -107,6 +141,52 @@ impl Session {
         Ok(self.hand_out())
     }
 
+    /// What the last accepted stabilize told, in the order in which observers were made. It can be read until the next one, also where
+    /// that one answered `NoMemory`, and so can this: it changes nothing.
+    pub fn notices(&mut self) -> Result<Vec<Notice>, Fault> {
+        let mut all = Vec::new();
+        let mut room = Vec::new();
+        while let Some(notice) = self.notice(all.len(), &mut room)? {
+            all.try_reserve(1).map_err(|_| Fault::NoMemory)?;
+            all.push(notice);
+        }
+        Ok(all)
+    }
+
+    /// How many stabilizes were accepted: the number of the one whose notices can be read.
+    pub fn round(&mut self) -> u64 {
+        self.read_notice(usize::MAX, &mut []).1.round
+    }
+
+    /// The notice with this number, which is read into the room.
+    fn notice(&mut self, number: usize, room: &mut Vec<u8>) -> Result<Option<Notice>, Fault> {
+        let (mut what, mut told) = self.read_notice(number, room);
+        let length = told.name + told.before + told.now;
+        if length > room.len() {
+            room.try_reserve(length - room.len()).map_err(|_| Fault::NoMemory)?;
+            room.resize(length, 0);
+            (what, told) = self.read_notice(number, room);
+        }
+        let kind = match what {
+            0 => return Ok(None),
+            1 => Kind::Init,
+            2 => Kind::Change,
+            3 => Kind::Invalid,
+            _ => return Err(Fault::NoMemory),
+        };
+        let (name, values) = room.split_at(told.name);
+        let (before, values) = values.split_at(told.before);
+        Ok(Some(Notice { kind, name: text_of(name)?, before: text_of(before)?, now: text_of(&values[..told.now])? }))
+    }
+
+    /// Reads the notice with this number where there is room for it: what the library answers, and what it tells beside.
+    fn read_notice(&mut self, number: usize, room: &mut [u8]) -> (i32, Told) {
+        let mut told = Told::default();
+        // SAFETY: as in `line`.
+        let what = unsafe { incr_notice(&mut self.slot, number, room.as_mut_ptr(), room.len(), &mut told) };
+        (what, told)
+    }
+
     /// Holds `count` more bytes: they stand in the room already where what was given of it is enough for them, and are fetched else.
     fn hold(&mut self, given: usize, count: usize) {
         self.waiting = 0;
@@ -128,6 +208,14 @@ impl Session {
         let length = std::mem::take(&mut self.held);
         &self.room[..length]
     }
+}
+
+/// A printed part of a notice, which is ASCII, as a string of its own.
+fn text_of(part: &[u8]) -> Result<String, Fault> {
+    let mut text = String::new();
+    text.try_reserve(part.len()).map_err(|_| Fault::NoMemory)?;
+    text.extend(part.iter().map(|byte| char::from(*byte)));
+    Ok(text)
 }
 
 impl Drop for Session {

@@ -1,12 +1,12 @@
-//! A price screen, as c/screen.c is. With the name of a script it runs that one instead. What it prints is the transcript.
+//! A price screen, as c/screen.c is. With the name of a script it runs that one instead, and prints the transcript.
 
 mod incr;
 
-use incr::{Session, Took};
+use incr::{Kind, Session, Took};
 use std::error::Error;
 use std::io::{BufWriter, Write, stdout};
 
-const DECLARATIONS: [&str; 18] = [
+const DECLARATIONS: [&str; 17] = [
     "# A price screen: a price is shown where its spread is narrow, and the best of them beside it.",
     "var acme_bid int 100",
     "var acme_ask int 104",
@@ -21,10 +21,9 @@ const DECLARATIONS: [&str; 18] = [
     "observe acme acme",
     "observe bolt bolt",
     "observe best best",
-    "stabilize",
-    "show acme",
-    "show bolt",
-    "show best",
+    "watch acme",
+    "watch bolt",
+    "watch best",
 ];
 const TICKS: [(&str, i64); 9] = [
     ("acme_bid", 101),
@@ -37,7 +36,18 @@ const TICKS: [(&str, i64); 9] = [
     ("acme_ask", 103),
     ("cash_ask", 50),
 ];
-const AFTER_A_TICK: [&str; 4] = ["stabilize", "show acme", "show bolt", "show best"];
+
+/// Brings the screen up to date: prints only what changed.
+fn refresh(session: &mut Session, out: &mut impl Write) -> Result<(), Box<dyn Error>> {
+    session.line(b"stabilize")?;
+    for notice in session.notices()? {
+        match notice.kind {
+            Kind::Change => writeln!(out, "{}: {} -> {}", notice.name, notice.before, notice.now)?,
+            Kind::Init | Kind::Invalid => writeln!(out, "{}: {}", notice.name, notice.now)?,
+        }
+    }
+    Ok(())
+}
 
 fn main() -> Result<(), Box<dyn Error>> {
     let mut out = BufWriter::new(stdout().lock());
@@ -54,17 +64,15 @@ fn main() -> Result<(), Box<dyn Error>> {
         return Ok(out.flush()?);
     }
     for line in DECLARATIONS {
-        let (took, printed) = session.line(line.as_bytes())?;
+        let (took, _) = session.line(line.as_bytes())?;
         assert_eq!(took == Took::Blank, line.starts_with('#'));
-        out.write_all(printed)?;
     }
+    refresh(&mut session, &mut out)?;
     for (name, price) in TICKS {
-        out.write_all(session.line(format!("set {name} {price}").as_bytes())?.1)?;
-        for line in AFTER_A_TICK {
-            out.write_all(session.line(line.as_bytes())?.1)?;
+        if let (Took::Refused(number), _) = session.line(format!("set {name} {price}").as_bytes())? {
+            writeln!(out, "{name} is no price: {number}")?;
         }
+        refresh(&mut session, &mut out)?;
     }
-    // (what waited for want of memory)
-    out.write_all(session.rest()?)?;
     Ok(out.flush()?)
 }
