@@ -18,6 +18,7 @@ from pathlib import Path
 
 REPOSITORY = Path(__file__).resolve().parent.parent
 PATIENCE = 20                # seconds for an answer
+BEHIND_ALL = 1000            # a stage behind each one that the model has
 LONGEST_LINE = 4096          # bytes, without the newline
 CHAINS = (120, 128, 129, 129, 130, 130, 130, 131, 135)      # points, each read by the next; 130 are too many
 EDGES = (-(2**63), 2**63 - 1)
@@ -48,6 +49,7 @@ FOLDS = {name: (gives, takes[1]) for name, (gives, takes) in FUNCTIONS.items() i
 BASES = (INT, BOOL, TEXT)
 REFERENCES = {base: b"node " + base for base in BASES}
 TYPES = (*BASES, *REFERENCES.values())
+NOTICE = re.compile(rb"[A-Za-z_][A-Za-z0-9_]* (init |change |invalid\n)")      # behind the line of a stabilize
 LEVELS = ((b"neg(", b")"), (b"add(1, ", b")"), (b"add(", b", d0)"), (b"pick(true, ", b", 2)"), (b"clamp(-9, ", b", 9)"),
           (b"rem(", b", 5)"), (b"sum9(1, 2, 3, 4, ", b", 6, 7, 8, d0)"), (b"fold sub from 1 [2, ", b", d0]"), (b"fold max from -9 [", b"]"),
           (b"if true then ", b" else d0"), (b"if lt(d0, d0) then 4 else ", b""), (b"if at 0 then ", b" else d0"),
@@ -247,9 +249,9 @@ class Generator:
         return b"observe " + name + b" " + node
 
     def words(self):
-        """The words and signs of a line of one of the ten forms."""
-        forms = ("var", "set", "let", "grab", "observe", "unobserve", "stabilize", "show", "advance")
-        form = self.chance.choices(forms, (3, 4, 5, 1, 3, 1, 4, 5, 3))[0]
+        """The words and signs of a line of one of the eleven forms."""
+        forms = ("var", "set", "let", "grab", "observe", "unobserve", "watch", "stabilize", "show", "advance")
+        form = self.chance.choices(forms, (3, 4, 5, 1, 3, 1, 3, 4, 5, 3))[0]
         if form == "var":
             ty, name = self.chance.choice(TYPES), self.new_name(self.nodes)
             self.nodes.setdefault(name, (ty, True))
@@ -280,6 +282,8 @@ class Generator:
             self.observers = [other for other in self.observers if other != name]
             self.ended.append(name)
             return [b"unobserve", name]
+        if form == "watch":
+            return [b"watch", self.name(self.observers if self.chance.random() < 0.95 else self.ended)]
         if form == "advance":
             return self.move()
         if form == "stabilize":
@@ -361,18 +365,22 @@ def long_texts(chance):
 
 
 def unprofiled(profile):
-    """The lines of a profile but for those of counts, and the calls of each stabilize."""
-    lines, calls, before = [], [], b""
+    """The lines of a profile but for those of counts, and the calls of each stabilize. They stand behind its notices."""
+    lines, calls, due, counted = [], [], False, False
     for line in profile.splitlines(keepends=True):
         told = re.fullmatch(rb"calls ([0-9]+)\n", line)
         built = re.fullmatch(rb"builds [1-9][0-9]*\n", line)
-        if re.fullmatch(rb"stable [0-9]+\n", before) and not told:
-            raise Disagreement("no calls are told after a stabilize: %r" % profile)
-        if told and re.fullmatch(rb"stable [0-9]+\n", before):
+        if due and told:
             calls.append(int(told[1]))
-        elif not (built and before.startswith(b"calls ")):
+            due, counted = False, True
+            continue
+        if due and not NOTICE.match(line):
+            raise Disagreement("no calls are told after a stabilize: %r" % profile)
+        if not (built and counted):
             lines.append(line)
-        before = line
+        due, counted = due or bool(re.fullmatch(rb"stable [0-9]+\n", line)), False
+    if due:
+        raise Disagreement("no calls are told after the last stabilize: %r" % profile)
     return b"".join(lines), calls
 
 
@@ -408,6 +416,14 @@ def run_by_pieces(program, pieces, printed):
     return run.returncode, transcript
 
 
+def put_off(grammar, stages):
+    """Has the model refuse the forms of these stages with 1, as it refuses those of a stage behind its own."""
+    for forms in (grammar._COMMANDS, grammar._FORMS):
+        for word, (stage, read) in forms.items():
+            if stage in stages:
+                forms[word] = (BEHIND_ALL, read)
+
+
 def compare(programs, judge, chance, script, through):
     """Runs the script in each way, and raises a `Disagreement` where the model does not allow what comes."""
     program, profile = programs
@@ -433,7 +449,9 @@ def main():
     parser.add_argument("--program", default=REPOSITORY / "crates/incr/out/incr", help="default: incr of this repository")
     parser.add_argument("--profile", default=REPOSITORY / "crates/incr_profile/out/incr_profile",
                         help="default: incr_profile of this repository; an empty word for none")
-    parser.add_argument("--through", type=int, default=6, help="the model's stage of the language (default 6)")
+    parser.add_argument("--through", type=int, default=8, help="the model's stage of the language (default 8)")
+    parser.add_argument("--later", type=int, nargs="*", default=[7], help="stages among these whose forms are yet to come, and are "
+                        "refused with 1 (default 7)")
     parser.add_argument("--written", type=int, help="the stage that the model's own scripts are written for (default: that of --through): "
                         "lines of forms that come behind --through are to be refused with 1")
     parser.add_argument("--chain", type=int, help="how many points each chain has (default: 120 to 135, of which 129 may be needed)")
@@ -442,7 +460,8 @@ def main():
     parser.add_argument("--count", type=int, default=600, help="how many scripts (default 600)")
     options = parser.parse_args()
     sys.path.insert(0, str(options.model))
-    from incr_oracle import fuzz, judge
+    from incr_oracle import fuzz, grammar, judge
+    put_off(grammar, options.later)
     chains = (options.chain,) if options.chain else CHAINS
     failed = 0
     for number in range(options.first, options.first + options.count):

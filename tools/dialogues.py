@@ -7,7 +7,7 @@ dialogues.py --cases NEW [FILE..]      writes them to a new folder, for `rt try 
 
 A dialogue begins with `== NAME`, and below stands what it shows. The script's lines have `> ` before them, and below each stands its
 answer; lines in a row have the same answer each, which stands below the last of them. `(nothing)` is an empty answer. Behind `stable N`
-stand `calls N` and, where something was built, `builds N`: incr_profile writes these lines too, incr doesn't. In a line
+and its notices stand `calls N` and, where something was built, `builds N`: incr_profile writes these lines too, incr doesn't. In a line
 
     {TEXT*N}                 is N times the text
     {0d}                     is the byte of these two digits
@@ -32,12 +32,15 @@ import tempfile
 import threading
 from pathlib import Path
 
+from compare import put_off
+
 REPOSITORY = Path(__file__).resolve().parent.parent
 PROGRAMS = ("incr", "incr_profile")
 PATIENCE = 20       # seconds for an answer
 SHORT = 400         # the most bytes of a script that is also read byte by byte
 SHOWN = 20          # the most lines of a difference that are printed
-THROUGH = 6         # the reference model's stage of the language
+THROUGH = 8         # the reference model's stage of the language
+LATER = (7,)        # stages among these whose forms are yet to come
 COUNTS = re.compile(rb"(calls|builds) (\d+)")
 REFUSED = re.compile(rb"refused \d")
 TIMES = re.compile(r"\{([^{}]*)\*(\d+)\}")
@@ -211,11 +214,12 @@ def run_all(dialogues):
 def judge_all(dialogues, model):
     """Has the reference model judge the dialogues. Returns how many it allows, and how many it doesn't."""
     sys.path.insert(0, model)
-    from incr_oracle import judge   # pylint: disable=import-outside-toplevel,import-error
+    from incr_oracle import grammar, judge   # pylint: disable=import-outside-toplevel,import-error
+    put_off(grammar, LATER)
     passed, failed = 0, 0
     for dialogue in dialogues:
         ran = [answer for _, answer in dialogue.turns if answer and re.match(rb"stable \d|refused 2[01] ", answer[0])]
-        calls = [int(answer[1][len("calls "):]) if len(answer) > 1 else None for answer in ran]
+        calls = [next((int(line[len("calls "):]) for line in answer if re.fullmatch(rb"calls \d+", line)), None) for answer in ran]
         verdict = judge.judge(b"".join(dialogue.lines()), b"".join(dialogue.answers("incr")), THROUGH, calls, walks=True)
         passed, failed = passed + verdict.ok, failed + (not verdict.ok)
         if not verdict.ok:

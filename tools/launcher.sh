@@ -106,6 +106,11 @@ proves() {
     check "incr prove: status $ended: $(tail -n 1 "$room/said")" [ "$ended/$(tail -n 1 "$room/said" | grep -c "$words")/$(cat "$room/written")$(ls "$TMPDIR")" = "$wanted/1/" ]
 }
 
+# What the launcher takes is told, and nothing is run.
+"$top/incr" help </dev/null >"$room/written" 2>&1
+check 'help tells of the words' grep -q '^./incr gen STEPS SEED' "$room/written"
+check 'help takes twenty lines' [ "$(wc -l <"$room/written")" -le 20 ]
+
 # Nothing is built.
 echo 'run=ended status=1 runners=1 proved=no' >"$STAND/try"
 launches 1 'a line' 'not proved' run

@@ -77,6 +77,16 @@ measures() {
     judge "incr_bench $*" $? "$status" "$room/written" "$wanted"
 }
 
+# generates WANTED STEPS SEED: a generated script, in ten seconds of a processor and 64 megabytes. Nothing is read: the source is a folder.
+generates() {
+    wanted=$1
+    shift
+    (ulimit -t 10 && ulimit -v 65536 && exec timeout 60 crates/incr/out/incr gen "$@") </ >"$room/written" 2>/dev/null
+    status=$?
+    echo "$wanted" >"$room/wanted"
+    judge "incr gen $*" "$status" 0 "$room/written" "$room/wanted"
+}
+
 # status_of WRITTEN: 1 where a line was refused, else 0.
 status_of() {
     if grep -q '^refused [0-9]' "$1"; then echo 1; else echo 0; fi
@@ -147,12 +157,25 @@ for program in incr incr_profile; do
     done
 done
 
+generates 'lines 23 bytes 90 sum 6758 refused 0' 1 0
+generates 'lines 28 bytes 129 sum 9710 refused 0' 3 1
+generates 'lines 28 bytes 129 sum 9710 refused 0' -- +03 1
+generates 'lines 51075 bytes 484812 sum 34388893 refused 0' 20000 7
+generates 'lines 51075 bytes 484812 sum 34388893 refused 0' 20000 7
+for words in 'gen' 'gen 3' 'gen 3 1 1' 'gen 20001 1' 'gen 3 2147483648' 'gen 3 -1' 'gen 3 x' 'gen --help' 'run x' 'help' '--version'; do
+    runs incr 2 "$room/incr.usage" / $words
+done
+fills incr / gen 3 1
+
 python3 tools/deep_lines.py >"$room/written" || { cat "$room/written"; false; }
 judge "incr run: the deepest lines under 256 KB of stack" $? 0
 
 if [ -x crates/incr_bench/out/incr_bench ]; then
-    echo 'usage: incr_bench chain|fan|tree|fold|cut|never|idle|flip|flipx|aside|switch|bind|nested|boxed|ticks SIZE ROUNDS' >"$room/bench.usage"
+    echo 'usage: incr_bench chain|fan|tree|fold|cut|never|idle|flip|flipx|aside|switch|bind|nested|boxed|ticks|watched|turns|told|shown|ended SIZE ROUNDS' >"$room/bench.usage"
     measures 0 crates/incr_bench/stdout nested 9 100
+    printf 'calls 0\nnotices 15\nlast 4\n' >"$room/told.out"
+    measures 0 "$room/told.out" told 5 3
+    measures 1 "$room/nothing" ended 3 4
     measures 2 "$room/bench.usage" boxed 220
     measures 2 "$room/bench.usage" chain 129 1
     timeout 10 crates/incr_bench/out/incr_bench chain 3 1 >/dev/full 2>/dev/null

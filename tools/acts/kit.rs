@@ -98,6 +98,9 @@ macro_rules! said {
     ($($part:tt)*) => { $crate::Said::new(format!($($part)*)) };
 }
 
+/// What has digits.
+pub use std::fmt::Display as Integer;
+
 /// A number in digits.
 #[derive(Default)]
 pub struct Buffer(String);

@@ -1,6 +1,6 @@
 //! Which commands are accepted: the refusals in their one order, the types, and what an accepted command does.
 
-use crate::state::{Body, Declared, Kind, Observer, Place, State};
+use crate::state::{Body, Declared, Kind, Observer, Place, State, Watch};
 use crate::syntax::{Command, Formula, Literal, Time};
 use crate::values::{BOOL, INT, Outcome, TEXT, Type, Value, function};
 use std::collections::BTreeSet;
@@ -51,7 +51,7 @@ fn check(state: &State, command: &Command) -> Result<(), u8> {
     let mut read = Vec::new();
     names_read(command, &mut read);
     refuse_if(read.iter().any(|name| state.find(name).is_none()), 4)?;
-    if let Command::Unobserve(observer) | Command::Show(observer) = command {
+    if let Command::Unobserve(observer) | Command::Watch(observer) | Command::Show(observer) = command {
         refuse_if(state.observer(observer).is_none(), 11)?;
     }
     if let Command::Let(_, formula) = command {
@@ -87,8 +87,12 @@ fn names_read<'a>(command: &'a Command, read: &mut Vec<&'a str>) {
         }
         Command::Let(_, formula) => free_names(formula, &mut Vec::new(), read),
         Command::Grab(_, name) | Command::Observe(_, name) => read.push(name),
-        Command::Unobserve(_) | Command::Show(_) | Command::Advance(_) | Command::AdvanceTo(_) | Command::Stabilize => {
-        }
+        Command::Unobserve(_)
+        | Command::Watch(_)
+        | Command::Show(_)
+        | Command::Advance(_)
+        | Command::AdvanceTo(_)
+        | Command::Stabilize => {}
     }
 }
 
@@ -136,11 +140,19 @@ fn carry_out(mut state: State, command: &Command) -> Vec<Answer> {
         Command::Grab(name, bind) => return grab(state, name, bind),
         Command::Observe(observer, name) => {
             let target = state.target(found(&state, name));
-            state.observers.push(Observer { name: observer.clone(), target, shown: None });
+            state.observers.push(Observer { name: observer.clone(), target, shown: None, watch: Watch::Off });
             None
         }
         Command::Unobserve(observer) => {
             state.observers.retain(|other| other.name != *observer);
+            None
+        }
+        Command::Watch(observer) => {
+            let observer = state.observer(observer).expect("it is in use");
+            let watch = &mut state.observers[observer].watch;
+            if *watch == Watch::Off {
+                *watch = Watch::Fresh;
+            }
             None
         }
         Command::Show(observer) => return vec![show(state, observer)],
@@ -162,8 +174,7 @@ fn show(state: State, observer: &str) -> Answer {
     let mut printed = format!("{} = ", observer.name).into_bytes();
     match &observer.shown {
         None => return refused(13, state),
-        Some(Outcome::Invalid) => printed.extend_from_slice(b"invalid"),
-        Some(Outcome::Value(value)) => state.print(value, &mut printed),
+        Some(outcome) => state.print_outcome(outcome, &mut printed),
     }
     printed.push(b'\n');
     Answer { printed, state }

@@ -18,9 +18,11 @@ pub enum Count {
     Readings,
     Moves,
     Turned,
+    Watches,
+    Notices,
 }
 
-const COUNTED: [&str; 14] = [
+const COUNTED: [&str; 16] = [
     "sessions",
     "lines answered as they may be",
     "stabilizes accepted",
@@ -35,6 +37,8 @@ const COUNTED: [&str; 14] = [
     "lines behind which more than one reading stood",
     "moves of the clock",
     "needed places that the clock turned since the stabilize before",
+    "watches",
+    "notices",
 ];
 
 #[derive(Default)]

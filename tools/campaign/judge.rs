@@ -6,7 +6,7 @@
 use crate::commands::{Answer, answers};
 use crate::counts::{Count, Counts};
 use crate::evaluation::{Environments, Item, Items, NOWHERE, View};
-use crate::state::{Body, State};
+use crate::state::{Body, Observer, State, Watch};
 use crate::syntax::{Command, parse};
 use crate::values::Outcome;
 use std::cell::RefCell;
@@ -134,6 +134,11 @@ impl Judge {
         counts.count(Count::Readings, u64::from(self.readings.len() > 1));
         match parsed {
             _ if refused_with(given).is_some() => {}
+            Ok(Some(Command::Watch(_))) => counts.count(Count::Watches, 1),
+            Ok(Some(Command::Stabilize)) => {
+                let notices = given.iter().filter(|byte| **byte == b'\n').count() - 1;
+                counts.count(Count::Notices, notices as u64);
+            }
             Ok(Some(Command::Show(_))) if given.ends_with(b"= invalid\n") => counts.count(Count::Invalid, 1),
             Ok(Some(Command::Show(_))) => counts.count(Count::Values, 1),
             Ok(Some(Command::Grab(..))) => counts.count(Count::Grabs, 1),
@@ -187,7 +192,7 @@ impl Reading {
             state.broken = Some(number);
             return Some(vec![Reading { before: self.before.clone(), state, outlook: None }]);
         }
-        if outlook.blocked || given != format!("stable {}\n", self.state.stabilizes + 1).as_bytes() {
+        if outlook.blocked || given != outlook.accepted(&self.state) {
             return None;
         }
         let states = outlook.settled(&self.state);
@@ -199,7 +204,7 @@ impl Reading {
         let outlook = self.outlook();
         let mut found = Vec::new();
         if !outlook.blocked {
-            found.push(format!("stable {}", self.state.stabilizes + 1));
+            found.push(String::from_utf8_lossy(&outlook.accepted(&self.state)).trim_end().to_owned());
         }
         let name = |position: &usize| self.state.declared[*position].name.as_str();
         for &circle in &outlook.circles {
@@ -356,7 +361,41 @@ fn is_circle(state: &State, names: &[usize]) -> bool {
         && names.windows(2).all(|pair| view.names_read(pair[0]).contains(&pair[1]))
 }
 
+/// Appends what is told of an observer that shows this from now on.
+fn tell(state: &State, observer: &Observer, now: &Outcome, out: &mut Vec<u8>) {
+    let told = match &observer.watch {
+        Watch::Told(last) if last != now => Some(last),
+        Watch::Off | Watch::Told(_) => return,
+        Watch::Fresh => None,
+    };
+    out.extend_from_slice(observer.name.as_bytes());
+    match (told, now) {
+        (None, _) => {
+            out.extend_from_slice(b" init ");
+            state.print_outcome(now, out);
+        }
+        (Some(_), Outcome::Invalid) => out.extend_from_slice(b" invalid"),
+        (Some(last), Outcome::Value(_)) => {
+            out.extend_from_slice(b" change ");
+            state.print_outcome(last, out);
+            out.push(b' ');
+            state.print_outcome(now, out);
+        }
+    }
+    out.push(b'\n');
+}
+
 impl Outlook {
+    /// What is printed where the stabilize is accepted: its line, and what is told of watched observers, in the order in
+    /// which these were made.
+    fn accepted(&self, state: &State) -> Vec<u8> {
+        let mut printed = format!("stable {}\n", state.stabilizes + 1).into_bytes();
+        for (observer, now) in state.observers.iter().zip(&self.shown) {
+            tell(state, observer, now.as_ref().expect("nothing needed is on a circle"), &mut printed);
+        }
+        printed
+    }
+
     /// The states that an accepted stabilize may leave. Whether a bind whose left was met, and isn't needed, was built
     /// is open: where it has a live grab, that lives or dies with it.
     fn settled(&self, state: &State) -> Vec<State> {
@@ -364,6 +403,9 @@ impl Outlook {
         after.stabilizes += 1;
         for (observer, shown) in after.observers.iter_mut().zip(&self.shown) {
             observer.shown = shown.clone();
+            if let (Watch::Fresh | Watch::Told(_), Some(now)) = (&observer.watch, shown) {
+                observer.watch = Watch::Told(now.clone());
+            }
         }
         let mut states = vec![after];
         for (bind, outcome, needed) in &self.lefts {

@@ -132,7 +132,14 @@ fn lines(text: &[u8]) -> impl Iterator<Item = &[u8]> {
     text.split_inclusive(|byte| *byte == b'\n').map(|line| line.strip_suffix(b"\n").unwrap_or(line))
 }
 
-/// Judges a transcript: each line of a script prints one line, or none where it asks for nothing.
+/// Whether a printed line tells of a watched observer. No other answer has one of these words for its second.
+fn is_notice(printed: &[u8]) -> bool {
+    let second = printed.split(|byte| matches!(byte, b' ' | b'\n')).nth(1);
+    matches!(second, Some(b"init" | b"change" | b"invalid"))
+}
+
+/// Judges a transcript: each line of a script prints one line, or none where it asks for nothing; behind that of a stabilize
+/// stand its notices.
 fn judge_files(script: &str, transcript: &str) -> ExitCode {
     let (script, transcript) = match (std::fs::read(script), std::fs::read(transcript)) {
         (Ok(script), Ok(transcript)) => (script, transcript),
@@ -142,10 +149,18 @@ fn judge_files(script: &str, transcript: &str) -> ExitCode {
         }
     };
     let mut judge = Judge::new();
-    let mut answers = transcript.split_inclusive(|byte| *byte == b'\n');
+    let mut answers = transcript.split_inclusive(|byte| *byte == b'\n').peekable();
     for (number, line) in lines(&script).enumerate() {
-        let given = if matches!(syntax::parse(line), Ok(None)) { b"" } else { answers.next().unwrap_or(b"") };
-        if let Err(disagreement) = judge.line(line, given) {
+        let mut given = Vec::new();
+        if !matches!(syntax::parse(line), Ok(None)) {
+            given.extend_from_slice(answers.next().unwrap_or(b""));
+        }
+        if matches!(syntax::parse(line), Ok(Some(syntax::Command::Stabilize))) {
+            while let Some(notice) = answers.next_if(|printed| is_notice(printed)) {
+                given.extend_from_slice(notice);
+            }
+        }
+        if let Err(disagreement) = judge.line(line, &given) {
             println!("line {}: {}\n{disagreement}", number + 1, String::from_utf8_lossy(line));
             return report(&judge.counts, 1);
         }

@@ -84,11 +84,22 @@ impl Kind {
     }
 }
 
+/// Whether an observer is watched, and what was told of it last.
+#[derive(Clone, PartialEq, Eq)]
+pub enum Watch {
+    Off,
+    /// Watched, and nothing was told yet.
+    Fresh,
+    Told(Outcome),
+}
+
+/// The observers in use, in the order in which they were made.
 #[derive(Clone, PartialEq, Eq)]
 pub struct Observer {
     pub name: String,
     pub target: usize,
     pub shown: Option<Outcome>,
+    pub watch: Watch,
 }
 
 /// `Rc` keeps a copy of a state cheap: what stands behind it never changes.
@@ -155,6 +166,13 @@ impl State {
     /// The targets of the observers in use.
     pub fn roots(&self) -> BTreeSet<usize> {
         self.observers.iter().map(|observer| observer.target).collect()
+    }
+
+    pub fn print_outcome(&self, outcome: &Outcome, out: &mut Vec<u8>) {
+        match outcome {
+            Outcome::Invalid => out.extend_from_slice(b"invalid"),
+            Outcome::Value(value) => self.print(value, out),
+        }
     }
 
     pub fn print(&self, value: &Value, out: &mut Vec<u8>) {

@@ -358,6 +358,10 @@ impl Writer {
         if state.observers.is_empty() || (state.observers.len() < 6 && self.chance.percent(15)) {
             self.observe(state);
         }
+        if self.chance.percent(15) {
+            let observer = self.observer(state).unwrap_or("o0".to_owned());
+            self.plan([line(format!("watch {observer}"))]);
+        }
         for _ in 0..*self.chance.pick(&[0, 1, 1, 1, 2, 3]) {
             self.set(state);
         }
@@ -395,6 +399,9 @@ impl Writer {
         self.observers += 1;
         let observer = if self.chance.percent(20) { "o0".to_owned() } else { format!("o{}", self.observers) };
         self.plan([line(format!("observe {observer} {name}"))]);
+        if self.chance.percent(40) {
+            self.plan([line(format!("watch {observer}"))]);
+        }
     }
 
     fn observe(&mut self, state: &State) {
@@ -699,7 +706,7 @@ impl Writer {
         let observer = self.observer(state).unwrap_or("o0".to_owned());
         let new = self.fresh("w");
         let bind = self.bind(state).unwrap_or(name.clone());
-        let text = match self.chance.below(16) {
+        let text = match self.chance.below(17) {
             0 => format!("let {new} add({name}, nothing)"),
             1 => format!("let {new} add({name}, true)"),
             2 => format!("let {name} 1"),
@@ -715,6 +722,7 @@ impl Writer {
             12 => format!("# {}", "x".repeat(4096)),
             13 => "   # a note".to_owned(),
             14 => format!("let {new} freeze {name} when pos"),
+            15 => format!("watch {new}"),
             _ => format!("let {new} bind {name} = {name} in if {name} then 1 else 2"),
         };
         self.plan([line(text)]);
