@@ -1,5 +1,5 @@
 -- What a line, or a part of one, does, from what the calls do that it makes.
-use Rattle.std.proofs.Common.{◌≡◌, ℕ, ◌≤◌, ◌^◌, Bool, List, [], ◌∷◌, ◌++◌, None, Some, Result, Ok, Err, refl, sym, ◌∙◌, ap, subst, append-nil, arith, IsTrue}
+use Rattle.std.proofs.Common.{◌≡◌, ℕ, ◌≤◌, ◌<◌, ◌^◌, Bool, List, [], ◌∷◌, ◌++◌, None, Some, Result, Ok, Err, refl, sym, ◌∙◌, ap, subst, append-nil, arith, IsTrue}
 use Rattle.std.specs.Result.{IfOk, OnErr, OnOk}
 use Rattle.inc_value.specs.declared.function.FnRef.{FnRef}
 use Rattle.script_graph.specs.Kept.{Script}
@@ -15,7 +15,7 @@ use Rattle.script_model.specs.Step as model
 use Rattle.script_model.specs.Step.{Answers, Follows, Moment, Reply, Refused, number_of, printed}
 use Rattle.session.specs.Answered.{Extends, IsAnswered, verdict_on}
 use Rattle.session.specs.Carried.{CarriesOut, IsBeside, Performs, Refuses, EndsStabilize, TakesBytes, Treats}
-use Rattle.session.specs.Replies.{AreNoticeLines, cycle_line, refused_line, stable_line, too_deep_line, name_in}
+use Rattle.session.specs.Replies.{IsAcceptedWritten, cycle_line, refused_line, too_deep_line, name_in}
 use Rattle.session.specs.Taken.{AsksStabilize, KeepsUnlessAccepted, Stops}
 use Rattle.session.specs.declared.answer.Did.{Did}
 use Rattle.session.specs.declared.answer.Did.TheVariants as did
@@ -77,6 +77,7 @@ module _ {L E : Type 0} (meanings : L → Meanings) (known : L → FnRef → Boo
           library = λ other. beside.library;
           builds = λ other. beside.builds;
           kept = kept;
+          tells = λ is more. absurd (omega (arith, accepted, more));
           broken = broken;
           functions = ap meanings beside.library;
         }
@@ -102,6 +103,7 @@ module _ {L E : Type 0} (meanings : L → Meanings) (known : L → FnRef → Boo
           library = λ other. beside.library;
           builds = λ other. beside.builds;
           kept = tt;
+          tells = tt;
           broken = broken;
           functions = ap meanings beside.library;
         }
@@ -158,6 +160,7 @@ module _ {L E : Type 0} (meanings : L → Meanings) (known : L → FnRef → Boo
     library = c.library;
     builds = c.builds;
     kept = tt;
+    tells = tt;
     broken = c.broken;
     functions = c.functions;
   }
@@ -195,6 +198,7 @@ module _ {L E : Type 0} (meanings : L → Meanings) (known : L → FnRef → Boo
     library = λ other. c.library (λ is. other (asks is));
     builds = λ other. c.builds (λ is. other (asks is));
     kept = c.kept;
+    tells = c.tells;
     broken = c.broken;
     functions = c.functions;
   }
@@ -212,6 +216,7 @@ module _ {L E : Type 0} (meanings : L → Meanings) (known : L → FnRef → Boo
     library = λ other. c.library (λ is. other (asks is));
     builds = λ other. c.builds (λ is. other (asks is));
     kept = tt;
+    tells = tt;
     broken = c.broken;
     functions = c.functions;
   }
@@ -232,8 +237,9 @@ module _ {L E : Type 0} (meanings : L → Meanings) (known : L → FnRef → Boo
       → OnErr result ((m : Moment) (line : List ℕ) → Stands (meanings old.library) old.kept m → AsksStabilize line
       → Stops (meanings old.library) m line new.kept (calls old.library) (calls new.library))
       → OnErr result (Extends written appended) → IfOk result (λ h. KeepsUnlessAccepted h old.kept new.kept)
+      → IfOk result (λ h. h ≡ did.Accepted → old.kept.accepted < new.kept.accepted → IsAcceptedWritten new.kept written appended)
       → Performs meanings known calls check.Stabilize old new written appended result
-  carried_stabilize old new written appended how s unbroken (Ok h) answered stopped extended kept =
+  carried_stabilize old new written appended how s unbroken (Ok h) answered stopped extended kept tells =
       let observers = s.observers in
       let given = s.given in
       let bodies = s.bodies in
@@ -251,10 +257,11 @@ module _ {L E : Type 0} (meanings : L → Meanings) (known : L → FnRef → Boo
         library = λ other. absurd (other refl);
         builds = λ other. absurd (other refl);
         kept = kept;
+        tells = tells;
         broken = λ broken. absurd (broken unbroken);
         functions = s.functions;
       }
-  carried_stabilize old new written appended how s unbroken (Err e) answered stopped extended kept =
+  carried_stabilize old new written appended how s unbroken (Err e) answered stopped extended kept tells =
       let observers = s.observers in
       let given = s.given in
       let bodies = s.bodies in
@@ -272,6 +279,7 @@ module _ {L E : Type 0} (meanings : L → Meanings) (known : L → FnRef → Boo
         library = λ other. absurd (other refl);
         builds = λ other. absurd (other refl);
         kept = tt;
+        tells = tt;
         broken = λ broken. absurd (broken unbroken);
         functions = s.functions;
       }
@@ -325,15 +333,14 @@ module _ {L E : Type 0} (meanings : L → Meanings) (known : L → FnRef → Boo
   module _ {E' : Type 0} (old there : Script L) (written appended : List ℕ) (unbroken : old.kept.broken ≡ None) (how : Result Stabilized E')
       (done : EndsStabilize meanings known calls old there how) where
     -- it was accepted, and its line was appended, and those of what it told
-    pub performed_accepted : how ≡ Ok Accepted → ((bytes : List ℕ) × AreNoticeLines there.kept there.kept.graph.notices bytes
-        × (appended ≡ written ++ (stable_line there.kept.accepted ++ bytes)))
+    pub performed_accepted : how ≡ Ok Accepted → IsAcceptedWritten there.kept written appended
         → Performs {E = E} meanings known calls check.Stabilize old there written appended (Ok did.Accepted)
     performed_accepted is print =
         let s = subst (EndsStabilize meanings known calls old there) is done in
         carried_stabilize old there written appended how done unbroken (Ok did.Accepted)
         (λ m st. followed_stabilize (meanings old.library) there.kept m (calls old.library) (calls there.library) (s.accepted refl m st)
         s.one_observer_each written appended print.0 print.1 print.2)
-        tt tt tt
+        tt tt tt (λ is more. print)
 
     -- there was no memory for its lines
     pub performed_unwritten : (e : E) → how ≡ Ok Accepted → Extends written appended
@@ -343,7 +350,7 @@ module _ {L E : Type 0} (meanings : L → Meanings) (known : L → FnRef → Boo
         carried_stabilize old there written appended how done unbroken (Err e) tt
         (λ m line st asks. stops_accepted (meanings old.library) there.kept m (calls old.library) (calls there.library) (s.accepted refl m st) line
         st.keep st.valid asks (st.matches.broken ∙ unbroken))
-        extended tt
+        extended tt tt
 
     -- it was cut short
     pub performed_cut_short : (e : E) (e' : E') → how ≡ Err e' → appended ≡ written
@@ -353,7 +360,7 @@ module _ {L E : Type 0} (meanings : L → Meanings) (known : L → FnRef → Boo
         carried_stabilize old there written appended how done unbroken (Err e) tt
         (λ m line st asks. stops_cut_short (meanings old.library) there.kept m line (calls old.library) (calls there.library) (s.cut_short m st)
         st.keep st.valid asks (st.matches.broken ∙ unbroken))
-        (nothing_more written appended same) tt
+        (nothing_more written appended same) tt tt
 
     -- it was refused for what it met, or there was no memory to say so, and the session is broken for want of it
     refused_so : (number : ℕ) → ((n : ℕ) → n ≡ number → (n ≡ 20 → ⊥) → (n ≡ 21 → ⊥) → ⊥) → (new : Script L) (result : Result Did E)
@@ -370,7 +377,7 @@ module _ {L E : Type 0} (meanings : L → Meanings) (known : L → FnRef → Boo
         subst (λ (x : Script L). Performs {E = E} meanings known calls check.Stabilize old x written appended (Ok h)) (sym same)
         (subst (λ (d : Did). Performs {E = E} meanings known calls check.Stabilize old there written appended (Ok d)) (sym is)
         (carried_stabilize old there written appended how done unbroken (Ok (did.Refused number)) answered tt tt
-        (λ cycle height. absurd (breaks number refl cycle height))))
+        (λ cycle height. absurd (breaks number refl cycle height)) (λ is more. absurd (cc))))
     refused_so number breaks new (Err e) is answered stops extended same broken =
         let observers = done.observers in
         let given = done.given in
@@ -389,6 +396,7 @@ module _ {L E : Type 0} (meanings : L → Meanings) (known : L → FnRef → Boo
           library = λ other. absurd (other refl);
           builds = λ other. absurd (other refl);
           kept = tt;
+          tells = tt;
           broken = λ broken. absurd (broken unbroken);
           functions = done.functions;
         })

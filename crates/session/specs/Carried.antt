@@ -11,6 +11,7 @@ use Rattle.script_model.specs.Grammar as grammar
 use Rattle.script_model.specs.Request.{Asks, IsRequest, Request}
 use Rattle.script_model.specs.Step.{Answers, Follows, Moment, Reply}
 use Rattle.session.specs.Answered.{Extends, IsAnswered, verdict_on}
+use Rattle.session.specs.Replies.{IsAcceptedWritten}
 use Rattle.session.specs.Taken.{AsksStabilize, KeepsUnlessAccepted, Stops}
 use Rattle.session.specs.declared.answer.Did.{Did}
 use Rattle.session.specs.declared.answer.Did.TheVariants as did
@@ -74,6 +75,8 @@ module _ {L E : Type 0} (meanings : L → Meanings) (known : L → FnRef → Boo
     pub builds : (AsksIt → ⊥) → new.builds ≡ old.builds
     -- a line that was refused, or asks for nothing, leaves what is kept
     pub kept : IfOk result (λ how. KeepsUnlessAccepted how old.kept new.kept)
+    -- where a stabilize was accepted its number was appended, and the lines of what it told
+    pub tells : IfOk result (λ how. how ≡ did.Accepted → old.kept.accepted < new.kept.accepted → IsAcceptedWritten new.kept written appended)
     -- a broken session stays as it is
     pub broken : (old.kept.broken ≡ None → ⊥) → new ≡ old
     -- functions mean what they meant

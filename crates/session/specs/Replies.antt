@@ -116,3 +116,7 @@ pub record IsNoticeLine (k : Kept) (notice : Notice) (line : List ℕ) : Type 0 
 -- these bytes are the lines of the notices, in order
 abbrev pub AreNoticeLines : Kept → List Notice → List ℕ → Type 0
 AreNoticeLines k notices bytes = (lines : List (List ℕ)) × AllZip (IsNoticeLine k) notices lines × (bytes ≡ flat_map (λ (line : List ℕ). line) lines)
+
+-- the number of an accepted stabilize was appended, and the lines of what it told
+abbrev pub IsAcceptedWritten : Kept → List ℕ → List ℕ → Type 0
+IsAcceptedWritten k written appended = (bytes : List ℕ) × AreNoticeLines k k.graph.notices bytes × (appended ≡ written ++ (stable_line k.accepted ++ bytes))

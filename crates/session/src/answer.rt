@@ -9,7 +9,7 @@ ghost use Rattle.script_model.specs.Grammar.{IsLine};
 ghost use Rattle.script_model.specs.Here.{is_here};
 ghost use Rattle.session.specs.Answered.{Extends};
 ghost use Rattle.session.specs.Carried.{HasRoom, Performs, Refuses, TakesBytes, Treats};
-ghost use Rattle.session.specs.Replies.{AreNoticeLines, IsNoticeLine, broken_line, cycle_line, refused_line, stable_line, too_deep_line, name_in};
+ghost use Rattle.session.specs.Replies.{AreNoticeLines, IsAcceptedWritten, IsNoticeLine, broken_line, cycle_line, refused_line, too_deep_line, name_in};
 ghost use Rattle.session.specs.declared.answer.Did.TheVariants.{Refused};
 ghost use Rattle.script_graph.specs.Stabilizing.{CyclePasses, IsCycleMet, closed};
 
@@ -374,8 +374,7 @@ fn write_accepted<L: Library>(
     script: &Script<L>,
     out: &mut Vec<u8>,
 ) -> Result<(), AllocError>
-    ensures ok { OnOk result ((bytes : List ℕ) × AreNoticeLines script.now.kept script.now.kept.graph.notices bytes
-        × (out.new.items ≡ out.old.items ++ (stable_line script.now.kept.accepted ++ bytes))) }
+    ensures ok { OnOk result (IsAcceptedWritten script.now.kept out.old.items out.new.items) }
     ensures err { OnErr result (Extends out.old.items out.new.items) }
 {
     match write_stable(alloc, script.accepted(), out) {

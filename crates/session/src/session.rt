@@ -50,9 +50,10 @@ impl<L: Library> Model for Session<L> {
 }
 
 impl<L: Library> Session<L> {
-    ghost use Rattle.session.specs.declared.answer.Did.TheVariants.{Refused};
+    ghost use Rattle.session.specs.declared.answer.Did.TheVariants.{Accepted, Refused};
     ghost use Rattle.script_graph.specs.State.{Stands};
     ghost use Rattle.script_model.specs.Formula.{meanings_of};
+    ghost use Rattle.session.specs.Replies.{IsAcceptedWritten};
     ghost use Rattle.session.specs.Taken.{AsksStabilize, KeepsUnlessAccepted, Takes, Stops};
 
     /// A session before its first line. It owns the library. This takes no memory.
@@ -88,6 +89,10 @@ impl<L: Library> Session<L> {
         ensures builds { (AsksStabilize text.now → ⊥) → self.new.builds ≡ self.old.builds }
         ensures builds_grow { self.old.builds ≤ self.new.builds }
         ensures kept { IfOk result (λ how. KeepsUnlessAccepted how self.old.kept self.new.kept) }
+
+        // Of an accepted stabilize it appends the number, and the lines of what it told, notice by notice.
+        ensures told { IfOk result (λ how. how ≡ Accepted → self.old.kept.accepted < self.new.kept.accepted
+            → IsAcceptedWritten self.new.kept out.old.items out.new.items) }
 
         // A broken session stays as it is, but that the count of lines rises.
         ensures broken { (self.old.kept.broken ≡ None → ⊥)
