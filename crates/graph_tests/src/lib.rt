@@ -18,5 +18,3 @@ mod tables;
 mod tests;
 #[cfg(test)]
 mod timing;
-#[cfg(test)]
-mod watching;
