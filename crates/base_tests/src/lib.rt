@@ -8,6 +8,8 @@ mod arena;
 #[cfg(test)]
 mod builder;
 #[cfg(test)]
+mod expert_lists;
+#[cfg(test)]
 mod links;
 #[cfg(test)]
 mod needed_graph;

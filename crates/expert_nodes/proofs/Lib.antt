@@ -1,0 +1,4 @@
+mod Places
+mod Halves
+mod Indexing
+mod Seeing

@@ -1,0 +1,2 @@
+pub mod Experts
+pub mod Links
