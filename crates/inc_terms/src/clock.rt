@@ -27,7 +27,9 @@ impl Def {
             | Def::Fold(_, _, _)
             | Def::If { .. }
             | Def::Join(_)
-            | Def::Bind { .. } => false,
+            | Def::Bind { .. }
+            | Def::Freeze { .. }
+            | Def::Expert { .. } => false,
         }
     }
 
@@ -52,7 +54,9 @@ impl Def {
             | Def::Fold(_, _, _)
             | Def::If { .. }
             | Def::Join(_)
-            | Def::Bind { .. } => false,
+            | Def::Bind { .. }
+            | Def::Freeze { .. }
+            | Def::Expert { .. } => false,
         }
     }
 
@@ -74,7 +78,9 @@ impl Def {
             | Def::Fold(_, _, _)
             | Def::If { .. }
             | Def::Join(_)
-            | Def::Bind { .. } => None,
+            | Def::Bind { .. }
+            | Def::Freeze { .. }
+            | Def::Expert { .. } => None,
         }
     }
 
@@ -99,7 +105,9 @@ impl Def {
             | Def::Fold(_, _, _)
             | Def::If { .. }
             | Def::Join(_)
-            | Def::Bind { .. } => None,
+            | Def::Bind { .. }
+            | Def::Freeze { .. }
+            | Def::Expert { .. } => None,
         })
     }
 }

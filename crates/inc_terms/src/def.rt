@@ -9,6 +9,7 @@ use inc_value::{FnRef, NodeId, Outcome, Value};
 use smallvec::SmallVec;
 use std::alloc::{AllocError, Global};
 use std::marker::Model;
+use std::slice;
 
 /// A list of nodes. Lists of at most two take no memory of their own.
 pub struct Nodes {
@@ -88,19 +89,31 @@ pub enum Def {
         base: i64,
         span: u64,
     },
+    /// What the node shows, up to the first value on which the predicate is true; that value from then on.
+    Freeze {
+        kid: NodeId,
+        function: FnRef,
+    },
+    /// The function of two values, from the initial one on over the values of the nodes of a list that the caller
+    /// changes. The list is kept elsewhere.
+    Expert {
+        function: FnRef,
+        initial: Value,
+    },
 }
 
 impl Def {
     ghost use Rattle.inc_terms.specs.Code.{def_of};
     ghost use Rattle.inc_terms.specs.Graph.{kids};
 
-    /// The nodes whose values the node's function takes, in order: those of a map
-    /// or a fold.
+    /// The nodes that the definition lists and whose values the node's function takes, in order: those of a map or a
+    /// fold, and a freeze's one. An expert's definition lists none.
     pub fn kids(&self) -> &[NodeId]
         ensures { result.now ≡ kids (def_of self.now) }
     {
         match self {
             Def::Map(_, kids) | Def::Fold(_, _, kids) => kids.as_slice(),
+            Def::Freeze { kid, .. } => slice::from_ref(kid),
             Def::Const(_)
             | Def::Var(_)
             | Def::If { .. }
@@ -109,7 +122,8 @@ impl Def {
             | Def::At(_)
             | Def::Steps(_, _)
             | Def::Now
-            | Def::Every { .. } => &[],
+            | Def::Every { .. }
+            | Def::Expert { .. } => &[],
         }
     }
 
@@ -128,7 +142,9 @@ impl Def {
             | Def::At(_)
             | Def::Steps(_, _)
             | Def::Now
-            | Def::Every { .. } => None,
+            | Def::Every { .. }
+            | Def::Freeze { .. }
+            | Def::Expert { .. } => None,
         }
     }
 

@@ -13,7 +13,7 @@ use Rattle.inc_terms.specs.Rebuild.{Keeping}
 use Rattle.inc_terms.specs.Within.{DefWithin, ValueWithin, Given, Fit}
 use Rattle.inc_terms.proofs.Meanings.{keeping_names}
 use Rattle.node_arena.specs.Arena.{Arena, row_at}
-use Rattle.node_arena.specs.Graph.{Holdings, graph_of, AllCallFit, CallsFit, NamesAreGiven, StillFit}
+use Rattle.node_arena.specs.Graph.{Holdings, HoldsGiven, graph_of, AllCallFit, CallsFit, NamesAreGiven, StillFit}
 use Rattle.node_arena.specs.Meanings.{KeepsKnown, MapsNameNoNode}
 use Rattle.node_arena.specs.Sound.{IsSoundArena}
 use Rattle.node_arena.proofs.Rows.{same_or_not, same_id}
@@ -36,19 +36,19 @@ module _ (P : NodeId → Type 0) (Q : FnKind → FnRef → Type 0) where
   both (graph.Freeze n f) h c = (c.0, h.1)
   both (graph.Expert f v ns) h c = (c.0, h.1, h.2)
 
-pub keeping : (a : Arena) (held : Holdings) → IsSoundArena a → (known : FnRef → Bool) (ids : FnRef → List NodeId) → AllCallFit known ids a
-    → Keeping (Given a.given) (Fit a.given known ids) (graph_of a held)
-keeping a held sound known ids fit = record {
+pub keeping : (a : Arena) (held : Holdings) → IsSoundArena a → HoldsGiven a.given held → (known : FnRef → Bool) (ids : FnRef → List NodeId)
+    → AllCallFit known ids a → Keeping (Given a.given) (Fit a.given known ids) (graph_of a held)
+keeping a held sound holds known ids fit = record {
   live = λ n r is. sound.given n (rw is refl);
   defs = λ n r is. both (Given a.given) (Fit a.given known ids) r.def (sound.names n r is) (fit n r is);
   scope = sound.scopes;
-  frozen = λ n v is. absurd cc;
-  lists = λ n. tt;
+  frozen = holds.frozen;
+  lists = holds.lists;
 }
 
 pub names_are_given : NamesAreGiven
-names_are_given a held known ids sound fit =
-    let keeps = keeping a held sound known ids fit in
+names_are_given a held known ids sound holds fit =
+    let keeps = keeping a held sound holds known ids fit in
     (keeps, keeping_names known ids a.given (graph_of a held) keeps)
 
 -- ---- functions that fit still do

@@ -45,8 +45,8 @@ weighs_one uses (graph.At t) w h = h
 weighs_one uses (graph.Steps v steps) w h = h
 weighs_one uses graph.Now w h = h
 weighs_one uses (graph.Every base span) w h = h
-weighs_one uses (graph.Freeze n f) w h = h
-weighs_one uses (graph.Expert f v ns) w h = h
+weighs_one uses (graph.Freeze n f) w h = absurd h
+weighs_one uses (graph.Expert f v ns) w h = absurd h
 
 abbrev weight_of : Weighed → ℕ
 weight_of x = x.weight
@@ -160,19 +160,3 @@ left_has ids (value.Node n b) t e = record { type = e; reference = inl (refl, re
 left_has ids (value.Int z) t e = record { type = e; reference = tt }
 left_has ids (value.Bool z) t e = record { type = e; reference = tt }
 left_has ids (value.Text z) t e = record { type = e; reference = tt }
-
--- what calls listed functions alone has a weight
-pub weigh_any : (uses : List Use) (def : Def) → CallsListed uses def → (w : ℕ) × Weighs uses def w
-weigh_any uses (graph.Bind l f captures) h = let u = h.0 in (u.listed.most + 1, (u.listed, u.among, u.function, omega arith))
-weigh_any uses (graph.Const v) h = (1, omega arith)
-weigh_any uses (graph.Var v) h = (1, omega arith)
-weigh_any uses (graph.Map f ns) h = (1, omega arith)
-weigh_any uses (graph.Fold f v ns) h = (1, omega arith)
-weigh_any uses (graph.If t a b) h = (1, omega arith)
-weigh_any uses (graph.Join n) h = (1, omega arith)
-weigh_any uses (graph.At t) h = (1, omega arith)
-weigh_any uses (graph.Steps v steps) h = (1, omega arith)
-weigh_any uses graph.Now h = (1, omega arith)
-weigh_any uses (graph.Every base span) h = (1, omega arith)
-weigh_any uses (graph.Freeze n f) h = (1, omega arith)
-weigh_any uses (graph.Expert f v ns) h = (1, omega arith)

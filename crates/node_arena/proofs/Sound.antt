@@ -118,7 +118,13 @@ module _ (a a' : Arena) (fits : (n : NodeId) (t : Ty) → Given a.given n → Fi
   makes_still (graph.Steps v steps) t given h = (has_type_still v t given.0 h.0, steps_still t steps given.1 h.1)
   makes_still graph.Now t given h = h
   makes_still (graph.Every base span) t given h = h
-  makes_still _ t given h = absurd h
+  makes_still (graph.Freeze kid f) t given h = record { kind = h.kind; takes = h.takes; gives = h.gives; child = fits kid t given.1 h.child }
+  makes_still (graph.Expert f v ns) t given h = record {
+    kind = h.kind;
+    takes = fold_takes_still t ns f.sig.takes given.2 h.takes;
+    gives = h.gives;
+    initial = has_type_still v t given.1 h.initial;
+  }
 
 module _ (a a' : Arena) (later : (n : NodeId) → Given a.given n → (row_at a' n ≡ row_at a n) ⊎ (row_at a' n ≡ None)) where
   fits_later : (n : NodeId) (t : Ty) → Given a.given n → Fits a n t → Fits a' n t

@@ -69,9 +69,12 @@ pub record IsListed (uses : List Use) (k : FnKind) (f : FnRef) : Type 0 where
 abbrev pub CallsListed : List Use → Def → Type 0
 CallsListed uses def = DefWithin (λ n. Unit {0}) (IsListed uses) def
 
--- a node may count as so many: as one at least, and a bind as one more than the number beside its function
+-- a node of a scope may count as so many: as one at least, and a bind as one more than the number beside its function; a freeze and an expert stand in
+-- no scope
 abbrev pub Weighs : List Use → Def → ℕ → Type 0
 Weighs uses (graph.Bind l f captures) w = (u : Use) × Among u uses × (u.function ≡ f) × (u.most + 1 ≤ w)
+Weighs uses (graph.Freeze kid f) w = ⊥
+Weighs uses (graph.Expert f v kids) w = ⊥
 Weighs uses def w = 1 ≤ w
 
 -- a node, and what it counts as

@@ -6,5 +6,4 @@ pub mod Meanings
 pub mod RightSide
 pub mod RightSideLaws
 pub mod Sound
-pub mod Today
 pub mod Typing

@@ -13,10 +13,9 @@ use Rattle.inc_value.specs.declared.ty.Ty.TheVariants as ty
 use Rattle.inc_value.specs.declared.value.Value.{Value}
 use Rattle.inc_value.specs.declared.value.Value.TheVariants.{Node}
 use Rattle.inc_terms.specs.Graph as graph
-use Rattle.inc_terms.specs.Graph.{Row, Def, Const, Var, Map, Fold, If, Join, Bind, At, Steps, Now}
+use Rattle.inc_terms.specs.Graph.{Row, Def, Const, Var, Map, Fold, If, Join, Bind, At, Steps, Now, Freeze, Expert}
 use Rattle.inc_terms.specs.Term.{Step}
 use Rattle.node_arena.specs.Arena.{Arena, row_at, live, NamesGiven}
-use Rattle.node_arena.specs.Today.{OtherIsMade}
 
 -- the node is of the type, or dead
 abbrev pub Fits : Arena → NodeId → Ty → Type 0
@@ -77,6 +76,13 @@ pub record BindMakes (a : Arena) (left : NodeId) (f : FnRef) (captures : List No
 abbrev pub StepsMake : Arena → Value → List Step → Ty → Type 0
 StepsMake a v steps t = HasType a v t × Every (λ (s : Step). HasType a s.value t) steps
 
+-- a child of the type, and a function that takes one value of it and gives a truth value
+pub record FreezeMakes (a : Arena) (kid : NodeId) (f : FnRef) (t : Ty) : Type 0 where
+  pub kind : f.id.kind ≡ kind.Map
+  pub takes : f.sig.takes ≡ t ∷ []
+  pub gives : f.sig.gives ≡ ty.Bool
+  pub child : Fits a kid t
+
 -- what the types of live children, of values and of the function make of the definition
 abbrev pub Makes : Arena → Def → Ty → Type 0
 Makes a (Const v) t = HasType a v t
@@ -90,7 +96,8 @@ Makes a (At time) t = t ≡ ty.Bool
 Makes a (Steps v steps) t = StepsMake a v steps t
 Makes a Now t = t ≡ ty.Int
 Makes a (graph.Every base span) t = t ≡ ty.Int
-Makes a def t = OtherIsMade
+Makes a (Freeze kid f) t = FreezeMakes a kid f t
+Makes a (Expert f v kids) t = FoldMakes a f v kids t
 
 -- a node of this definition and type can be added, where there is memory
 pub record IsAddable (a : Arena) (def : Def) (t : Ty) : Type 0 where

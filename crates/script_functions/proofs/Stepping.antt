@@ -20,7 +20,7 @@ use Rattle.node_arena.specs.RightSide.{MayBuild, IsRoot}
 use Rattle.node_arena.specs.Sound.{IsSoundArena}
 use Rattle.node_arena.specs.Typing.{Fits}
 use Rattle.node_arena.proofs.Growing.{grown_none, grown_more, grown_most, given_added, given_still, in_added}
-use Rattle.node_arena.proofs.Growing.{fits_added, value_any, weigh_any}
+use Rattle.node_arena.proofs.Growing.{fits_added, value_any}
 use Rattle.node_arena.proofs.RightSides.{unfolds_grown}
 use Rattle.script_functions.specs.Bodies as spec
 use Rattle.script_functions.specs.Bodies.{all_terms, captured, line_types, side_of, IsWhole, term_at}
@@ -78,14 +78,13 @@ module _ (uses : List Use) (listed : List Listed) (T : parts.Part → Option Ty)
 -- ---- what was made stays
 
 module _ (b b' : Building) (id : NodeId) (def : Def) (t : Ty) (sound : IsSoundArena b.arena) (adds : Adds b b' id def t)
-    (uses : List Use) (calls : CallsListed uses def) (captures : List NodeId) where
+    (uses : List Use) (calls : CallsListed uses def) (w : ℕ) (weighs : Weighs uses def w) (captures : List NodeId) where
   still_reads : (n : NodeId) (term : Term) → Reads b captures n term → Reads b' captures n term
   still_reads n term h =
-      let w = weigh_any uses def calls in
-      let one = grown_more uses b b b' 0 (grown_none uses b) id def t adds calls w.0 w.1 in
+      let one = grown_more uses b b b' 0 (grown_none uses b) id def t adds calls w weighs in
       record {
         given = given_still b b' id def t adds n h.given;
-        unfolds = unfolds_grown uses b b' (0 + w.0) sound one captures n term h.given h.unfolds;
+        unfolds = unfolds_grown uses b b' (0 + w) sound one captures n term h.given h.unfolds;
       }
 
   all_still : (made : List NodeId) (terms : List Term) → AllZip (Reads b captures) made terms
@@ -141,7 +140,7 @@ module _ (body : spec.Body) (start : Building) (left : Value) (captures : List N
       let weighs = line_weighs uses listed T captures made x.line mine in
       let size = line_size x.line in
       let grows = grown_more uses start b b' way.taken way.grows noted.id def x.ty noted.adds calls size weighs in
-      let so_far = made_still b b' noted.id def x.ty sound noted.adds uses calls captures made way.terms way.types
+      let so_far = made_still b b' noted.id def x.ty sound noted.adds uses calls size weighs captures made way.terms way.types
       way.made_so_far in
       let there = line_there T listed x.line x.ty way.typed.0 in
       let reads : Reads b' captures noted.id (line_term listed way.terms x.line) = record {

@@ -9,7 +9,7 @@ ghost use Rattle.inc_terms.specs.Term.{Step as AStep};
 ghost use Rattle.inc_terms.specs.Within.{Given};
 ghost use Rattle.inc_terms.specs.Within.{ValueWithin};
 ghost use Rattle.node_arena.specs.Arena.{NamesGiven};
-ghost use Rattle.node_arena.specs.Typing.{Makes, Fits, BindMakes, BindTakes, FoldMakes, FoldTakes, JoinMakes, HasType, ReferenceFits};
+ghost use Rattle.node_arena.specs.Typing.{Makes, Fits, BindMakes, BindTakes, FoldMakes, FoldTakes, FreezeMakes, JoinMakes, HasType, ReferenceFits};
 
 use super::Arena;
 use inc_terms::{Def, Step};
@@ -62,6 +62,8 @@ pub(super) fn names_given(given: u64, def: &Def) -> bool
         Def::Steps(initial, steps) => value_given(given, initial)
             && steps_given(given, steps.as_slice()),
         Def::At(_) | Def::Now | Def::Every { .. } => true,
+        Def::Freeze { kid, .. } => kid.gen_ < given,
+        Def::Expert { initial, .. } => value_given(given, initial),
     }
 }
 
@@ -176,6 +178,16 @@ fn binds(arena: &Arena, left: NodeId, f: FnRef, captures: &[NodeId], ty: Ty) -> 
         && right_takes(arena, left, captures, f.sig.takes())
 }
 
+/// Whether the function is a predicate on the type, which the node is of; a dead node is of every type.
+fn freezes(arena: &Arena, kid: NodeId, f: FnRef, ty: Ty) -> bool
+    ensures { IsTrue result ↔ FreezeMakes arena.now kid f ty }
+{
+    f.id.kind == FnKind::Map
+        && f.sig.gives() == Ty::Bool
+        && f.sig.takes() == [ty].as_slice()
+        && fits(arena, kid, ty)
+}
+
 /// Whether the definition makes the type.
 pub(super) fn makes(arena: &Arena, def: &Def, ty: Ty) -> bool
     ensures { IsTrue result ↔ Makes arena.now (def_of def.now) ty }
@@ -202,5 +214,7 @@ pub(super) fn makes(arena: &Arena, def: &Def, ty: Ty) -> bool
             has_type(arena, initial, ty) && steps_have_type(arena, steps.as_slice(), ty)
         }
         Def::Now | Def::Every { .. } => ty == Ty::Int,
+        Def::Freeze { kid, function } => freezes(arena, *kid, *function, ty),
+        Def::Expert { function, initial } => folds(arena, *function, initial, &[], ty),
     }
 }
