@@ -1,7 +1,7 @@
 -- What a node gives by what its children show.
 use Rattle.std.proofs.Common.{◌≡◌, ◌⊎◌, inl, inr, ℕ, zero, suc, ◌<◌, ◌+◌, ◌++◌, Bool, true, false, List, [], ◌∷◌, length, take, get_or, Option, None, Some}
 use Rattle.std.proofs.Common.{refl, sym, ap, subst, ◌∙◌, IsSome, arith, append-nil}
-use Rattle.std.specs.Prelude.{is_some, IfSome, IfOk, option_and_then, Result, Ok, Err}
+use Rattle.std.specs.Prelude.{is_some, IfSome, IfNone, IfOk, option_and_then, Result, Ok, Err}
 use Rattle.std.specs.List.{AllZip, cons_option, filter_map}
 use Rattle.std.proofs.lemmas.List.{take_more}
 use Rattle.std.proofs.lemmas.List.Elements.{filter_map-append}
@@ -15,37 +15,40 @@ use Rattle.inc_value.specs.declared.node.Part.TheVariants.{Change, Main}
 use Rattle.inc_value.specs.declared.outcome.Outcome.{Outcome}
 use Rattle.inc_value.specs.declared.outcome.Outcome.TheVariants.{Val, Invalid}
 use Rattle.inc_value.specs.declared.ty.Ty.{Ty}
+use Rattle.inc_value.specs.declared.ty.Ty.TheVariants as ty
 use Rattle.inc_value.specs.declared.value.Value.{Value}
 use Rattle.inc_value.specs.declared.value.Value.TheVariants as value
 use Rattle.inc_terms.specs.declared.def.Def as declared
 use Rattle.inc_terms.specs.declared.def.Def.TheVariants as form
 use Rattle.inc_terms.specs.Code.{def_of}
-use Rattle.inc_terms.specs.Depend.{main, change, subject_of, right_of}
+use Rattle.inc_terms.specs.Depend.{kids_of, main, change, subject_of, right_of, unfrozen}
 use Rattle.inc_terms.specs.Evaluate.{Gathered, Unknown, SomeInvalid, Values, joined, given, with_value}
 use Rattle.inc_terms.specs.Term.{Functions}
-use Rattle.inc_terms.specs.Graph.{Graph, Row, Def, Const, Var, Map, Fold, kids}
+use Rattle.inc_terms.specs.Graph.{Graph, Row, Def, Const, Var, Map, Fold, Freeze, Expert}
 use Rattle.inc_terms.specs.Clock.{clock_value, reads_clock}
-use Rattle.inc_terms.specs.Work.{cost_of}
-use Rattle.inc_terms.specs.Local.{own, see_right}
+use Rattle.inc_terms.specs.Work.{cost_of, predicate_cost, predicate_kids}
+use Rattle.inc_terms.specs.Local.{own, frozen_or_seen, see_right}
+use Rattle.expert_nodes.specs.Experts.{ExpertPlace, is_stale_at, kids_at}
 use Rattle.point_map.specs.Rows.{Rows, at, Holds}
 use Rattle.node_arena.specs.Arena.{Arena, row_at, NamesGiven}
 use Rattle.node_arena.specs.Graph.{Holdings, graph_of, AllCallFit, CallsFit}
 use Rattle.node_arena.specs.Meanings.{HaveMapSigs}
 use Rattle.node_arena.specs.Sound.{IsSoundArena}
-use Rattle.node_arena.specs.Typing.{Fits, Makes, MapMakes, FoldMakes, FoldTakes}
+use Rattle.node_arena.specs.Typing.{Fits, Makes, MapMakes, FoldMakes, FoldTakes, FreezeMakes}
 use Rattle.inc_terms.specs.Work.{taken_by}
 use Rattle.stabilize_round.specs.Calling.{IsAnswer, cost_at, row_cost, or_none}
 use Rattle.stabilize_round.specs.Counts.{RoseBy, RoseAtMost}
+use Rattle.stabilize_round.specs.Freezing.{found, found_in}
 use Rattle.stabilize_round.specs.Moves.{calls_of}
 use Rattle.stabilize_round.specs.State.{Call}
-use Rattle.node_outcomes.specs.Computing.{seen, seen_of, seen_together, value_shown, ShowsValue, IsForcedBy, CallsSeen, Noted, KeepsTypes, IsOfType, LooksAtSeen, has_part}
-use Rattle.node_outcomes.specs.Computing.{ran_then, IsCalled, Calls, IsKnown, AllShow, LastWas, FoldFits, IsSeenDue, NotCalled, ComputesCall, CallComputes, Computes, NotComputed, Ends}
+use Rattle.node_outcomes.specs.Computing.{seen, seen_of, seen_together, value_shown, ShowsValue, CallFits, CallsOn, CallsSeen, IsDueOn, KeepsAnswers, MustCall, Noted, KeepsTypes, IsOfType, LooksAtSeen, has_part}
+use Rattle.node_outcomes.specs.Computing.{ran_then, IsCalled, Calls, IsKnown, AllShow, LastWas, FoldFits, FreezeComputes, IsSeenDue, IsShown, KeepsOn, NotCalled, ReasonIn, ComputesCall, CallComputes, Computes, NotComputed, Ends}
 use Rattle.node_outcomes.specs.Choosing.{built_by, held_in, right_in}
-use Rattle.node_outcomes.specs.Row.{IsRewritten, with_last, value_of, value_in, outcome_in}
+use Rattle.node_outcomes.specs.Row.{IsRewritten, kept_by, kept_in, with_last, value_of, value_in, outcome_in}
 use Rattle.node_outcomes.specs.declared.row.Progress.{Progress}
 use Rattle.node_outcomes.proofs.ByClock.{none_taken_by_clock, own_by_clock, typed_by_clock}
 use Rattle.node_outcomes.proofs.Held.{built_live, right_is}
-use Rattle.node_outcomes.proofs.Reasons.{reason_of, no_reason}
+use Rattle.node_outcomes.proofs.Reasons.{reason_of, reason_with, no_reason}
 use Rattle.node_outcomes.proofs.Pairs.{IsPair, ShowsRight, gives_own_right, right_shows}
 
 some_is : {A : Type 0} (x : Option A) → IsSome x → (a : A) × (x ≡ Some a)
@@ -191,15 +194,7 @@ invalid_gives f Unknown known some = absurd (known refl)
 invalid_gives f SomeInvalid known some = refl
 invalid_gives f (Values vs) known some = absurd (some vs refl)
 
--- the children whose values are taken are those that the definition lists
-relisted : (G : Graph) (n : NodeId) (rows : Rows Progress) (def : Def) (nodes others : List NodeId) (values : List Value)
-    → taken_by G n def ≡ Some nodes → taken_by G n def ≡ Some others
-    → seen_together rows others ≡ Values values → seen_together rows nodes ≡ Values values
-relisted G n rows def nodes others values mine its e =
-    ap (seen_together rows) (same_Some nodes others (sym mine ∙ its)) ∙ e
-
-module _ (F : Functions) (answer : List Value → Value) (t : Ty) (round : ℕ) (old : Noted) (n : NodeId) (def : Def)
-    (nodes : List NodeId) (cost : ℕ) (takes : (G : Graph) → taken_by G n def ≡ Some nodes) (is_answer : (values : List Value) → IsAnswer F def values (answer values))
+module _ (answer : List Value → Value) (t : Ty) (stale : Bool) (round : ℕ) (old : Noted) (n : NodeId) (nodes : List NodeId) (cost : ℕ)
     (there : Holds old.rows (main n)) where
   abbrev kept : Progress
   kept = (some_is (at old.rows (main n)) there).0
@@ -208,13 +203,13 @@ module _ (F : Functions) (answer : List Value → Value) (t : Ty) (round : ℕ) 
   is_kept = (some_is (at old.rows (main n)) there).1
 
   -- a child shows no value
-  invalid_computes : (AllShow old.rows nodes → ⊥) → ComputesCall F answer t round old old n def nodes Invalid cost
+  invalid_computes : (AllShow old.rows nodes → ⊥) → ComputesCall answer t stale round old old n nodes Invalid cost
   invalid_computes some = record {
     kept = kept;
     is_kept = is_kept;
     last = kept.last;
     called = false;
-    calls = λ G. (refl, λ others values its e. absurd (none values (relisted G n old.rows def nodes others values (takes G) its e)));
+    calls = (refl, λ values e. absurd (none values e));
     gives = λ answers known. invalid_gives answer (seen_together old.rows nodes) known none;
     row = unmoved old.rows n kept is_kept;
     ran = refl;
@@ -227,22 +222,13 @@ module _ (F : Functions) (answer : List Value → Value) (t : Ty) (round : ℕ) 
 
   -- the children show what the function was last called on
   last_computes : (call : Call) (v : Value) → LastWas old.rows n call → AllZip (ShowsValue old.rows) nodes call.arguments → v ≡ call.result
-      → (IsForcedBy round old.rows nodes → ⊥) → ComputesCall F answer t round old old n def nodes (Val v) cost
+      → (MustCall stale round old.rows nodes → ⊥) → ComputesCall answer t stale round old old n nodes (Val v) cost
   last_computes call v was shown is free = record {
     kept = kept;
     is_kept = is_kept;
     last = kept.last;
     called = false;
-    calls = λ G. (
-      refl,
-      λ others values its e. (
-        call,
-        is_last,
-        same values (relisted G n old.rows def nodes others values (takes G) its e),
-        no_reason round old.rows n others values call was (same values (relisted G n old.rows def nodes others values (takes G) its e))
-            (λ f. free (subst (IsForcedBy round old.rows) (same_Some others nodes (sym its ∙ takes G)) f)),
-      ),
-    );
+    calls = (refl, λ values e. (call, is_last, same values e, no_reason round old.rows stale n nodes values call was (same values e) free));
     gives = λ answers known. gives answers;
     row = unmoved old.rows n kept is_kept;
     ran = refl;
@@ -263,7 +249,7 @@ module _ (F : Functions) (answer : List Value → Value) (t : Ty) (round : ℕ) 
     gives answers = ap (given answer) together ∙ (let e = answers call is_last in cc)
 
   -- the function need not be called
-  pub known_computes : (o : Outcome) → IsKnown round old.rows n nodes (Some o) → ComputesCall F answer t round old old n def nodes o cost
+  pub known_computes : (o : Outcome) → IsKnown stale round old.rows n nodes (Some o) → ComputesCall answer t stale round old old n nodes o cost
   known_computes Invalid some = invalid_computes some
   known_computes (Val v) h = last_computes h.0 v h.1 h.2 h.3 h.4
 
@@ -273,40 +259,41 @@ module _ (F : Functions) (answer : List Value → Value) (t : Ty) (round : ℕ) 
   abbrev now_called : Call
   now_called = record { arguments = now_shown; result = answer now_shown }
 
-  shown_together : IsKnown round old.rows n nodes None → seen_together old.rows nodes ≡ Values now_shown
+  shown_together : IsKnown stale round old.rows n nodes None → seen_together old.rows nodes ≡ Values now_shown
   shown_together unknown = together_from_shown old.rows nodes now_shown (filter_is_shown old.rows nodes unknown.0)
 
   -- where its outcome isn't known the function is due
-  now_due : IsKnown round old.rows n nodes None → (G : Graph) → IsSeenDue G n round old.rows def
-  now_due unknown G = record {
-    nodes = nodes;
+  now_due : IsKnown stale round old.rows n nodes None → IsDueOn stale n round old.rows nodes
+  now_due unknown = record {
     values = now_shown;
-    takes = takes G;
     shows = shown_together unknown;
-    reason = reason_of round old.rows n nodes now_shown (filter_is_shown old.rows nodes unknown.0) unknown.1;
+    reason = reason_of round old.rows stale n nodes now_shown (filter_is_shown old.rows nodes unknown.0) unknown.1;
   }
 
   -- the function was called
-  called_computes : (new : Noted) (o : Outcome) → IsKnown round old.rows n nodes None → IsCalled answer t old new n now_shown o cost
-      → ComputesCall F answer t round old new n def nodes o cost
+  called_computes : (new : Noted) (o : Outcome) → IsKnown stale round old.rows n nodes None → IsCalled answer t old new n now_shown o cost
+      → ComputesCall answer t stale round old new n nodes o cost
   unfolding now_due
   called_computes new o unknown called = record {
     kept = kept;
     is_kept = is_kept;
     last = Some now_called;
     called = true;
-    calls = λ G. (now_due unknown G, answer now_shown, refl, is_answer now_shown);
+    calls = (now_due unknown, refl);
     gives = λ answers known. ap (given answer) (shown_together unknown) ∙ sym (ap Some called.outcome);
     row = called.row;
     ran = called.ran;
     count = called.count;
     shows = λ v e. (now_called, refl, let h = called.outcome in cc);
-    answer_typed = λ c e. inr (ap (λ (x : Call). type_of x.result) (sym (same_Some now_called c e)) ∙ called.type);
+    answer_typed = λ c e. inr (
+      ap (λ (x : Call). type_of x.result) (sym (same_Some now_called c e)) ∙ called.type,
+      subst (λ (x : Call). AllZip (ShowsValue old.rows) nodes x.arguments) (same_Some now_called c e) (filter_is_shown old.rows nodes unknown.0),
+    );
   }
 
   -- so the calls' end is
-  pub ends_computes : {E : Type 0} (new : Noted) (result : Result Outcome E) → IsKnown round old.rows n nodes None
-      → Calls answer t old new n now_shown cost result → CallComputes F answer t round old new n def nodes cost result
+  pub ends_computes : {E : Type 0} (new : Noted) (result : Result Outcome E) → IsKnown stale round old.rows n nodes None
+      → Calls answer t old new n now_shown cost result → CallComputes answer t stale round old new n nodes cost result
   ends_computes new (Ok o) unknown called = called_computes new o unknown called
   ends_computes new (Err e) unknown m = record { rows = m.rows; ran = m.ran; count = inr (now_due unknown, m.count) }
 
@@ -336,6 +323,10 @@ base_of_type arena (value.Int z) t type base = record { type = record { type = t
 base_of_type arena (value.Bool z) t type base = record { type = record { type = type; reference = tt }; within = tt }
 base_of_type arena (value.Text z) t type base = record { type = record { type = type; reference = tt }; within = tt }
 base_of_type arena (value.Node m b) t type base = absurd (subst IsBase (sym type) base)
+
+-- so a call whose result is of a base type fits it
+pub base_fits : (arena : Arena) (t u : Ty) → t ≡ u → IsBase t → (c : Call) → type_of c.result ≡ t → IsOfType arena c.result u
+base_fits arena t u same base c type = subst (IsOfType arena c.result) same (base_of_type arena c.result t type base)
 
 module _ (arena : Arena) (held : Holdings) (rows : Rows Progress) (kept : KeepsTypes arena held rows) where
   -- what a node shows is of the type that it fits
@@ -387,10 +378,48 @@ pub holds_value : (d : declared.Def) (v w : Value) → w ≡ v → (d ≡ form.C
 holds_value d v w same (inl h) = inl (ap def_of h ∙ ap Const (sym same))
 holds_value d v w same (inr h) = inr (ap def_of h ∙ ap Var (sym same))
 
-module _ (F : Functions) (arena : Arena) (roots : Rows NodeId) (round : ℕ) (old : Noted) (n : NodeId) (row : Row)
-    (kept : KeepsTypes arena (held_in arena old.rows roots) old.rows) (sound : IsSoundArena arena) (is_row : row_at arena n ≡ Some row) where
+-- a value is kept, or none is
+pub by_kept : {P : Value → Type 0} {Q R : Type 0} (x : Option Value) → ((v : Value) → x ≡ Some v → P v → R) → (x ≡ None → Q → R) → IfSome x P → IfNone x Q → R
+by_kept None some none p q = none refl q
+by_kept (Some v) some none p q = some v refl p
+
+-- the call by which a row keeps a value
+record KeptCall (x : Option Progress) (v : Value) : Type 0 where
+  row : Progress
+  is_row : x ≡ Some row
+  call : Call
+  is_last : row.last ≡ Some call
+  arguments : call.arguments ≡ v ∷ []
+
+found_call : (last : Option Call) (v : Value) → found last ≡ Some v → (c : Call) × (last ≡ Some c) × (c.arguments ≡ v ∷ [])
+found_call None v is = cc
+found_call (Some c) v is = (c, refl, only c.arguments c.result is)
+  where
+    only : (values : List Value) (w : Value) → found_in values w ≡ Some v → values ≡ v ∷ []
+    only [] w is = cc
+    only (x ∷ []) (value.Bool true) is = ap (λ (y : Value). y ∷ []) (same_Some x v is)
+    only (x ∷ []) (value.Bool false) is = cc
+    only (x ∷ []) (value.Int z) is = cc
+    only (x ∷ []) (value.Text z) is = cc
+    only (x ∷ []) (value.Node m b) is = cc
+    only (x ∷ y ∷ more) w is = cc
+
+kept_call : (x : Option Progress) (v : Value) → kept_in x ≡ Some v → KeptCall x v
+kept_call None v is = cc
+kept_call (Some k) v is =
+    let c = found_call k.last v (by_flag k.frozen is) in record { row = k; is_row = refl; call = c.0; is_last = c.1; arguments = c.2 }
+  where
+    by_flag : (b : Bool) → kept_by b k.last ≡ Some v → found k.last ≡ Some v
+    by_flag true is = is
+    by_flag false is = cc
+
+module _ (F : Functions) (arena : Arena) (roots : Rows NodeId) (experts : List ExpertPlace) (round : ℕ) (old : Noted) (n : NodeId) (row : Row)
+    (kept : KeepsTypes arena (held_in arena old.rows roots experts) old.rows) (sound : IsSoundArena arena) (is_row : row_at arena n ≡ Some row) where
   abbrev held : Holdings
-  held = held_in arena old.rows roots
+  held = held_in arena old.rows roots experts
+
+  abbrev stale : NodeId → Bool
+  stale = is_stale_at experts
 
   abbrev G : Graph
   G = graph_of arena held
@@ -413,7 +442,7 @@ module _ (F : Functions) (arena : Arena) (roots : Rows NodeId) (round : ℕ) (ol
   -- a node none of whose functions is called
   uncalled_computes : (o : Outcome) → taken_by G n row.def ≡ None
       → (LooksAtSeen old.rows G n row.def → gives_own row.def ≡ Some o) → ((v : Value) → o ≡ Val v → IsOfType arena v row.ty)
-      → Computes F arena held round old old n o
+      → Computes F arena held stale round old old n o
   uncalled_computes o none gives typed = record {
     last = progress.last;
     called = false;
@@ -433,7 +462,7 @@ module _ (F : Functions) (arena : Arena) (roots : Rows NodeId) (round : ℕ) (ol
   }
 
   -- what holds a value gives it
-  pub holder_computes : (v : Value) → (row.def ≡ Const v) ⊎ (row.def ≡ Var v) → Computes F arena held round old old n (Val v)
+  pub holder_computes : (v : Value) → (row.def ≡ Const v) ⊎ (row.def ≡ Var v) → Computes F arena held stale round old old n (Val v)
   holder_computes v holds = uncalled_computes (Val v) (none_taken holds) (λ looks. gives holds)
       (λ w e. let value_is : v ≡ w = cc in subst (λ (x : Value). IsOfType arena x row.ty) value_is (typed holds))
     where
@@ -465,16 +494,16 @@ module _ (F : Functions) (arena : Arena) (roots : Rows NodeId) (round : ℕ) (ol
   holder_typed v (inr h) = (subst (λ (d : Def). Makes arena d row.ty) h (sound.types n row is_row)).type
 
   -- what reads the clock gives what it shows at the time
-  pub clock_computes : (v : Value) → reads_clock row.def ≡ true → clock_value arena.time row.def ≡ Some v → Computes F arena held round old old n (Val v)
+  pub clock_computes : (v : Value) → reads_clock row.def ≡ true → clock_value arena.time row.def ≡ Some v → Computes F arena held stale round old old n (Val v)
   clock_computes v reads is = uncalled_computes (Val v) (none_taken_by_clock G n row.def reads) (λ looks. own_by_clock F G (seen old.rows) n row.def v is)
       (λ w e. let value_is : v ≡ w = cc in
       subst (λ (x : Value). IsOfType arena x row.ty) value_is
       (typed_by_clock arena arena.time row.def row.ty v (sound.names n row is_row) (sound.types n row is_row) is))
 
   pub clock_ends : {E : Type 0} (result : Result Outcome E) → reads_clock row.def ≡ true
-      → IfOk result (λ (o : Outcome). (v : Value) × (o ≡ Val v) × (clock_value arena.time row.def ≡ Some v)) → Ends F arena held round old old n result
+      → IfOk result (λ (o : Outcome). (v : Value) × (o ≡ Val v) × (clock_value arena.time row.def ≡ Some v)) → Ends F arena held stale round old old n result
   clock_ends (Ok o) reads shows =
-      subst (λ (x : Outcome). Computes F arena held round old old n x) (sym shows.1) (clock_computes shows.0 reads shows.2)
+      subst (λ (x : Outcome). Computes F arena held stale round old old n x) (sym shows.1) (clock_computes shows.0 reads shows.2)
   clock_ends (Err e) reads h = record { rows = λ p. refl; ran = refl; count = inl refl }
 
   module _ (d : declared.Def) (is_def : row.def ≡ def_of d) (pair : IsPair (def_of d)) where
@@ -492,7 +521,7 @@ module _ (F : Functions) (arena : Arena) (roots : Rows NodeId) (round : ℕ) (ol
         → ShowsRight old.rows (and_then changed.outcome (λ (c : Outcome). right_of G n (def_of d) c)) o
     chooses o shows =
         subst (λ (x : Option Progress). ShowsRight old.rows (and_then (outcome_in x) (λ (c : Outcome). right_of G n (def_of d) c)) o) is_changed
-        (subst (λ (x : Option NodeId). ShowsRight old.rows x o) (right_is old.rows roots n G (def_of d) (built_live old.rows roots n arena row is_row
+        (subst (λ (x : Option NodeId). ShowsRight old.rows x o) (right_is old.rows roots n G (def_of d) (built_live old.rows roots n arena experts row is_row
         ∙ ap (λ (x : Def). built_by x (outcome_in (at old.rows (change n))) (at roots (change n))) is_def)) shows)
 
     gives_right : (o : Outcome) → ShowsRight old.rows (right_in old.rows roots n (def_of d)) o → LooksAtSeen old.rows G n (def_of d)
@@ -517,7 +546,7 @@ module _ (F : Functions) (arena : Arena) (roots : Rows NodeId) (round : ℕ) (ol
     pair_typed m v is sees = (right_typed v (subst (λ (x : Option NodeId). ShowsRight old.rows x (Val v)) (sym is) (inl sees))).type.type
 
     -- a node of two points gives what the right side shows that its change chose
-    pub pair_computes : (o : Outcome) → ShowsRight old.rows (right_in old.rows roots n (def_of d)) o → Computes F arena held round old old n o
+    pub pair_computes : (o : Outcome) → ShowsRight old.rows (right_in old.rows roots n (def_of d)) o → Computes F arena held stale round old old n o
     pair_computes o shows = uncalled_computes o (ap (taken_by G n) is_def ∙ pair.none_taken G n)
         (λ looks. subst (λ (x : Def). LooksAtSeen old.rows G n x → gives_own x ≡ Some o) (sym is_def) (gives_right o shows) looks)
         (λ v e. right_typed v (subst (λ (x : Outcome). ShowsRight old.rows (right_in old.rows roots n (def_of d)) x) e shows))
@@ -525,7 +554,7 @@ module _ (F : Functions) (arena : Arena) (roots : Rows NodeId) (round : ℕ) (ol
     -- so it ends that copies what a right side shows
     pub pair_ends : {E : Type 0} (m : NodeId) (result : Result Outcome E) → right_in old.rows roots n (def_of d) ≡ Some m
         → IfOk result (λ (o : Outcome). (seen old.rows (main m) ≡ Some o) ⊎ ((seen old.rows (main m) ≡ None) × (o ≡ Invalid)))
-        → Ends F arena held round old old n result
+        → Ends F arena held stale round old old n result
     pair_ends m (Ok o) is shows = pair_computes o (subst (λ (x : Option NodeId). ShowsRight old.rows x o) (sym is) shows)
     pair_ends m (Err e) is h = record { rows = λ p. refl; ran = refl; count = inl refl }
 
@@ -566,43 +595,51 @@ module _ (F : Functions) (arena : Arena) (roots : Rows NodeId) (round : ℕ) (ol
         subst (CallsFit arena.given known ids) is_fold (fit n row is_row) in
         (sigs f calls.0.0.0 calls.0.0.1).2
 
-  module _ (answer : List Value → Value) (t : Ty) (def : Def) (nodes : List NodeId) (cost : ℕ) (is_def : row.def ≡ def) (takes : taken_by G n def ≡ Some nodes)
-      (from_answer : (values : List Value) (w : Value) → IsAnswer F def values w → w ≡ answer values)
-      (own_is : gives_own def ≡ given answer (seen_together old.rows nodes)) (kids_are : kids def ≡ nodes) (cost_is : or_none (cost_of G n def) ≡ cost)
-      (type : t ≡ row.ty) (base : IsBase t) where
+  -- ---- a node whose function is called on what its children show
+
+  module _ (answer : List Value → Value) (t : Ty) (def : Def) (nodes : List NodeId) (cost : ℕ) (b : Bool) (is_def : row.def ≡ def)
+      (takes : taken_by G n def ≡ Some nodes) (is_answer : (values : List Value) → IsAnswer F def values (answer values))
+      (cost_is : or_none (cost_of G n def) ≡ cost) (marked : b ≡ stale n) where
     cost_here : cost ≡ cost_at G n
     cost_here = sym cost_is ∙ sym (ap (λ (d : Def). or_none (cost_of G n d)) is_def) ∙ sym (ap (λ (x : Option Row). row_cost G n x) is_row)
 
-    -- a live node was computed
-    call_computes : (new : Noted) (o : Outcome) → ComputesCall F answer t round old new n def nodes o cost → Computes F arena held round old new n o
-    call_computes new o m = record {
-      last = m.last;
-      called = m.called;
-      computed = record {
-        row = row;
-        is_row = is_row;
-        kept = m.kept;
-        is_kept = m.is_kept;
-        calls = subst (λ (d : Def). CallsSeen F G n round old.rows d m.kept.last m.last m.called) (sym is_def) (m.calls G);
-        own = λ answers looks. subst (λ (d : Def). gives_own d ≡ Some o) (sym is_def)
-            (own_is ∙ m.gives (λ c is. from_answer c.arguments c.result (subst (λ (d : Def). IsAnswer F d c.arguments c.result) is_def
-            (answers n row nodes m.kept c is_row (ap (taken_by G n) is_def ∙ takes) m.is_kept is)))
-            (subst (λ (ns : List NodeId). seen_together old.rows ns ≡ Unknown → ⊥) (ap kids is_def ∙ kids_are) looks.kids));
-      };
-      row = m.row;
-      ran = subst (λ (k : ℕ). new.ran ≡ ran_then (calls_of m.called k) old.ran n) cost_here m.ran;
-      count = subst (λ (k : ℕ). RoseBy old.calls (calls_of m.called k) new.calls) cost_here m.count;
-      typed = λ r v e is. let w = m.shows v is in subst (λ (x : Value). IsOfType arena x r.ty) w.2 (typed r w.0 e w.1);
-      answer_typed = typed;
-    } where
-      typed : (r : Row) (c : Call) → row_at arena n ≡ Some r → m.last ≡ Some c → IsOfType arena c.result r.ty
-      typed r c e is = elim (m.answer_typed c is) [
-        | inl was ↦ kept.calls n r m.kept c e m.is_kept was
-        | inr its ↦ subst (IsOfType arena c.result) (type ∙ ap (λ (x : Row). x.ty) (same_row r e)) (base_of_type arena c.result t its base)
-      ]
+    takes_row : taken_by G n row.def ≡ Some nodes
+    takes_row = ap (taken_by G n) is_def ∙ takes
 
-    -- it wasn't
-    call_fails : (new : Noted) → NotCalled round old new n def cost → NotComputed G round old new n
+    -- it was due
+    due_here : IsDueOn b n round old.rows nodes → IsSeenDue G stale n round old.rows row.def
+    due_here d = record {
+      nodes = nodes;
+      values = d.values;
+      takes = takes_row;
+      shows = d.shows;
+      reason = reason_with round old.rows (λ (m : NodeId). b) stale n nodes d.values marked d.reason;
+    }
+
+    calls_here : (last last' : Option Call) (called : Bool) → CallsOn answer b n round old.rows nodes last last' called
+        → CallsSeen F G stale n round old.rows row.def last last' called
+    unfolding due_here
+    calls_here last last' false h = (
+      h.0,
+      λ others values its e.
+          let same : nodes ≡ others = same_Some nodes others (sym takes_row ∙ its) in
+          let w = h.1 values (ap (seen_together old.rows) same ∙ e) in (
+            w.0,
+            w.1,
+            w.2,
+            λ reason. w.3 (reason_with round old.rows stale (λ (m : NodeId). b) n nodes values (sym marked)
+                (subst (λ (ns : List NodeId). ReasonIn stale round old.rows n ns values) (sym same) reason)),
+          ),
+    )
+    calls_here last last' true h = (
+      due_here h.0,
+      answer h.0.values,
+      h.1,
+      subst (λ (d : Def). IsAnswer F d h.0.values (answer h.0.values)) (sym is_def) (is_answer h.0.values),
+    )
+
+    -- it wasn't computed
+    pub call_fails : (new : Noted) → NotCalled b round old new n nodes cost → NotComputed G stale round old new n
     call_fails new m = record {
       rows = m.rows;
       ran = m.ran;
@@ -613,14 +650,142 @@ module _ (F : Functions) (arena : Arena) (roots : Rows NodeId) (round : ℕ) (ol
           is_row = is_row;
           kept = progress;
           is_kept = is_progress;
-          due = subst (λ (d : Def). IsSeenDue G n round old.rows d) (sym is_def) (some.0 G);
+          due = due_here some.0;
           count = subst (λ (k : ℕ). RoseAtMost old.calls k new.calls) cost_here some.1;
         })
       ];
     }
 
-    -- so it ends
-    pub call_ends : {E : Type 0} (new : Noted) (result : Result Outcome E) → CallComputes F answer t round old new n def nodes cost result
-        → Ends F arena held round old new n result
-    call_ends new (Ok o) m = call_computes new o m
-    call_ends new (Err e) m = call_fails new m
+    module _ (fits_call : (c : Call) → type_of c.result ≡ t → AllZip (ShowsValue old.rows) nodes c.arguments → CallFits arena def row.ty c) where
+      fits_last : (new : Noted) (o : Outcome) (m : ComputesCall answer t b round old new n nodes o cost) (r : Row) (c : Call) → row_at arena n ≡ Some r
+          → m.last ≡ Some c → CallFits arena r.def r.ty c
+      fits_last new o m r c e is = elim (m.answer_typed c is) [
+        | inl was ↦ kept.calls n r m.kept c e m.is_kept was
+        | inr its ↦ subst (λ (x : Row). CallFits arena x.def x.ty c) (same_row r e)
+            (subst (λ (d : Def). CallFits arena d row.ty c) (sym is_def) (fits_call c its.0 its.1))
+      ]
+
+      -- a live node was computed, which gives this
+      pub node_computes : (new : Noted) (o found : Outcome) (m : ComputesCall answer t b round old new n nodes found cost)
+          → (KeepsAnswers F G old.rows → LooksAtSeen old.rows G n row.def → gives_own row.def ≡ Some o)
+          → ((v : Value) → o ≡ Val v → IsOfType arena v row.ty) → Computes F arena held stale round old new n o
+      node_computes new o found m own_is typed = record {
+        last = m.last;
+        called = m.called;
+        computed = record {
+          row = row;
+          is_row = is_row;
+          kept = m.kept;
+          is_kept = m.is_kept;
+          calls = calls_here m.kept.last m.last m.called m.calls;
+          own = own_is;
+        };
+        row = m.row;
+        ran = subst (λ (k : ℕ). new.ran ≡ ran_then (calls_of m.called k) old.ran n) cost_here m.ran;
+        count = subst (λ (k : ℕ). RoseBy old.calls (calls_of m.called k) new.calls) cost_here m.count;
+        typed = λ r v e is. subst (λ (x : Row). IsOfType arena v x.ty) (same_row r e) (typed v is);
+        answer_typed = fits_last new found m;
+      }
+
+      module _ (from_answer : (values : List Value) (w : Value) → IsAnswer F def values w → w ≡ answer values)
+          (own_is : gives_own def ≡ given answer (seen_together old.rows nodes)) (kids_are : kids_of G n def ≡ nodes)
+          (result_typed : (c : Call) → CallFits arena def row.ty c → IsOfType arena c.result row.ty) where
+        -- a live node was computed that gives what its function gives
+        call_computes : (new : Noted) (o : Outcome) → ComputesCall answer t b round old new n nodes o cost → Computes F arena held stale round old new n o
+        call_computes new o m = node_computes new o o m
+            (λ answers looks. subst (λ (d : Def). gives_own d ≡ Some o) (sym is_def)
+            (own_is ∙ m.gives (λ c is. from_answer c.arguments c.result (subst (λ (d : Def). IsAnswer F d c.arguments c.result) is_def
+            (answers n row nodes m.kept c is_row takes_row m.is_kept is)))
+            (subst (λ (ns : List NodeId). seen_together old.rows ns ≡ Unknown → ⊥) (ap (kids_of G n) is_def ∙ kids_are) looks.kids)))
+            (λ v is. let w = m.shows v is in
+            subst (λ (x : Value). IsOfType arena x row.ty) w.2
+            (result_typed w.0 (subst (λ (d : Def). CallFits arena d row.ty w.0) is_def (fits_last new o m row w.0 is_row w.1))))
+
+        -- so it ends
+        pub call_ends : {E : Type 0} (new : Noted) (result : Result Outcome E) → CallComputes answer t b round old new n nodes cost result
+            → Ends F arena held stale round old new n result
+        call_ends new (Ok o) m = call_computes new o m
+        call_ends new (Err e) m = call_fails new m
+
+  -- ---- an expert
+
+  module _ (f : FnRef) (from : Value) (is_expert : row.def ≡ Expert f from []) where
+    expert_makes : FoldMakes arena f from [] row.ty
+    expert_makes = subst (λ (d : Def). Makes arena d row.ty) is_expert (sound.types n row is_row)
+
+    -- what the nodes show that an expert reads fits it
+    pub expert_fits : (values : List Value) → AllZip (ShowsValue old.rows) (kids_at experts n) values → FoldFits f from values
+    expert_fits values shows =
+        fold_shown arena held old.rows kept f from (kids_at experts n) row.ty f.sig.takes values refl (kept.lists n row f from [] is_row is_expert)
+        expert_makes.gives expert_makes.initial.type shows
+
+    pub expert_gives : f.sig.gives ≡ row.ty
+    expert_gives = expert_makes.gives
+
+    pub expert_base : (known : FnRef → Bool) (ids : FnRef → List NodeId) → HaveMapSigs known → AllCallFit known ids arena → IsBase f.sig.gives
+    expert_base known ids sigs fit =
+        let calls : CallsFit arena.given known ids (Expert f from []) = subst (CallsFit arena.given known ids) is_expert (fit n row is_row) in
+        (sigs f calls.0.0.0 calls.0.0.1).2
+
+  -- ---- a freeze
+
+  module _ (kid : NodeId) (f : FnRef) (is_freeze : row.def ≡ Freeze kid f) where
+    freeze_makes : FreezeMakes arena kid f row.ty
+    freeze_makes = subst (λ (d : Def). Makes arena d row.ty) is_freeze (sound.types n row is_row)
+
+    -- what its child shows has the type that its predicate takes
+    pub freeze_fits : (values : List Value) → AllZip (ShowsValue old.rows) (kid ∷ []) values → HaveTypes values f.sig.takes
+    freeze_fits values shows =
+        types_fit arena held old.rows kept (kid ∷ []) f.sig.takes values
+        (subst (AllZip (Fits arena) (kid ∷ [])) (sym freeze_makes.takes) (freeze_makes.child, tt)) shows
+
+    pub freeze_truth : f.sig.gives ≡ ty.Bool
+    freeze_truth = freeze_makes.gives
+
+    -- a value that its child shows is of its type
+    pub kid_typed : (v : Value) → value_shown old.rows kid ≡ Some v → IsOfType arena v row.ty
+    kid_typed v shows = shown_of_type arena held old.rows kept kid row.ty v freeze_makes.child shows
+
+    each_typed : (values : List Value) → AllZip (ShowsValue old.rows) (kid ∷ []) values → Every (λ (v : Value). IsOfType arena v row.ty) values
+    each_typed [] shows = absurd shows
+    each_typed (v ∷ []) shows = (kid_typed v shows.0, tt)
+    each_typed (v ∷ w ∷ vs) shows = absurd shows.1
+
+    -- a value that it keeps is of its type
+    pub kept_typed : (v : Value) → kept_in (at old.rows (main n)) ≡ Some v → IsOfType arena v row.ty
+    kept_typed v is =
+        let k = kept_call (at old.rows (main n)) v is in
+        let fits = kept.calls n row k.row k.call is_row k.is_row k.is_last in
+        (subst (λ (vs : List Value). Every (λ (x : Value). IsOfType arena x row.ty) vs) k.arguments
+        (subst (λ (d : Def). CallFits arena d row.ty k.call) is_freeze fits)).0
+
+    -- it keeps a value
+    pub keeps_ends : {E : Type 0} (v : Value) (new : Noted) (result : Result Outcome E) → kept_in (at old.rows (main n)) ≡ Some v
+        → KeepsOn v old new result → Ends F arena held stale round old new n result
+    keeps_ends v new (Ok o) is h =
+        subst (λ (x : Noted). Computes F arena held stale round old x n o) (sym h.1)
+        (uncalled_computes o (ap (taken_by G n) is_freeze ∙ ap (predicate_kids kid) is)
+        (λ looks. ap gives_own is_freeze ∙ ap (λ (x : Option Value). frozen_or_seen x (seen old.rows (main kid))) is ∙ sym (ap Some h.0))
+        (λ w e. let value_is : v ≡ w = let e' = sym h.0 ∙ e in cc in subst (λ (x : Value). IsOfType arena x row.ty) value_is (kept_typed v is)))
+    keeps_ends v new (Err e) is h =
+        subst (λ (x : Noted). NotComputed G stale round old x n) (sym h) (record { rows = λ p. refl; ran = refl; count = inl refl })
+
+    -- it keeps none
+    pub freeze_ends : {E : Type 0} (new : Noted) (result : Result Outcome E) → kept_in (at old.rows (main n)) ≡ None → false ≡ stale n
+        → FreezeComputes (F.value f) f.sig.gives round old new n kid result → Ends F arena held stale round old new n result
+    freeze_ends new (Err e) none marked m =
+        call_fails (F.value f) f.sig.gives (Freeze kid f) (kid ∷ []) 1 false is_freeze (ap (predicate_kids kid) none) (λ values. refl)
+        (ap (λ (x : Option Value). or_none (predicate_cost x)) none) marked new m
+    freeze_ends new (Ok o) none marked m =
+        node_computes (F.value f) f.sig.gives (Freeze kid f) (kid ∷ []) 1 false is_freeze (ap (predicate_kids kid) none) (λ values. refl)
+        (ap (λ (x : Option Value). or_none (predicate_cost x)) none) marked (λ c type shows. each_typed c.arguments shows) new o m.0 m.2
+        (λ answers looks. ap gives_own is_freeze ∙ ap (λ (x : Option Value). frozen_or_seen x (seen old.rows (main kid))) none
+        ∙ sees_kid o (subst (λ (ns : List NodeId). seen_together old.rows ns ≡ Unknown → ⊥) (ap (kids_of G n) is_freeze ∙ ap (unfrozen kid) none) looks.kids) m.1)
+        (λ v is. elim m.1 [
+          | inl sees ↦ kid_typed v (seen_is_shown (at old.rows (main kid)) v (sees ∙ ap Some is))
+          | inr nothing ↦ absurd (let e = sym nothing.1 ∙ is in cc)
+        ])
+      where
+        sees_kid : (o : Outcome) → (seen_together old.rows (kid ∷ []) ≡ Unknown → ⊥) → IsShown old.rows kid o → seen old.rows (main kid) ≡ Some o
+        sees_kid o known (inl sees) = sees
+        sees_kid o known (inr nothing) = absurd (known (ap (λ (x : Option Outcome). joined x (seen_together old.rows [])) nothing.0))

@@ -8,7 +8,9 @@ use Rattle.inc_value.specs.declared.node.NodeId.{NodeId}
 use Rattle.inc_value.specs.declared.function.FnRef.{FnRef}
 use Rattle.inc_value.specs.declared.outcome.Outcome.{Outcome}
 use Rattle.inc_value.specs.declared.outcome.Outcome.TheVariants.{Invalid}
-use Rattle.inc_terms.specs.Depend.{change, right_of, root_for}
+use Rattle.inc_value.specs.declared.value.Value.{Value}
+use Rattle.expert_nodes.specs.Experts.{ExpertPlace, kids_at}
+use Rattle.inc_terms.specs.Depend.{change, main, right_of, root_for}
 use Rattle.inc_terms.specs.Graph as graph
 use Rattle.inc_terms.specs.Graph.{Graph, Row, Built, Def}
 use Rattle.inc_terms.specs.Same.{same_outcome}
@@ -17,7 +19,7 @@ use Rattle.inc_terms.proofs.Same.{outcome_decides}
 use Rattle.point_map.specs.Rows.{Rows, at}
 use Rattle.node_arena.specs.Arena.{Arena, row_at}
 use Rattle.node_outcomes.specs.Choosing.{built_by, built_in, built_alone, held_in, right_in}
-use Rattle.node_outcomes.specs.Row.{outcome_in}
+use Rattle.node_outcomes.specs.Row.{kept_in, outcome_in}
 use Rattle.node_outcomes.specs.declared.row.Progress.{Progress}
 
 and_then_same : {A B : Type 0} (x : Option A) (f g : A → Option B) → ((a : A) → f a ≡ g a) → and_then x f ≡ and_then x g
@@ -56,18 +58,21 @@ module _ (rows : Rows Progress) (roots : Rows NodeId) (n : NodeId) where
       (λ c. sym (same_choice alone G n def c e))
 
   -- what a live node is built for
-  pub built_live : (arena : Arena) (r : Row) → row_at arena n ≡ Some r
-      → (held_in arena rows roots).built n ≡ built_by r.def (outcome_in (at rows (change n))) (at roots (change n))
-  built_live arena r is = ap (λ (x : Option Row). built_in x (outcome_in (at rows (change n))) (at roots (change n))) is
+  pub built_live : (arena : Arena) (experts : List ExpertPlace) (r : Row) → row_at arena n ≡ Some r
+      → (held_in arena rows roots experts).built n ≡ built_by r.def (outcome_in (at rows (change n))) (at roots (change n))
+  built_live arena experts r is = ap (λ (x : Option Row). built_in x (outcome_in (at rows (change n))) (at roots (change n))) is
 
--- where as much is kept of changes and of roots, as much is held
-pub same_held : (arena : Arena) (rows rows' : Rows Progress) (roots roots' : Rows NodeId)
+-- where as much is kept of changes, of roots and of freezes, and the links of experts are the same, as much is held
+pub same_held : (arena : Arena) (rows rows' : Rows Progress) (roots roots' : Rows NodeId) (experts experts' : List ExpertPlace)
     → ((n : NodeId) → outcome_in (at rows' (change n)) ≡ outcome_in (at rows (change n))) → ((n : NodeId) → at roots' (change n) ≡ at roots (change n))
-    → held_in arena rows' roots' ≡ held_in arena rows roots
-same_held arena rows rows' roots roots' outcomes same =
-    ap (λ (b : NodeId → Option Built). record { built = b }) (fun_ext (λ n.
+    → ((n : NodeId) → kept_in (at rows' (main n)) ≡ kept_in (at rows (main n))) → ((n : NodeId) → kids_at experts' n ≡ kids_at experts n)
+    → held_in arena rows' roots' experts' ≡ held_in arena rows roots experts
+same_held arena rows rows' roots roots' experts experts' outcomes same frozen lists =
+    ap (λ (b : NodeId → Option Built). record { built = b; frozen = λ n. kept_in (at rows' (main n)); lists = kids_at experts' }) (fun_ext (λ n.
     ap (λ (o : Option Outcome). built_in (row_at arena n) o (at roots' (change n))) (outcomes n)
     ∙ ap (λ (m : Option NodeId). built_in (row_at arena n) (outcome_in (at rows (change n))) m) (same n)))
+    ∙ ap (λ (k : NodeId → Option Value). record { built = (held_in arena rows roots experts).built; frozen = k; lists = kids_at experts' }) (fun_ext frozen)
+    ∙ ap (λ (l : NodeId → List NodeId). record { built = (held_in arena rows roots experts).built; frozen = (held_in arena rows roots experts).frozen; lists = l }) (fun_ext lists)
 
 -- what is built is so for the outcome that its change keeps, and its root is its right side
 pub built_parts : (def : Def) (x : Option Outcome) (root : Option NodeId) (w : Built) → built_by def x root ≡ Some w

@@ -1,5 +1,5 @@
 -- Which room a node lacks that finds no memory.
-use Rattle.std.proofs.Common.{◌≡◌, ◌≢◌, ◌⊎◌, inl, inr, ℕ, ℤ, ◌<◌, ◌≤◌, true, List, [], ◌∷◌, length, None, Some, refl, sym, subst, ◌∙◌, arith, Result, Ok, Err}
+use Rattle.std.proofs.Common.{◌≡◌, ◌≢◌, ◌⊎◌, inl, inr, ℕ, ℤ, ◌<◌, ◌≤◌, Bool, true, List, [], ◌∷◌, length, None, Some, refl, sym, subst, ◌∙◌, arith, Result, Ok, Err}
 use Rattle.std.specs.Prelude.{OnErr}
 use Rattle.std.specs.List.{filter_map}
 use Rattle.inc_value.specs.Value.{type_of}
@@ -9,15 +9,15 @@ use Rattle.inc_value.specs.declared.ty.Ty.TheVariants as ty
 use Rattle.inc_value.specs.declared.value.Value.{Value}
 use Rattle.inc_terms.specs.Clock.{clock_value, reads_clock}
 use Rattle.inc_terms.specs.Graph as graph
-use Rattle.inc_terms.specs.Graph.{Row, Def, kids}
-use Rattle.node_arena.specs.Arena.{Arena, row_at}
+use Rattle.inc_terms.specs.Graph.{Graph, Row, Def}
+use Rattle.inc_terms.specs.Work.{taken_by}
 use Rattle.point_map.specs.Rows.{Rows}
 use Rattle.node_outcomes.specs.Computing.{HasNoText, IsKnown, value_shown}
-use Rattle.node_outcomes.specs.Lacking.{HasText, LacksRoom, IsToCall, CallLacks, NodeLacksRoom, sees_text, many_kids}
+use Rattle.node_outcomes.specs.Lacking.{HasText, LacksRoom, IsToCall, CallLacks, NodeLacksRoom, gives_text, sees_text, many_kids, ran_full}
 use Rattle.node_outcomes.specs.Meaning.{WantsFollow}
 use Rattle.node_outcomes.specs.declared.row.Progress.{Progress}
 use Rattle.node_outcomes.proofs.Computing.{filter_is_shown}
-use Rattle.node_outcomes.proofs.Reasons.{reason_of}
+use Rattle.node_outcomes.proofs.Reasons.{reason_of, reason_with}
 
 -- a type is Text, or it isn't
 pub text_or_not : (t : Ty) → (t ≡ ty.Text) ⊎ (t ≢ ty.Text)
@@ -62,13 +62,14 @@ list_lacks rows room ran t kids scalar = elim (has_or_not (filter_map (value_sho
 ]
 
 -- where it isn't known what a node gives its function is to be called
-pub to_call : (round : ℕ) (rows : Rows Progress) (n : NodeId) (kids : List NodeId) → IsKnown round rows n kids None → IsToCall round rows n kids
-to_call round rows n kids unknown =
+pub to_call : (stale : Bool) (round : ℕ) (rows : Rows Progress) (n : NodeId) (kids : List NodeId) → IsKnown stale round rows n kids None
+    → IsToCall (λ (m : NodeId). stale) round rows n kids
+to_call stale round rows n kids unknown =
     let shown = filter_is_shown rows kids unknown.0 in
     record {
       values = filter_map (value_shown rows) kids;
       shown = shown;
-      reason = reason_of round rows n kids (filter_map (value_shown rows) kids) shown unknown.1;
+      reason = reason_of round rows stale n kids (filter_map (value_shown rows) kids) shown unknown.1;
     }
 
 -- what lacks room is another word for what does
@@ -98,18 +99,37 @@ clock_shows time (graph.Bind l f caps) h = absurd (cc)
 clock_shows time (graph.Freeze k f) h = absurd (cc)
 clock_shows time (graph.Expert f v ns) h = absurd (cc)
 
--- of a map or a fold it is so of the node
-pub node_lacks : (arena : Arena) (round : ℕ) (rows : Rows Progress) (room ran : ℕ) (n : NodeId) (row : Row) (t : Ty) (nodes : List NodeId)
-    → row_at arena n ≡ Some row → t ≡ row.ty → nodes ≡ kids row.def → CallLacks round rows room ran n t nodes
-    → NodeLacksRoom arena round rows room ran n
-node_lacks arena round rows room ran n row t nodes is_row type are h = record {
+-- what is so of a node by whether it is stale alone is so by which nodes are
+pub lacks_with : (stale : Bool) (others : NodeId → Bool) (round : ℕ) (rows : Rows Progress) (room ran : ℕ) (n : NodeId) (t : Ty) (kids : List NodeId)
+    → stale ≡ others n → CallLacks (λ (m : NodeId). stale) round rows room ran n t kids → CallLacks others round rows room ran n t kids
+lacks_with stale others round rows room ran n t kids same (inl text) = inl text
+lacks_with stale others round rows room ran n t kids same (inr h) = inr (
+  record {
+    values = h.0.values;
+    shown = h.0.shown;
+    reason = reason_with round rows (λ (m : NodeId). stale) others n kids h.0.values same h.0.reason;
+  },
+  h.1,
+)
+
+-- of a node whose function is called it is so of the node
+pub node_lacks : (G : Graph) (stale : NodeId → Bool) (round : ℕ) (rows : Rows Progress) (room ran : ℕ) (n : NodeId) (row : Row) (t : Ty) (nodes : List NodeId)
+    → G.row n ≡ Some row → t ≡ row.ty → taken_by G n row.def ≡ Some nodes → CallLacks stale round rows room ran n t nodes
+    → NodeLacksRoom G stale round rows room ran n
+node_lacks G stale round rows room ran n row t nodes is_row type takes h = record {
   row = row;
   is_row = is_row;
-  lacks = inr (subst (λ (x : Ty). CallLacks round rows room ran n x (kids row.def)) type
-      (subst (λ (ns : List NodeId). CallLacks round rows room ran n t ns) are h));
+  lacks = inr (nodes, takes, subst (λ (x : Ty). CallLacks stale round rows room ran n x nodes) type h);
 }
 
 -- a node that gives a Text
-pub gives_lacks : (arena : Arena) (round : ℕ) (rows : Rows Progress) (room ran : ℕ) (n : NodeId) (row : Row) (v : Value) → row_at arena n ≡ Some row
-    → type_of v ≡ row.ty → type_of v ≡ ty.Text → NodeLacksRoom arena round rows room ran n
-gives_lacks arena round rows room ran n row v is_row type text = record { row = row; is_row = is_row; lacks = inl (sym type ∙ text) }
+pub gives_lacks : (G : Graph) (stale : NodeId → Bool) (round : ℕ) (rows : Rows Progress) (room ran : ℕ) (n : NodeId) (row : Row) (v : Value) → G.row n ≡ Some row
+    → type_of v ≡ row.ty → type_of v ≡ ty.Text → NodeLacksRoom G stale round rows room ran n
+gives_lacks G stale round rows room ran n row v is_row type text = record { row = row; is_row = is_row; lacks = inl (sym type ∙ text) }
+
+-- a call of a predicate, which gives a truth value, lacks what a call of a node of any type does
+pub predicate_lacks : (rows : Rows Progress) (room ran : ℕ) (t : Ty) (kids : List NodeId) → LacksRoom rows room ran ty.Bool kids → LacksRoom rows room ran t kids
+predicate_lacks rows room ran t kids (gives_text e) = absurd (let bad : ty.Bool ≡ ty.Text = e in cc)
+predicate_lacks rows room ran t kids (sees_text h) = sees_text h
+predicate_lacks rows room ran t kids (many_kids h) = many_kids h
+predicate_lacks rows room ran t kids (ran_full h) = ran_full h

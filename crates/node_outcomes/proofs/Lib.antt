@@ -8,3 +8,5 @@ pub mod ByClock
 pub mod Lacking
 pub mod Computing
 pub mod Rights
+pub mod Experts
+mod Frozen

@@ -1,5 +1,5 @@
 -- Why a node's function is called, by what is kept of points.
-use Rattle.std.proofs.Common.{◌≡◌, ◌⊎◌, inl, inr, ℕ, Bool, true, false, List, [], ◌∷◌, refl, sym, subst}
+use Rattle.std.proofs.Common.{◌≡◌, ◌⊎◌, inl, inr, ℕ, Bool, true, false, List, [], ◌∷◌, refl, sym, subst, ◌∙◌}
 use Rattle.std.specs.Prelude.{◌&&◌}
 use Rattle.std.specs.List.{AllZip}
 use Rattle.inc_value.specs.Choice.{Among}
@@ -9,7 +9,7 @@ use Rattle.inc_terms.specs.Depend.{main}
 use Rattle.point_map.specs.Rows.{Rows, at}
 use Rattle.stabilize_round.specs.Calling.{other, forced, made_stale}
 use Rattle.stabilize_round.specs.State.{Call}
-use Rattle.node_outcomes.specs.Computing.{ShowsValue, LastWas, IsForcedBy, ReasonIn}
+use Rattle.node_outcomes.specs.Computing.{ShowsValue, LastWas, IsForcedBy, MustCall, ReasonIn}
 use Rattle.map_nodes.specs.Cutoff.{TellsAgain}
 use Rattle.map_nodes.specs.declared.cutoff.Cutoff.{Cutoff}
 use Rattle.map_nodes.specs.declared.cutoff.Cutoff.TheVariants.{Equal, Never}
@@ -58,21 +58,29 @@ module _ (round : ℕ) (rows : Rows Progress) where
       by_test false is later = rw is later
 
   -- there is a reason where the children show other values than the function was last called on, or one forces the call
-  pub reason_of : (n : NodeId) (nodes : List NodeId) (values : List Value) → AllZip (ShowsValue rows) nodes values
-      → ((c : Call) → LastWas rows n c → AllZip (ShowsValue rows) nodes c.arguments → ⊥) ⊎ IsForcedBy round rows nodes
-      → ReasonIn round rows n nodes values
-  reason_of n nodes values shown (inl differs) =
+  pub reason_of : (stale : Bool) (n : NodeId) (nodes : List NodeId) (values : List Value) → AllZip (ShowsValue rows) nodes values
+      → ((c : Call) → LastWas rows n c → AllZip (ShowsValue rows) nodes c.arguments → ⊥) ⊎ MustCall stale round rows nodes
+      → ReasonIn (λ (m : NodeId). stale) round rows n nodes values
+  reason_of stale n nodes values shown (inl differs) =
       other (λ c is same. differs c is (subst (λ (vs : List Value). AllZip (ShowsValue rows) nodes vs) (sym same) shown))
-  reason_of n nodes values shown (inr force) =
+  reason_of stale n nodes values shown (inr (inl marked)) = made_stale marked
+  reason_of stale n nodes values shown (inr (inr force)) =
       let a = one_of_forced nodes force in
       let b = and_apart (tells_again (cutoff_in (at rows (main a.0)))) (settled_in round (at rows (main a.0))) a.2 in
       forced {kid = a.0} a.1 (tells (cutoff_in (at rows (main a.0))) b.0) b.1
 
-  -- there is none where it was last called on the values, and no child forces it
-  pub no_reason : (n : NodeId) (nodes : List NodeId) (values : List Value) (call : Call) → LastWas rows n call → call.arguments ≡ values
-      → (IsForcedBy round rows nodes → ⊥) → ReasonIn round rows n nodes values → ⊥
-  no_reason n nodes values call was same free (other differs) = differs call was same
-  no_reason n nodes values call was same free (forced {kid} a again settled) = free (one_forces nodes kid a
+  -- there is none where it was last called on the values, and nothing asks for a call
+  pub no_reason : (stale : Bool) (n : NodeId) (nodes : List NodeId) (values : List Value) (call : Call) → LastWas rows n call → call.arguments ≡ values
+      → (MustCall stale round rows nodes → ⊥) → ReasonIn (λ (m : NodeId). stale) round rows n nodes values → ⊥
+  no_reason stale n nodes values call was same free (other differs) = differs call was same
+  no_reason stale n nodes values call was same free (forced {kid} a again settled) = free (inr (one_forces nodes kid a
       (and_both (tells_again (cutoff_in (at rows (main kid)))) (settled_in round (at rows (main kid)))
-      (tested (cutoff_in (at rows (main kid))) again) settled))
-  no_reason n nodes values call was same free (made_stale marked) = absurd (cc)
+      (tested (cutoff_in (at rows (main kid))) again) settled)))
+  no_reason stale n nodes values call was same free (made_stale marked) = free (inl marked)
+
+  -- a reason asks of the node alone whether it is stale
+  pub reason_with : (stale others : NodeId → Bool) (n : NodeId) (nodes : List NodeId) (values : List Value) → stale n ≡ others n
+      → ReasonIn stale round rows n nodes values → ReasonIn others round rows n nodes values
+  reason_with stale others n nodes values same (other differs) = other differs
+  reason_with stale others n nodes values same (forced {kid} a again settled) = forced {kid = kid} a again settled
+  reason_with stale others n nodes values same (made_stale marked) = made_stale (sym same ∙ marked)

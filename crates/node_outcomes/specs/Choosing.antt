@@ -1,14 +1,15 @@
 -- What binds are built for, and the right side that a node's change chose.
-use Rattle.std.specs.Prelude.{pos, [], Option, None, Some}
+use Rattle.std.specs.Prelude.{pos, List, [], Option, None, Some}
 use Rattle.inc_value.specs.Choice.{and_then}
 use Rattle.inc_value.specs.declared.node.NodeId.{NodeId}
 use Rattle.inc_value.specs.declared.outcome.Outcome.{Outcome}
-use Rattle.inc_terms.specs.Depend.{change, right_of}
+use Rattle.inc_terms.specs.Depend.{change, main, right_of}
 use Rattle.inc_terms.specs.Graph.{Graph, Row, Built, Def, Bind}
+use Rattle.expert_nodes.specs.Experts.{ExpertPlace, kids_at}
 use Rattle.point_map.specs.Rows.{Rows, at}
 use Rattle.node_arena.specs.Arena.{Arena, row_at}
 use Rattle.node_arena.specs.Graph.{Holdings}
-use Rattle.node_outcomes.specs.Row.{outcome_in}
+use Rattle.node_outcomes.specs.Row.{kept_in, outcome_in}
 use Rattle.node_outcomes.specs.declared.row.Progress.{Progress}
 
 -- what a node so defined is built for: a bind for the outcome of its left with which its change ran last, with this root; a bind whose change never ran,
@@ -21,9 +22,14 @@ built_by def o root = None
 abbrev pub built_in : Option Row → Option Outcome → Option NodeId → Option Built
 built_in row o root = and_then row (λ (r : Row). built_by r.def o root)
 
--- what the graph of an arena holds, by what is kept of points and by the roots of binds, each of which stands by its bind's change
-abbrev pub held_in : Arena → Rows Progress → Rows NodeId → Holdings
-held_in a rows roots = record { built = λ n. built_in (row_at a n) (outcome_in (at rows (change n))) (at roots (change n)) }
+-- what the graph of an arena holds, by what is kept of points, by the roots of binds, each of which stands by its bind's change, and by the
+-- links of experts
+abbrev pub held_in : Arena → Rows Progress → Rows NodeId → List ExpertPlace → Holdings
+held_in a rows roots experts = record {
+  built = λ n. built_in (row_at a n) (outcome_in (at rows (change n))) (at roots (change n));
+  frozen = λ n. kept_in (at rows (main n));
+  lists = kids_at experts;
+}
 
 -- a graph without nodes, in which each id is built so: of a graph no more is looked at for a right side
 abbrev pub built_alone : Option Built → Graph

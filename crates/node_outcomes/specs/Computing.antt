@@ -13,16 +13,17 @@ use Rattle.inc_value.specs.declared.node.Point.{Point}
 use Rattle.inc_value.specs.declared.outcome.Outcome.{Outcome}
 use Rattle.inc_value.specs.declared.outcome.Outcome.TheVariants.{Invalid}
 use Rattle.inc_value.specs.declared.value.Value.{Value}
-use Rattle.inc_terms.specs.Depend.{main, change, subject_of, right_of}
+use Rattle.inc_terms.specs.Depend.{kids_of, main, change, subject_of, right_of}
 use Rattle.inc_terms.specs.Evaluate.{Gathered, Unknown, Values, gathered, given}
-use Rattle.inc_terms.specs.Graph.{Graph, Row, Built, Def, kids}
+use Rattle.inc_terms.specs.Graph.{Graph, Row, Built, Def, Freeze, Expert}
 use Rattle.inc_terms.specs.Local.{by_sight, own}
 use Rattle.inc_terms.specs.Term.{Functions, refs}
 use Rattle.inc_terms.specs.Within.{Given, ValueWithin}
+use Rattle.expert_nodes.specs.Experts.{ExpertPlace, SameExperts, Unmarks, expert_at}
 use Rattle.point_map.specs.Rows.{Rows, at}
 use Rattle.node_arena.specs.Arena.{Arena, row_at}
 use Rattle.node_arena.specs.Graph.{Holdings, graph_of}
-use Rattle.node_arena.specs.Typing.{Fits, HasType}
+use Rattle.node_arena.specs.Typing.{Fits, FoldTakes, HasType}
 use Rattle.inc_terms.specs.Work.{taken_by}
 use Rattle.stabilize_round.specs.Calling.{Reason, IsAnswer, cost_at}
 use Rattle.stabilize_round.specs.Counts.{RoseBy, RoseAtMost}
@@ -74,42 +75,42 @@ IsForcedBy round rows nodes = forced_by round rows nodes ≡ true
 abbrev pub last_in : Rows Progress → NodeId → Option Call
 last_in rows n = option_and_then (λ (k : Progress). k.last) (at rows (main n))
 
--- why a node's function is called, by what is kept of points in a round: none was made stale
-abbrev pub ReasonIn : ℕ → Rows Progress → NodeId → List NodeId → List Value → Type 0
-ReasonIn round rows n nodes values =
-    Reason (last_in rows) (λ (m : NodeId). cutoff_in (at rows (main m))) (λ (p : Point). settled_in round (at rows p)) (λ (m : NodeId). false) n nodes values
+-- why a node's function is called, by which nodes are stale and by what is kept of points in a round
+abbrev pub ReasonIn : (NodeId → Bool) → ℕ → Rows Progress → NodeId → List NodeId → List Value → Type 0
+ReasonIn stale round rows n nodes values =
+    Reason (last_in rows) (λ (m : NodeId). cutoff_in (at rows (main m))) (λ (p : Point). settled_in round (at rows p)) stale n nodes values
 
 -- a node's function is due: its children are seen to show these values, and there is a reason to call it on them
-pub record IsSeenDue (G : Graph) (n : NodeId) (round : ℕ) (rows : Rows Progress) (def : Def) : Type 0 where
+pub record IsSeenDue (G : Graph) (stale : NodeId → Bool) (n : NodeId) (round : ℕ) (rows : Rows Progress) (def : Def) : Type 0 where
   pub nodes : List NodeId
   pub values : List Value
   pub takes : taken_by G n def ≡ Some nodes
   pub shows : seen_together rows nodes ≡ Values values
-  pub reason : ReasonIn round rows n nodes values
+  pub reason : ReasonIn stale round rows n nodes values
 
 -- what a node's function was last called on after the node was computed: it was due and was called, or that stays
-abbrev pub CallsSeen : Functions → Graph → NodeId → ℕ → Rows Progress → Def → Option Call → Option Call → Bool → Type 0
-CallsSeen F G n round rows def last last' false = (last' ≡ last)
+abbrev pub CallsSeen : Functions → Graph → (NodeId → Bool) → NodeId → ℕ → Rows Progress → Def → Option Call → Option Call → Bool → Type 0
+CallsSeen F G stale n round rows def last last' false = (last' ≡ last)
     × ((nodes : List NodeId) (values : List Value) → taken_by G n def ≡ Some nodes → seen_together rows nodes ≡ Values values
-    → (c : Call) × (last ≡ Some c) × (c.arguments ≡ values) × (ReasonIn round rows n nodes values → ⊥))
-CallsSeen F G n round rows def last last' true =
-    (due : IsSeenDue G n round rows def) × (result : Value) × (last' ≡ Some (record { arguments = due.values; result = result }))
+    → (c : Call) × (last ≡ Some c) × (c.arguments ≡ values) × (ReasonIn stale round rows n nodes values → ⊥))
+CallsSeen F G stale n round rows def last last' true =
+    (due : IsSeenDue G stale n round rows def) × (result : Value) × (last' ≡ Some (record { arguments = due.values; result = result }))
     × IsAnswer F def due.values result
 
 -- something is seen of all that a main's own function looks at: its children, or its own change and the right side that this chose
 pub record LooksAtSeen (rows : Rows Progress) (G : Graph) (n : NodeId) (def : Def) : Type 0 where
-  pub kids : seen_together rows (kids def) ≡ Unknown → ⊥
+  pub kids : seen_together rows (kids_of G n def) ≡ Unknown → ⊥
   pub choice : IsSome (subject_of def) → IsSome (outcome_in (at rows (change n)))
   pub right : (m : NodeId) (o : Outcome) → outcome_in (at rows (change n)) ≡ Some o → right_of G n def o ≡ Some m → IsSome (seen rows (main m))
 
 -- a live node was computed: its outcome is its own function of what is seen, where something is seen of all that it looks at
-pub record IsComputed (F : Functions) (G : Graph) (round : ℕ) (rows : Rows Progress) (n : NodeId) (o : Outcome)
+pub record IsComputed (F : Functions) (G : Graph) (stale : NodeId → Bool) (round : ℕ) (rows : Rows Progress) (n : NodeId) (o : Outcome)
     (last' : Option Call) (called : Bool) : Type 0 where
   pub row : Row
   pub is_row : G.row n ≡ Some row
   pub kept : Progress
   pub is_kept : at rows (main n) ≡ Some kept
-  pub calls : CallsSeen F G n round rows row.def kept.last last' called
+  pub calls : CallsSeen F G stale n round rows row.def kept.last last' called
   pub own : KeepsAnswers F G rows → LooksAtSeen rows G n row.def → own F G (seen rows) n row.def ≡ Some o
 
 -- a live node whose function is called on its children's values
@@ -139,8 +140,13 @@ pub record IsOfType (a : Arena) (v : Value) (t : Ty) : Type 0 where
   pub type : HasType a v t
   pub within : ValueWithin (Given a.given) v
 
--- the points of live nodes are what has rows; outcomes and results of calls have their nodes' types, and so have right sides; a bind that is built for
--- Invalid has no root
+-- a call's result has its node's type; a freeze's predicate gives a truth value, and was called on values of the type
+abbrev pub CallFits : Arena → Def → Ty → Call → Type 0
+CallFits a (Freeze kid f) t c = Every (λ v. IsOfType a v t) c.arguments
+CallFits a def t c = IsOfType a c.result t
+
+-- the points of live nodes are what has rows; outcomes and calls fit their nodes' types, and so do right sides; a bind that is built for Invalid has no
+-- root; what an expert reads is of the type that its function takes
 pub record KeepsTypes (arena : Arena) (held : Holdings) (kept : Rows Progress) : Type 0 where
   pub rows : (p : Point) → is_some (at kept p) ≡ has_part (row_at arena p.node) p.part
   pub outcomes : (n : NodeId) (r : Row) (k : Progress) (v : Value) → row_at arena n ≡ Some r → at kept (main n) ≡ Some k
@@ -149,7 +155,22 @@ pub record KeepsTypes (arena : Arena) (held : Holdings) (kept : Rows Progress) :
       → k.outcome ≡ Some o → right_of (graph_of arena held) n r.def o ≡ Some m → Given arena.given m × Fits arena m r.ty
   pub rootless : (n : NodeId) (w : Built) → held.built n ≡ Some w → w.outcome ≡ Invalid → w.root ≡ None
   pub calls : (n : NodeId) (r : Row) (k : Progress) (c : Call) → row_at arena n ≡ Some r → at kept (main n) ≡ Some k
-      → k.last ≡ Some c → IsOfType arena c.result r.ty
+      → k.last ≡ Some c → CallFits arena r.def r.ty c
+  pub lists : (n : NodeId) (r : Row) (f : FnRef) (v : Value) (ns : List NodeId) → row_at arena n ≡ Some r → r.def ≡ Expert f v ns
+      → FoldTakes arena r.ty (held.lists n) f.sig.takes
+
+-- a node is an expert
+abbrev pub is_expert_def : Def → Bool
+is_expert_def (Expert f v ns) = true
+is_expert_def def = false
+
+abbrev pub is_expert : Option Row → Bool
+is_expert None = false
+is_expert (Some r) = is_expert_def r.def
+
+-- the experts of an arena are those that were created
+abbrev pub AreExperts : Arena → List ExpertPlace → Type 0
+AreExperts arena experts = (n : NodeId) → is_some (expert_at experts n) ≡ is_expert (row_at arena n)
 
 -- the nodes whose functions were called, with this one where so many calls are one at least
 abbrev pub ran_then : ℕ → List NodeId → NodeId → List NodeId
@@ -157,35 +178,36 @@ ran_then zero ran n = ran
 ran_then (suc k) ran n = ran ++ n ∷ []
 
 -- a live node was computed: what its function was last called on is kept, the node is listed where a call was made, and the count of calls rose so
-pub record Computes (F : Functions) (arena : Arena) (held : Holdings) (round : ℕ) (old new : Noted) (n : NodeId) (o : Outcome) : Type 0 where
+pub record Computes (F : Functions) (arena : Arena) (held : Holdings) (stale : NodeId → Bool) (round : ℕ) (old new : Noted) (n : NodeId) (o : Outcome)
+    : Type 0 where
   pub last : Option Call
   pub called : Bool
-  pub computed : IsComputed F (graph_of arena held) round old.rows n o last called
+  pub computed : IsComputed F (graph_of arena held) stale round old.rows n o last called
   pub row : IsRewritten old.rows new.rows (main n) (with_last last)
   pub ran : new.ran ≡ ran_then (calls_of called (cost_at (graph_of arena held) n)) old.ran n
   pub count : RoseBy old.calls (calls_of called (cost_at (graph_of arena held) n)) new.calls
   pub typed : (r : Row) (v : Value) → row_at arena n ≡ Some r → o ≡ Val v → IsOfType arena v r.ty
-  pub answer_typed : (r : Row) (c : Call) → row_at arena n ≡ Some r → last ≡ Some c → IsOfType arena c.result r.ty
+  pub answer_typed : (r : Row) (c : Call) → row_at arena n ≡ Some r → last ≡ Some c → CallFits arena r.def r.ty c
 
 -- calls of a node's function, which was due: some of those that it takes
-pub record HasCalledSome (G : Graph) (n : NodeId) (round : ℕ) (rows : Rows Progress) (before after : ℕ) : Type 0 where
+pub record HasCalledSome (G : Graph) (stale : NodeId → Bool) (n : NodeId) (round : ℕ) (rows : Rows Progress) (before after : ℕ) : Type 0 where
   pub row : Row
   pub is_row : G.row n ≡ Some row
   pub kept : Progress
   pub is_kept : at rows (main n) ≡ Some kept
-  pub due : IsSeenDue G n round rows row.def
+  pub due : IsSeenDue G stale n round rows row.def
   pub count : RoseAtMost before (cost_at G n) after
 
 -- without memory nothing is kept of it; where its function was due, some of the calls that it takes may have been made
-pub record NotComputed (G : Graph) (round : ℕ) (old new : Noted) (n : NodeId) : Type 0 where
+pub record NotComputed (G : Graph) (stale : NodeId → Bool) (round : ℕ) (old new : Noted) (n : NodeId) : Type 0 where
   pub rows : KeepsRows old.rows new.rows
   pub ran : new.ran ≡ old.ran
-  pub count : (new.calls ≡ old.calls) ⊎ HasCalledSome G n round old.rows old.calls new.calls
+  pub count : (new.calls ≡ old.calls) ⊎ HasCalledSome G stale n round old.rows old.calls new.calls
 
 -- how computing a node ends: it is computed, or there was no memory
-abbrev pub Ends : Functions → Arena → Holdings → ℕ → Noted → Noted → NodeId → {E : Type 0} → Result Outcome E → Type 0
-Ends F arena held round old new n (Ok o) = Computes F arena held round old new n o
-Ends F arena held round old new n (Err e) = NotComputed (graph_of arena held) round old new n
+abbrev pub Ends : Functions → Arena → Holdings → (NodeId → Bool) → ℕ → Noted → Noted → NodeId → {E : Type 0} → Result Outcome E → Type 0
+Ends F arena held stale round old new n (Ok o) = Computes F arena held stale round old new n o
+Ends F arena held stale round old new n (Err e) = NotComputed (graph_of arena held) stale round old new n
 
 -- ---- the parts of it
 
@@ -227,39 +249,80 @@ pub record FoldFits (f : FnRef) (from : Value) (values : List Value) : Type 0 wh
   pub first : type_of from ≡ f.sig.gives
   pub types : Every (λ v. type_of v ≡ element) values
 
+-- a node's function is called on the values of these nodes whatever it was last called on: it is stale, or one of the nodes forces it
+abbrev pub MustCall : Bool → ℕ → Rows Progress → List NodeId → Type 0
+MustCall stale round rows nodes = (stale ≡ true) ⊎ IsForcedBy round rows nodes
+
 -- what is known of a node's outcome before its function is called: it is Invalid where a child shows no value, and what the last calls gave where the
--- children show what these were made on and it isn't forced; else the function is to be called
-abbrev pub IsKnown : ℕ → Rows Progress → NodeId → List NodeId → Option Outcome → Type 0
-IsKnown round rows n nodes (Some Invalid) = AllShow rows nodes → ⊥
-IsKnown round rows n nodes (Some (Val v)) =
-    (c : Call) × LastWas rows n c × AllZip (ShowsValue rows) nodes c.arguments × (v ≡ c.result) × (IsForcedBy round rows nodes → ⊥)
-IsKnown round rows n nodes None =
-    AllShow rows nodes × (((c : Call) → LastWas rows n c → AllZip (ShowsValue rows) nodes c.arguments → ⊥) ⊎ IsForcedBy round rows nodes)
+-- children show what these were made on and nothing asks for a call; else the function is to be called
+abbrev pub IsKnown : Bool → ℕ → Rows Progress → NodeId → List NodeId → Option Outcome → Type 0
+IsKnown stale round rows n nodes (Some Invalid) = AllShow rows nodes → ⊥
+IsKnown stale round rows n nodes (Some (Val v)) =
+    (c : Call) × LastWas rows n c × AllZip (ShowsValue rows) nodes c.arguments × (v ≡ c.result) × (MustCall stale round rows nodes → ⊥)
+IsKnown stale round rows n nodes None =
+    AllShow rows nodes × (((c : Call) → LastWas rows n c → AllZip (ShowsValue rows) nodes c.arguments → ⊥) ⊎ MustCall stale round rows nodes)
+
+-- a node's function is due on the values that these nodes are seen to show
+pub record IsDueOn (stale : Bool) (n : NodeId) (round : ℕ) (rows : Rows Progress) (nodes : List NodeId) : Type 0 where
+  pub values : List Value
+  pub shows : seen_together rows nodes ≡ Values values
+  pub reason : ReasonIn (λ (m : NodeId). stale) round rows n nodes values
+
+-- what a node's function was last called on after the node was computed of what these nodes show: it was due and was called, or that stays
+abbrev pub CallsOn : (List Value → Value) → Bool → NodeId → ℕ → Rows Progress → List NodeId → Option Call → Option Call → Bool → Type 0
+CallsOn answer stale n round rows nodes last last' false = (last' ≡ last)
+    × ((values : List Value) → seen_together rows nodes ≡ Values values
+    → (c : Call) × (last ≡ Some c) × (c.arguments ≡ values) × (ReasonIn (λ (m : NodeId). stale) round rows n nodes values → ⊥))
+CallsOn answer stale n round rows nodes last last' true =
+    (due : IsDueOn stale n round rows nodes) × (last' ≡ Some (record { arguments = due.values; result = answer due.values }))
 
 -- a node was computed of what is seen of its children: a value that it gives is what its function gave when it was last called, then or now
-pub record ComputesCall (F : Functions) (answer : List Value → Value) (t : Ty) (round : ℕ) (old new : Noted) (n : NodeId) (def : Def)
-    (nodes : List NodeId) (o : Outcome) (cost : ℕ) : Type 0 where
+pub record ComputesCall (answer : List Value → Value) (t : Ty) (stale : Bool) (round : ℕ) (old new : Noted) (n : NodeId) (nodes : List NodeId) (o : Outcome)
+    (cost : ℕ) : Type 0 where
   pub kept : Progress
   pub is_kept : at old.rows (main n) ≡ Some kept
   pub last : Option Call
   pub called : Bool
-  pub calls : (G : Graph) → CallsSeen F G n round old.rows def kept.last last called
+  pub calls : CallsOn answer stale n round old.rows nodes kept.last last called
   pub gives : ((c : Call) → kept.last ≡ Some c → c.result ≡ answer c.arguments) → (seen_together old.rows nodes ≡ Unknown → ⊥)
       → given answer (seen_together old.rows nodes) ≡ Some o
   pub row : IsRewritten old.rows new.rows (main n) (with_last last)
   pub ran : new.ran ≡ ran_then (calls_of called cost) old.ran n
   pub count : RoseBy old.calls (calls_of called cost) new.calls
   pub shows : (v : Value) → o ≡ Val v → (c : Call) × (last ≡ Some c) × (c.result ≡ v)
-  pub answer_typed : (c : Call) → last ≡ Some c → (kept.last ≡ Some c) ⊎ (type_of c.result ≡ t)
+  pub answer_typed : (c : Call) → last ≡ Some c
+      → (kept.last ≡ Some c) ⊎ ((type_of c.result ≡ t) × AllZip (ShowsValue old.rows) nodes c.arguments)
 
 -- without memory nothing is kept of calls; where some were made, and no more than it takes, the node's function was due
-pub record NotCalled (round : ℕ) (old new : Noted) (n : NodeId) (def : Def) (cost : ℕ) : Type 0 where
+pub record NotCalled (stale : Bool) (round : ℕ) (old new : Noted) (n : NodeId) (nodes : List NodeId) (cost : ℕ) : Type 0 where
   pub rows : KeepsRows old.rows new.rows
   pub ran : new.ran ≡ old.ran
-  pub count : (new.calls ≡ old.calls) ⊎ (((G : Graph) → IsSeenDue G n round old.rows def) × RoseAtMost old.calls cost new.calls)
+  pub count : (new.calls ≡ old.calls) ⊎ (IsDueOn stale n round old.rows nodes × RoseAtMost old.calls cost new.calls)
 
 -- how computing a node of what is seen of its children ends: it is computed, or there was no memory
-abbrev pub CallComputes : Functions → (List Value → Value) → Ty → ℕ → Noted → Noted → NodeId → Def → List NodeId → ℕ
-    → {E : Type 0} → Result Outcome E → Type 0
-CallComputes F answer t round old new n def nodes cost (Ok o) = ComputesCall F answer t round old new n def nodes o cost
-CallComputes F answer t round old new n def nodes cost (Err e) = NotCalled round old new n def cost
+abbrev pub CallComputes : (List Value → Value) → Ty → Bool → ℕ → Noted → Noted → NodeId → List NodeId → ℕ → {E : Type 0} → Result Outcome E → Type 0
+CallComputes answer t stale round old new n nodes cost (Ok o) = ComputesCall answer t stale round old new n nodes o cost
+CallComputes answer t stale round old new n nodes cost (Err e) = NotCalled stale round old new n nodes cost
+
+-- what a node shows, or Invalid where nothing is seen of it
+abbrev pub IsShown : Rows Progress → NodeId → Outcome → Type 0
+IsShown rows n o = (seen rows (main n) ≡ Some o) ⊎ ((seen rows (main n) ≡ None) × (o ≡ Invalid))
+
+-- how computing a freeze that keeps no value ends: it gives what its child shows, and its predicate was called on that where it had to be; or there was no
+-- memory
+abbrev pub FreezeComputes : (List Value → Value) → Ty → ℕ → Noted → Noted → NodeId → NodeId → {E : Type 0} → Result Outcome E → Type 0
+FreezeComputes answer t round old new n kid (Ok o) =
+    (found : Outcome) × IsShown old.rows kid o × ComputesCall answer t false round old new n (kid ∷ []) found 1
+FreezeComputes answer t round old new n kid (Err e) = NotCalled false round old new n (kid ∷ []) 1
+
+-- how computing a freeze that keeps a value ends: it gives that, or there was no memory; nothing is called
+abbrev pub KeepsOn : Value → Noted → Noted → {E : Type 0} → Result Outcome E → Type 0
+KeepsOn v old new (Ok o) = (o ≡ Val v) × (new ≡ old)
+KeepsOn v old new (Err e) = new ≡ old
+
+-- ---- experts
+
+-- once a node was computed, the same links are seen of each expert, and the node isn't stale any more; without memory those are stale that were
+abbrev pub ExpertsFollow : List ExpertPlace → List ExpertPlace → NodeId → {E : Type 0} → Result Outcome E → Type 0
+ExpertsFollow old new n (Ok o) = Unmarks old new n
+ExpertsFollow old new n (Err e) = SameExperts old new

@@ -7,6 +7,7 @@ use Rattle.inc_value.specs.declared.value.Value.{Value}
 use Rattle.map_nodes.specs.declared.cutoff.Cutoff.{Cutoff}
 use Rattle.map_nodes.specs.declared.cutoff.Cutoff.TheVariants.{Equal, Never}
 use Rattle.point_map.specs.Rows.{Rows, at, SamePoints}
+use Rattle.stabilize_round.specs.Freezing.{found}
 use Rattle.stabilize_round.specs.State as machine
 use Rattle.node_outcomes.specs.declared.row.Progress.{Progress}
 use Rattle.node_outcomes.specs.declared.row.Stage.{Stage}
@@ -14,27 +15,50 @@ use Rattle.node_outcomes.specs.declared.row.Stage.TheVariants as stage
 
 -- the row with another stage
 abbrev pub with_stage : Stage → Progress → Progress
-with_stage s k = record { stage = s; settled = k.settled; outcome = k.outcome; last = k.last; cutoff = k.cutoff }
+with_stage s k = record { stage = s; settled = k.settled; outcome = k.outcome; last = k.last; cutoff = k.cutoff; frozen = k.frozen }
 
 -- the row with another outcome, settled in a round
 abbrev pub with_outcome : Outcome → ℕ → Progress → Progress
-with_outcome o round k = record { stage = k.stage; settled = round; outcome = Some o; last = k.last; cutoff = k.cutoff }
+with_outcome o round k = record { stage = k.stage; settled = round; outcome = Some o; last = k.last; cutoff = k.cutoff; frozen = k.frozen }
 
 -- the row with no outcome
 abbrev pub without_outcome : Progress → Progress
-without_outcome k = record { stage = k.stage; settled = k.settled; outcome = None; last = k.last; cutoff = k.cutoff }
+without_outcome k = record { stage = k.stage; settled = k.settled; outcome = None; last = k.last; cutoff = k.cutoff; frozen = k.frozen }
 
 -- the row with another last call
 abbrev pub with_call : machine.Call → Progress → Progress
-with_call c k = record { stage = k.stage; settled = k.settled; outcome = k.outcome; last = Some c; cutoff = k.cutoff }
+with_call c k = record { stage = k.stage; settled = k.settled; outcome = k.outcome; last = Some c; cutoff = k.cutoff; frozen = k.frozen }
 
 -- the row with another last call, or none
 abbrev pub with_last : Option machine.Call → Progress → Progress
-with_last c k = record { stage = k.stage; settled = k.settled; outcome = k.outcome; last = c; cutoff = k.cutoff }
+with_last c k = record { stage = k.stage; settled = k.settled; outcome = k.outcome; last = c; cutoff = k.cutoff; frozen = k.frozen }
 
 -- the row with another cutoff
 abbrev pub with_cutoff : Cutoff → Progress → Progress
-with_cutoff c k = record { stage = k.stage; settled = k.settled; outcome = k.outcome; last = k.last; cutoff = c }
+with_cutoff c k = record { stage = k.stage; settled = k.settled; outcome = k.outcome; last = k.last; cutoff = c; frozen = k.frozen }
+
+-- the row of a freeze that keeps the value on which its predicate was called last
+abbrev pub with_frozen : Progress → Progress
+with_frozen k = record { stage = k.stage; settled = k.settled; outcome = k.outcome; last = k.last; cutoff = k.cutoff; frozen = true }
+
+-- the value that a row's freeze keeps: that of its last call
+abbrev pub kept_by : Bool → Option machine.Call → Option Value
+kept_by false last = None
+kept_by true last = found last
+
+-- the value that a freeze keeps, if it keeps one
+abbrev pub kept_in : Option Progress → Option Value
+kept_in None = None
+kept_in (Some k) = kept_by k.frozen k.last
+
+-- the value of which the predicate of a freeze that keeps none was last found true
+abbrev pub fires_by : Bool → Option machine.Call → Option Value
+fires_by false last = found last
+fires_by true last = None
+
+abbrev pub fires_in : Option Progress → Option Value
+fires_in None = None
+fires_in (Some k) = fires_by k.frozen k.last
 
 -- a point's row is changed so, and all other rows stay
 pub record IsRewritten (old new : Rows Progress) (p : Point) (change : Progress → Progress) : Type 0 where

@@ -34,7 +34,9 @@ pub fn right_side(
         | Def::At(_)
         | Def::Steps(_, _)
         | Def::Now
-        | Def::Every { .. } => def.right_side(given),
+        | Def::Every { .. }
+        | Def::Freeze { .. }
+        | Def::Expert { .. } => def.right_side(given),
     }
 }
 

@@ -12,7 +12,7 @@ pub use choosing::{ran_with, right_side};
 pub use last_call::{Called, LastCall};
 pub use outcome::compute;
 pub use row::{
-    Progress, Stage, forget_outcome, is_bare, is_full, is_gated, is_static, set_cutoff,
-    set_outcome, set_stage, stage_of, unsettled, was_settled,
+    Progress, Stage, fires, forget_outcome, freeze, is_bare, is_frozen, is_full, is_gated,
+    is_static, set_cutoff, set_outcome, set_stage, stage_of, unsettled, was_settled,
 };
 pub use sight::shown;

@@ -1,5 +1,5 @@
 //! What a node gives by its own function of what its children show.
-ghost use Rattle.std.specs.Prelude.{◌≡◌, ◌≤ℤ◌, pos, true, Some, List, length, IsTrue, IfOk, OnErr, vec_capacity};
+ghost use Rattle.std.specs.Prelude.{◌≡◌, ◌↔◌, ◌≤ℤ◌, ◌∷◌, [], pos, true, false, Some, List, length, IsTrue, IfOk, IfSome, IfNone, OnErr, vec_capacity};
 ghost use Rattle.std.specs.List.{AllZip};
 ghost use Rattle.inc_value.specs.Value.{HaveTypes, type_of};
 ghost use Rattle.inc_value.specs.declared.ty.Ty.TheVariants.{Text};
@@ -8,54 +8,61 @@ ghost use Rattle.inc_terms.specs.Clock.{clock_value, reads_clock, IsTimed};
 ghost use Rattle.inc_terms.specs.Code.{def_of};
 ghost use Rattle.inc_terms.specs.Depend.{main};
 ghost use Rattle.inc_terms.specs.Evaluate.{folded};
-ghost use Rattle.inc_terms.specs.Graph.{Map, Fold};
-ghost use Rattle.point_map.specs.Rows.{Holds};
+ghost use Rattle.expert_nodes.specs.Experts.{IsCreated, is_stale_at, kids_at};
+ghost use Rattle.point_map.specs.Rows.{Holds, at};
 ghost use Rattle.node_arena.specs.Arena.{IsLive};
-ghost use Rattle.node_arena.specs.Graph.{AllCallFit};
+ghost use Rattle.node_arena.specs.Graph.{AllCallFit, graph_of};
 ghost use Rattle.node_arena.specs.RightSideLaws.{ids_of};
 ghost use Rattle.node_arena.specs.Sound.{IsSoundArena};
 ghost use Rattle.stabilize_round.specs.State.{Call};
 ghost use Rattle.node_outcomes.specs.Choosing.{held_in};
-ghost use Rattle.node_outcomes.specs.Computing.{CallComputes, Ends, IsKnown, KeepsTypes};
-ghost use Rattle.node_outcomes.specs.Computing.{FoldFits, LastWas, ShowsValue, noted};
-ghost use Rattle.node_outcomes.specs.Lacking.{CallLacks, NodeLacksRoom};
+ghost use Rattle.node_outcomes.specs.Computing.{AreExperts, CallComputes, Ends, ExpertsFollow, FoldFits, FreezeComputes, IsKnown, KeepsOn, KeepsTypes};
+ghost use Rattle.node_outcomes.specs.Computing.{LastWas, MustCall, ShowsValue, noted};
+ghost use Rattle.node_outcomes.specs.Lacking.{CallLacks, FreezeLacks, NodeLacksRoom, UnfrozenLacks};
 ghost use Rattle.node_outcomes.specs.Meaning.{functions_of, KeepsFunctions, WantsFollow};
+ghost use Rattle.node_outcomes.specs.Row.{kept_in};
 
 use crate::call::{call_fold, call_map};
 use crate::choosing::right_side;
-use crate::row::Progress;
+use crate::row::{Progress, kept_value};
 use crate::sight::{is_forced, last_call, show, show_values, shown};
+use expert_nodes::Experts;
 use inc_terms::Def;
 use inc_value::{FnKind, FnRef, NodeId, Outcome, Value};
 use node_arena::{Arena, Functions};
 use point_map::PointMap;
 use std::alloc::{AllocError, Global};
 
-/// What a node gives. A map's or a fold's function is called unless it was last called on the same
-/// values of its children, none of which has cutoff Never and was settled in this round. A node of two
-/// points gives what the right side shows that its change chose, and Invalid where it chose none; a bind's is
-/// its root, which stands among the roots by its change. A node that reads the clock gives what it shows at the arena's
-/// time.
+/// What a node gives. A map's or a fold's function, a freeze's predicate and an expert's function are called unless they
+/// were last called on the same values of the node's children, none of which has cutoff Never and was settled in this
+/// round, and the expert wasn't made stale, which it isn't any more then. A freeze gives the value that it keeps, or what
+/// its child shows. A node of two points gives what the right side shows that its change chose, and Invalid where it chose
+/// none; a bind's is its root, which stands among the roots by its change. A node that reads the clock gives what it shows
+/// at the arena's time.
 pub fn compute<F: Functions>(
     alloc: Global,
     arena: &Arena,
     rows: &mut PointMap<Progress>,
     roots: &PointMap<NodeId>,
+    experts: &mut Experts,
     ran: &mut Vec<NodeId>,
     round: u64,
     functions: &mut F,
     node: NodeId,
 ) -> Result<Outcome, AllocError>
-    requires types { KeepsTypes arena.now (held_in arena.now rows.old roots.now) rows.old }
+    requires types { KeepsTypes arena.now (held_in arena.now rows.old roots.now experts.old) rows.old }
+    requires experts { AreExperts arena.now experts.old }
     requires live { IsLive arena.now node }
     requires sound { F.is_sound functions.old }
     requires fit { AllCallFit (F.known functions.old) (ids_of (F.right functions.old)) arena.now }
     requires arena { IsSoundArena arena.now }
     ensures computed { Ends (functions_of F.Functions functions.old) arena.now
-        (held_in arena.now rows.old roots.now) round (noted rows.old ran.old.items (F.calls functions.old))
-        (noted rows.new ran.new.items (F.calls functions.new)) node result }
+        (held_in arena.now rows.old roots.now experts.old) (is_stale_at experts.old) round
+        (noted rows.old ran.old.items (F.calls functions.old)) (noted rows.new ran.new.items (F.calls functions.new)) node result }
+    ensures experts { ExpertsFollow experts.old experts.new node result }
     ensures functions { KeepsFunctions F.Functions functions.old functions.new }
-    ensures wants { WantsFollow (NodeLacksRoom arena.now round rows.old (vec_capacity ran.old) (length ran.old.items) node) result
+    ensures wants { WantsFollow (NodeLacksRoom (graph_of arena.now (held_in arena.now rows.old roots.now experts.old))
+        (is_stale_at experts.old) round rows.old (vec_capacity ran.old) (length ran.old.items) node) result
         (F.wants functions.old) (F.wants functions.new) }
 {
     let row = arena.get(node).unwrap();
@@ -76,7 +83,14 @@ pub fn compute<F: Functions>(
             node,
             f,
             initial,
+            false,
             kids.as_slice(),
+        ),
+        Def::Freeze { kid, function } => {
+            compute_freeze(alloc, rows, ran, round, functions, node, function, *kid)
+        }
+        Def::Expert { function, initial } => compute_expert(
+            alloc, rows, experts, ran, round, functions, node, function, initial,
         ),
         Def::At(_) | Def::Steps(_, _) | Def::Now | Def::Every { .. } => {
             by_clock(alloc, &row.def, arena.time())
@@ -105,7 +119,133 @@ fn by_clock(alloc: Global, def: &Def, time: i64) -> Result<Outcome, AllocError>
     }
 }
 
-/// What a map gives.
+/// What a freeze gives: the value that it keeps, or what its child shows. Its predicate is called on a value of the child
+/// unless it was last called on that.
+fn compute_freeze<F: Functions>(
+    alloc: Global,
+    rows: &mut PointMap<Progress>,
+    ran: &mut Vec<NodeId>,
+    round: u64,
+    functions: &mut F,
+    node: NodeId,
+    f: &FnRef,
+    kid: NodeId,
+) -> Result<Outcome, AllocError>
+    requires there { Holds rows.old (main node) }
+    requires sound { F.is_sound functions.old }
+    requires known { IsTrue (F.known functions.old f.now) }
+    requires kind { f.now.id.kind ≡ FnKind.Map }
+    requires fit { (values : List Value) → AllZip (ShowsValue rows.old) (kid ∷ []) values
+        → HaveTypes values f.now.sig.takes }
+    ensures kept { IfSome (kept_in (at rows.old (main node))) (λ v. KeepsOn v (noted rows.old ran.old.items (F.calls functions.old))
+        (noted rows.new ran.new.items (F.calls functions.new)) result) }
+    ensures computed { IfNone (kept_in (at rows.old (main node))) (FreezeComputes (F.value functions.old f.now) f.now.sig.gives round
+        (noted rows.old ran.old.items (F.calls functions.old)) (noted rows.new ran.new.items (F.calls functions.new)) node kid result) }
+    ensures functions { KeepsFunctions F.Functions functions.old functions.new }
+    ensures wants { WantsFollow (FreezeLacks round rows.old (vec_capacity ran.old) (length ran.old.items) node f.now.sig.gives kid)
+        result (F.wants functions.old) (F.wants functions.new) }
+{
+    if let Some(value) = kept_value(rows, node) {
+        return match value.copy(alloc) {
+            Ok(copy) => Ok(Outcome::Val(copy)),
+            Err(AllocError) => Err(AllocError),
+        };
+    }
+    compute_unfrozen(alloc, rows, ran, round, functions, node, f, kid)
+}
+
+/// What a freeze gives that keeps no value.
+fn compute_unfrozen<F: Functions>(
+    alloc: Global,
+    rows: &mut PointMap<Progress>,
+    ran: &mut Vec<NodeId>,
+    round: u64,
+    functions: &mut F,
+    node: NodeId,
+    f: &FnRef,
+    kid: NodeId,
+) -> Result<Outcome, AllocError>
+    requires there { Holds rows.old (main node) }
+    requires sound { F.is_sound functions.old }
+    requires known { IsTrue (F.known functions.old f.now) }
+    requires kind { f.now.id.kind ≡ FnKind.Map }
+    requires fit { (values : List Value) → AllZip (ShowsValue rows.old) (kid ∷ []) values
+        → HaveTypes values f.now.sig.takes }
+    ensures computed { FreezeComputes (F.value functions.old f.now) f.now.sig.gives round
+        (noted rows.old ran.old.items (F.calls functions.old)) (noted rows.new ran.new.items (F.calls functions.new)) node kid result }
+    ensures functions { KeepsFunctions F.Functions functions.old functions.new }
+    ensures wants { WantsFollow (UnfrozenLacks round rows.old (vec_capacity ran.old) (length ran.old.items) node f.now.sig.gives kid)
+        result (F.wants functions.old) (F.wants functions.new) }
+{
+    // Copied first: a call that is kept is never left without an outcome.
+    let outcome = match shown(alloc, rows, kid) {
+        Ok(outcome) => outcome,
+        Err(AllocError) => return Err(AllocError),
+    };
+    match compute_map(alloc, rows, ran, round, functions, node, f, &[kid]) {
+        Ok(found) => {
+            drop(found);
+            Ok(outcome)
+        }
+        Err(AllocError) => {
+            drop(outcome);
+            Err(AllocError)
+        }
+    }
+}
+
+/// What an expert gives. One that is stale is called whatever it was last called on, where all that it reads show values.
+/// Then it isn't stale any more, whatever it gives.
+fn compute_expert<F: Functions>(
+    alloc: Global,
+    rows: &mut PointMap<Progress>,
+    experts: &mut Experts,
+    ran: &mut Vec<NodeId>,
+    round: u64,
+    functions: &mut F,
+    node: NodeId,
+    f: &FnRef,
+    initial: &Value,
+) -> Result<Outcome, AllocError>
+    requires created { IsCreated experts.old node }
+    requires there { Holds rows.old (main node) }
+    requires sound { F.is_sound functions.old }
+    requires known { IsTrue (F.known functions.old f.now) }
+    requires kind { f.now.id.kind ≡ FnKind.Map }
+    requires fit { (values : List Value) → AllZip (ShowsValue rows.old) (kids_at experts.old node) values
+        → FoldFits f.now initial.now values }
+    ensures computed { CallComputes (folded (F.value functions.old f.now) initial.now) f.now.sig.gives (is_stale_at experts.old node) round
+        (noted rows.old ran.old.items (F.calls functions.old)) (noted rows.new ran.new.items (F.calls functions.new)) node
+        (kids_at experts.old node) (length (kids_at experts.old node)) result }
+    ensures experts { ExpertsFollow experts.old experts.new node result }
+    ensures functions { KeepsFunctions F.Functions functions.old functions.new }
+    ensures wants { WantsFollow (CallLacks (λ m. is_stale_at experts.old node) round rows.old (vec_capacity ran.old) (length ran.old.items) node
+        f.now.sig.gives (kids_at experts.old node)) result (F.wants functions.old) (F.wants functions.new) }
+{
+    experts.tidy(node);
+    let stale = experts.is_stale(node);
+    let computed = compute_fold(
+        alloc,
+        rows,
+        ran,
+        round,
+        functions,
+        node,
+        f,
+        initial,
+        stale,
+        experts.kids(node),
+    );
+    match computed {
+        Ok(outcome) => {
+            experts.clear_stale(node);
+            Ok(outcome)
+        }
+        Err(AllocError) => Err(AllocError),
+    }
+}
+
+/// What a node gives whose function takes the nodes' values, as a map's does.
 fn compute_map<F: Functions>(
     alloc: Global,
     rows: &mut PointMap<Progress>,
@@ -122,21 +262,21 @@ fn compute_map<F: Functions>(
     requires kind { f.now.id.kind ≡ FnKind.Map }
     requires fit { (values : List Value) → AllZip (ShowsValue rows.old) kids.now values
         → HaveTypes values f.now.sig.takes }
-    ensures computed { CallComputes (functions_of F.Functions functions.old) (F.value functions.old f.now) f.now.sig.gives round
+    ensures computed { CallComputes (F.value functions.old f.now) f.now.sig.gives false round
         (noted rows.old ran.old.items (F.calls functions.old))
-        (noted rows.new ran.new.items (F.calls functions.new)) node (Map f.now kids.now) kids.now 1 result }
+        (noted rows.new ran.new.items (F.calls functions.new)) node kids.now 1 result }
     ensures functions { KeepsFunctions F.Functions functions.old functions.new }
-    ensures wants { WantsFollow (CallLacks round rows.old (vec_capacity ran.old) (length ran.old.items) node f.now.sig.gives kids.now)
+    ensures wants { WantsFollow (CallLacks (λ m. false) round rows.old (vec_capacity ran.old) (length ran.old.items) node f.now.sig.gives kids.now)
         result (F.wants functions.old) (F.wants functions.new) }
 {
-    match known_outcome(alloc, rows, round, node, kids) {
+    match known_outcome(alloc, rows, round, node, false, kids) {
         Ok(Some(outcome)) => Ok(outcome),
         Ok(None) => call_map(alloc, rows, ran, functions, node, f, kids),
         Err(AllocError) => Err(AllocError),
     }
 }
 
-/// What a fold gives.
+/// What a node gives whose function is folded over the nodes' values. A stale one is called whatever it was last called on.
 fn compute_fold<F: Functions>(
     alloc: Global,
     rows: &mut PointMap<Progress>,
@@ -146,6 +286,7 @@ fn compute_fold<F: Functions>(
     node: NodeId,
     f: &FnRef,
     initial: &Value,
+    stale: bool,
     kids: &[NodeId],
 ) -> Result<Outcome, AllocError>
     requires there { Holds rows.old (main node) }
@@ -154,37 +295,44 @@ fn compute_fold<F: Functions>(
     requires kind { f.now.id.kind ≡ FnKind.Map }
     requires fit { (values : List Value) → AllZip (ShowsValue rows.old) kids.now values
         → FoldFits f.now initial.now values }
-    ensures computed { CallComputes (functions_of F.Functions functions.old) (folded (F.value functions.old f.now) initial.now)
-        f.now.sig.gives round (noted rows.old ran.old.items (F.calls functions.old))
-        (noted rows.new ran.new.items (F.calls functions.new)) node (Fold f.now initial.now kids.now) kids.now
-        (length kids.now) result }
+    ensures computed { CallComputes (folded (F.value functions.old f.now) initial.now) f.now.sig.gives stale round
+        (noted rows.old ran.old.items (F.calls functions.old))
+        (noted rows.new ran.new.items (F.calls functions.new)) node kids.now (length kids.now) result }
     ensures functions { KeepsFunctions F.Functions functions.old functions.new }
-    ensures wants { WantsFollow (CallLacks round rows.old (vec_capacity ran.old) (length ran.old.items) node f.now.sig.gives kids.now)
+    ensures wants { WantsFollow (CallLacks (λ m. stale) round rows.old (vec_capacity ran.old) (length ran.old.items) node f.now.sig.gives kids.now)
         result (F.wants functions.old) (F.wants functions.new) }
 {
-    match known_outcome(alloc, rows, round, node, kids) {
+    match known_outcome(alloc, rows, round, node, stale, kids) {
         Ok(Some(outcome)) => Ok(outcome),
         Ok(None) => call_fold(alloc, rows, ran, functions, node, f, initial, kids),
         Err(AllocError) => Err(AllocError),
     }
 }
 
+/// Whether a node's function is called whatever it was last called on.
+fn must_call(rows: &PointMap<Progress>, round: u64, stale: bool, kids: &[NodeId]) -> bool
+    ensures { IsTrue result ↔ MustCall stale round rows.now kids.now }
+{
+    stale || is_forced(rows, round, kids)
+}
+
 /// What a node gives whose function need not be called: Invalid where a child shows no value, and
-/// what was given last where it was last called on the values that its children show, unless one
+/// what was given last where it was last called on the values that its children show, unless the node is stale, or a child
 /// of cutoff Never was settled in this round.
 fn known_outcome(
     alloc: Global,
     rows: &PointMap<Progress>,
     round: u64,
     node: NodeId,
+    stale: bool,
     kids: &[NodeId],
 ) -> Result<Option<Outcome>, AllocError>
-    ensures known { IfOk result (λ o. IsKnown round rows.now node kids.now o) }
+    ensures known { IfOk result (λ o. IsKnown stale round rows.now node kids.now o) }
     ensures lacks { OnErr result ((c : Call) × LastWas rows.now node c × (type_of c.result ≡ Text)) }
 {
     if let Some(last) = last_call(rows, node) {
         if show(rows, kids, last.arguments) {
-            if is_forced(rows, round, kids) {
+            if must_call(rows, round, stale, kids) {
                 return Ok(None);
             }
             return match last.result.copy(alloc) {

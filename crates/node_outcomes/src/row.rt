@@ -1,9 +1,11 @@
 //! How far a point has come.
-ghost use Rattle.std.specs.Prelude.{◌≡◌, ◌↔◌, None, Some, IsTrue};
+ghost use Rattle.std.specs.Prelude.{◌≡◌, ◌↔◌, false, true, None, Some, IsTrue, is_some, option_copied};
+ghost use Rattle.inc_terms.specs.Depend.{main};
 ghost use Rattle.point_map.specs.Rows.{at, Holds};
 ghost use Rattle.node_outcomes.specs.declared.row.Progress.{Progress as Row};
-ghost use Rattle.node_outcomes.specs.Row.{with_stage, with_outcome, without_outcome, with_call, with_cutoff, stage_in, settled_in, IsRewritten};
+ghost use Rattle.node_outcomes.specs.Row.{with_stage, with_outcome, without_outcome, with_call, with_cutoff, with_frozen, fires_in, kept_in, stage_in, settled_in, IsRewritten};
 ghost use Rattle.map_nodes.specs.Cutoff.{IsStopped};
+ghost use Rattle.stabilize_round.specs.Freezing.{found};
 
 use crate::last_call::LastCall;
 use inc_value::{NodeId, Outcome, Part, Point, Value};
@@ -25,8 +27,9 @@ pub enum Stage {
 }
 
 /// What is kept of a point of a live node: its links' stage, the round in which it was settled last, its outcome,
-/// the last call of its node's function, and, of a main, its node's cutoff. The outcome of a change is that of its
-/// subject with which it ran last. No round has the number 0.
+/// the last call of its node's function, and, of a main, its node's cutoff, and whether the node is a freeze that keeps
+/// the value on which its predicate was called last. The outcome of a change is that of its subject with which it ran
+/// last. No round has the number 0.
 #[derive(Drop)]
 pub struct Progress {
     pub stage: Stage,
@@ -34,11 +37,12 @@ pub struct Progress {
     pub outcome: Option<Outcome>,
     pub last: LastCall,
     pub cutoff: Cutoff,
+    pub frozen: bool,
 }
 
 /// A point that was never settled.
 pub fn unsettled() -> Progress
-    ensures { result ≡ record { stage = Stage.Bare; settled = 0; outcome = None; last = None; cutoff = Cutoff.Equal } }
+    ensures { result ≡ record { stage = Stage.Bare; settled = 0; outcome = None; last = None; cutoff = Cutoff.Equal; frozen = false } }
 {
     Progress {
         stage: Stage::Bare,
@@ -46,6 +50,7 @@ pub fn unsettled() -> Progress
         outcome: None,
         last: LastCall::none(),
         cutoff: Cutoff::Equal,
+        frozen: false,
     }
 }
 
@@ -186,6 +191,51 @@ pub(crate) fn keep_fold(
 {
     let row = rows.get_mut(p).unwrap();
     row.last.keep_fold(kids, value);
+}
+
+/// A freeze keeps the value on which its predicate was called last.
+pub fn freeze(rows: &mut PointMap<Progress>, p: Point)
+    requires there { Holds rows.old p }
+    ensures { IsRewritten rows.old rows.new p with_frozen }
+{
+    let row = rows.get_mut(p).unwrap();
+    row.frozen = true;
+}
+
+/// The value on which a predicate was called last, if it was found true of it.
+fn found(row: &Progress) -> Option<&Value>
+    ensures { option_copied result ≡ found row.now.last }
+{
+    let last = row.last.get()?;
+    match (last.arguments, last.result) {
+        ([value], Value::Bool(true)) => Some(value),
+        _ => None,
+    }
+}
+
+/// The value that a freeze keeps, if it keeps one.
+pub(crate) fn kept_value(rows: &PointMap<Progress>, node: NodeId) -> Option<&Value>
+    ensures { option_copied result ≡ kept_in (at rows.now (main node)) }
+{
+    let row = rows.get(Point::main(node))?;
+    if row.frozen { found(row) } else { None }
+}
+
+/// Whether a freeze keeps a value.
+pub fn is_frozen(rows: &PointMap<Progress>, node: NodeId) -> bool
+    ensures { result ≡ is_some (kept_in (at rows.now (main node))) }
+{
+    kept_value(rows, node).is_some()
+}
+
+/// Whether a freeze that keeps no value is to keep one: its predicate was last found true.
+pub fn fires(rows: &PointMap<Progress>, node: NodeId) -> bool
+    ensures { result ≡ is_some (fires_in (at rows.now (main node))) }
+{
+    match rows.get(Point::main(node)) {
+        Some(row) => !row.frozen && found(row).is_some(),
+        None => false,
+    }
 }
 
 /// Sets a node's cutoff.

@@ -1,6 +1,5 @@
-use Rattle.std.proofs.Common.{inl, inr, None, refl, subst}
+use Rattle.std.proofs.Common.{inl, inr, false, None, refl, subst}
 use Rattle.inc_value.specs.Value.{HaveTypes}
-use Rattle.inc_terms.specs.Graph.{Map}
 use Rattle.node_outcomes.specs.Computing.{IsKnown, noted}
 use Rattle.node_outcomes.specs.Meaning.{functions_of}
 use Rattle.node_outcomes.proofs.Computing.{known_computes, ends_computes, all_fit}
@@ -11,7 +10,7 @@ pub call_map-requires-clause-fit : goal.call_map-requires-clause-fit
 call_map-requires-clause-fit g c =
     let rows = c.args.rows.now in
     let kids = c.args.kids.now in
-    let known : IsKnown c.args.round rows c.args.node kids None = subst (λ o. IsKnown c.args.round rows c.args.node kids o) c.in-Ok-None.field-0-is c.in-Ok-None.ensures.known in
+    let known : IsKnown false c.args.round rows c.args.node kids None = subst (λ o. IsKnown false c.args.round rows c.args.node kids o) c.in-Ok-None.field-0-is c.in-Ok-None.ensures.known in
     all_fit rows (λ values. HaveTypes values c.args.f.now.sig.takes) kids c.requires.fit known.0
 
 pub returns-in-Ok-Some-clause-computed : goal.returns-in-Ok-Some-clause-computed
@@ -19,19 +18,19 @@ returns-in-Ok-Some-clause-computed g c =
     let F = functions_of g.F.Functions c.args.functions.now in
     let f = c.args.f.now in
     let kids = c.args.kids.now in
-    known_computes F (F.value f) f.sig.gives c.args.round (noted c.args.rows.now c.args.ran.now.items (g.F.Functions.calls c.args.functions.now))
-    c.args.node (Map f kids) kids 1 (λ G. refl) (λ values. refl) c.requires.there c.in-Ok-Some.outcome
-    (subst (λ o. IsKnown c.args.round c.args.rows.now c.args.node kids o) c.in-Ok-Some.field-0-is c.in-Ok-Some.ensures.known)
+    known_computes (F.value f) f.sig.gives false c.args.round (noted c.args.rows.now c.args.ran.now.items (g.F.Functions.calls c.args.functions.now))
+    c.args.node kids 1 c.requires.there c.in-Ok-Some.outcome
+    (subst (λ o. IsKnown false c.args.round c.args.rows.now c.args.node kids o) c.in-Ok-Some.field-0-is c.in-Ok-Some.ensures.known)
 
 pub returns-in-Ok-None-clause-computed : goal.returns-in-Ok-None-clause-computed
 returns-in-Ok-None-clause-computed g c =
     let F = functions_of g.F.Functions c.args.functions.now in
     let f = c.args.f.now in
     let kids = c.args.kids.now in
-    ends_computes F (F.value f) f.sig.gives c.args.round (noted c.args.rows.now c.args.ran.now.items (g.F.Functions.calls c.args.functions.now))
-    c.args.node (Map f kids) kids 1 (λ G. refl) (λ values. refl) c.requires.there
+    ends_computes (F.value f) f.sig.gives false c.args.round (noted c.args.rows.now c.args.ran.now.items (g.F.Functions.calls c.args.functions.now))
+    c.args.node kids 1 c.requires.there
     (noted c.call_map.new.rows c.call_map.new.ran.items (g.F.Functions.calls c.call_map.new.functions)) c.call_map.result
-    (subst (λ o. IsKnown c.args.round c.args.rows.now c.args.node kids o) c.in-Ok-None.field-0-is c.in-Ok-None.ensures.known) c.call_map.ensures.called
+    (subst (λ o. IsKnown false c.args.round c.args.rows.now c.args.node kids o) c.in-Ok-None.field-0-is c.in-Ok-None.ensures.known) c.call_map.ensures.called
 
 pub returns-in-Err-clause-wants : goal.returns-in-Err-clause-wants
 returns-in-Err-clause-wants g c =
@@ -42,5 +41,5 @@ pub returns-in-Ok-None-clause-wants : goal.returns-in-Ok-None-clause-wants
 returns-in-Ok-None-clause-wants g c =
     let rows = c.args.rows.now in
     let kids = c.args.kids.now in
-    let known : IsKnown c.args.round rows c.args.node kids None = subst (λ o. IsKnown c.args.round rows c.args.node kids o) c.in-Ok-None.field-0-is c.in-Ok-None.ensures.known in
-    lacks_as c.call_map.result _ _ (λ lacks. inr (to_call c.args.round rows c.args.node kids known, lacks)) c.call_map.ensures.wants
+    let known : IsKnown false c.args.round rows c.args.node kids None = subst (λ o. IsKnown false c.args.round rows c.args.node kids o) c.in-Ok-None.field-0-is c.in-Ok-None.ensures.known in
+    lacks_as c.call_map.result _ _ (λ lacks. inr (to_call false c.args.round rows c.args.node kids known, lacks)) c.call_map.ensures.wants
