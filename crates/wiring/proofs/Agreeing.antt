@@ -1,9 +1,8 @@
--- What a live node's points are linked to, look at and agree with, in two arenas in which its row is the same, it shows the same by the clock, and it is
--- built alike.
+-- What a live node's points are linked to, look at and agree with, in two arenas in which its row is the same, it shows the same by the clock, it is built
+-- alike, and keeps the same value and the same list.
 use Rattle.std.proofs.Common.{◌≡◌, inl, ℕ, ℤ, ◌==◌, Bool, true, false, if◌then◌else◌, slice_index_or, List, [], ◌++◌, map, Option, None, Some, refl, sym, ap, subst, ◌∙◌}
 use Rattle.std.specs.Prelude.{is_some, IsSome}
 use Rattle.std.proofs.lemmas.Option.{none-some}
-use Rattle.inc_value.specs.declared.function.FnRef.{FnRef}
 use Rattle.inc_value.specs.declared.node.NodeId.{NodeId}
 use Rattle.inc_value.specs.declared.node.Part.{Part}
 use Rattle.inc_value.specs.declared.node.Part.TheVariants.{Main, Change}
@@ -16,13 +15,13 @@ use Rattle.inc_terms.specs.declared.def.Def as declared
 use Rattle.inc_terms.specs.declared.def.Def.TheVariants as form
 use Rattle.inc_terms.specs.Clock.{clock_value}
 use Rattle.inc_terms.specs.Code.{def_of}
-use Rattle.inc_terms.specs.Depend.{main, change, subject_of, kids_of, main_reads, fixed_reads, right_of, at_most_one}
+use Rattle.inc_terms.specs.Depend.{main, change, subject_of, kids_of, unfrozen, main_reads, fixed_reads, right_of, at_most_one}
 use Rattle.inc_terms.specs.Graph as graph
 use Rattle.inc_terms.specs.Graph.{Graph, Row, Def}
 use Rattle.inc_terms.specs.Local.{own, shown, shown_of, IsBuilt, PartAgrees, Agrees}
 use Rattle.inc_terms.specs.Plan.{gate_of, targets, right_links, plan}
 use Rattle.inc_terms.specs.Term.{Functions}
-use Rattle.inc_terms.specs.Work.{taken_by}
+use Rattle.inc_terms.specs.Work.{predicate_kids, taken_by}
 use Rattle.inc_terms.proofs.Crossing.{same_targets, own_crosses}
 use Rattle.inc_terms.proofs.Plan.{among_left, among_right}
 use Rattle.inc_terms.proofs.Seeing.{gathered_same, own_same, looks}
@@ -59,8 +58,21 @@ reads_change G n def some = by_subject (subject_of def) some
 
 -- ---- links
 
+-- a node that keeps the same value and the same list has the same children
+pub kids_same : (G G' : Graph) (n : NodeId) (def : Def) → G'.frozen n ≡ G.frozen n → G'.lists n ≡ G.lists n → kids_of G' n def ≡ kids_of G n def
+kids_same G G' n (graph.Freeze kid f) frozen lists = ap (unfrozen kid) frozen
+kids_same G G' n (graph.Expert f v ns) frozen lists = lists
+kids_same G G' n _ frozen lists = refl
+
+-- its function takes the same
+pub taken_same : (G G' : Graph) (n : NodeId) (def : Def) → G'.frozen n ≡ G.frozen n → G'.lists n ≡ G.lists n → taken_by G' n def ≡ taken_by G n def
+taken_same G G' n (graph.Freeze kid f) frozen lists = ap (predicate_kids kid) frozen
+taken_same G G' n (graph.Expert f v ns) frozen lists = ap Some lists
+taken_same G G' n _ frozen lists = refl
+
 module _ (before arena : Arena) (held held' : Holdings) (out out' : Point → Option Outcome) (p : Point) (r : Row)
-    (same : held'.built p.node ≡ held.built p.node) (own : p.part ≡ Main → IsSome (subject_of r.def) → out' (change p.node) ≡ out (change p.node)) where
+    (same : held'.built p.node ≡ held.built p.node) (frozen : held'.frozen p.node ≡ held.frozen p.node) (lists : held'.lists p.node ≡ held.lists p.node)
+    (own : p.part ≡ Main → IsSome (subject_of r.def) → out' (change p.node) ≡ out (change p.node)) where
   targets_by : p.part ≡ Main → (x : Option NodeId) → subject_of r.def ≡ x
       → targets (graph_of arena held') p.node r.def (out' (change p.node)) ≡ targets (graph_of before held) p.node r.def (out (change p.node))
   targets_by is None e =
@@ -69,11 +81,16 @@ module _ (before arena : Arena) (held held' : Holdings) (out out' : Point → Op
       ap (λ (x : Option Outcome). targets (graph_of arena held') p.node r.def x) (own is (ap is_some e))
       ∙ same_targets (graph_of before held) (graph_of arena held') p.node r.def (out (change p.node)) same
 
+  fixed_by : (part : Part) → fixed_reads (graph_of arena held') p.node r.def part ≡ fixed_reads (graph_of before held) p.node r.def part
+  fixed_by Change = refl
+  fixed_by Main = ap (main_reads p.node (subject_of r.def)) (kids_same (graph_of before held) (graph_of arena held') p.node r.def frozen lists)
+
   looks_by : (part : Part) → p.part ≡ part
       → fixed_reads (graph_of arena held') p.node r.def part ++ right_links (graph_of arena held') out' p.node r.def part
       ≡ fixed_reads (graph_of before held) p.node r.def part ++ right_links (graph_of before held) out p.node r.def part
   looks_by Change is = refl
-  looks_by Main is = ap (λ (xs : List Point). fixed_reads (graph_of before held) p.node r.def Main ++ xs) (targets_by is (subject_of r.def) refl)
+  looks_by Main is = ap (λ (xs : List Point). xs ++ targets (graph_of arena held') p.node r.def (out' (change p.node))) (fixed_by Main)
+      ∙ ap (λ (xs : List Point). fixed_reads (graph_of before held) p.node r.def Main ++ xs) (targets_by is (subject_of r.def) refl)
 
   pub plan_same : plan (graph_of arena held') out' p r ≡ plan (graph_of before held) out p r
   plan_same = ap (λ (xs : List Point). gate_of r.scope ++ xs) (looks_by p.part refl)
@@ -102,20 +119,19 @@ by_entry g r (Some x) h = by_test x r (x.gen_ == g) h
 pub code_row : (a : Arena) (n : NodeId) (r : Row) → row_at a n ≡ Some r → (d : declared.Def) × (r.def ≡ def_of d)
 code_row a n r e = by_entry n.gen_ r (slice_index_or a.slots n.slot None) e
 
+-- a freeze that keeps no value yet reads its child
+predicate_reads : (kid : NodeId) (ns : List NodeId) (x : Option Value) → predicate_kids kid x ≡ Some ns → map main (unfrozen kid x) ≡ map main ns
+predicate_reads kid ns None e = ap (map main) (same_some e)
+predicate_reads kid ns (Some v) e = absurd (none-some ns e)
+
 -- what a node's function is called on its main reads
 taken_read : (G : Graph) (n : NodeId) (ns : List NodeId) (d : declared.Def) → taken_by G n (def_of d) ≡ Some ns
     → fixed_reads G n (def_of d) Main ≡ map main ns
 taken_read G n ns (form.Map g ks) e = ap (map main) (same_some e)
 taken_read G n ns (form.Fold g v ks) e = ap (map main) (same_some e)
+taken_read G n ns (form.Freeze kid g) e = predicate_reads kid ns (G.frozen n) e
+taken_read G n ns (form.Expert g v) e = ap (map main) (same_some e)
 taken_read G n ns _ e = absurd (cc)
-
--- the code has no freezes yet
-pub no_freeze : (a : Arena) (n : NodeId) (r : Row) (kid : NodeId) (f : FnRef) → row_at a n ≡ Some r → r.def ≡ graph.Freeze kid f → ⊥
-no_freeze a n r kid f row is = let d = code_row a n r row in by_def d.0 (sym d.1 ∙ is)
-  where
-    by_def : (d : declared.Def) → def_of d ≡ graph.Freeze kid f → ⊥
-    by_def (form.Const v) e = cc
-    by_def _ e = cc
 
 -- what has no subject isn't built
 pub one_point_built : (F : Functions) (G : Graph) (n : NodeId) (def : Def) (o : Outcome) → subject_of def ≡ None → IsBuilt F G n def o
@@ -141,6 +157,7 @@ module _ (F : Functions) (before arena : Arena) (held held' : Holdings) (out out
     (row : row_at before p.node ≡ Some r) (row' : row_at arena p.node ≡ Some r) (here : out' p ≡ out p)
     (clock : clock_value arena.time r.def ≡ clock_value before.time r.def)
     (same_built : held'.built p.node ≡ held.built p.node)
+    (same_frozen : held'.frozen p.node ≡ held.frozen p.node) (same_lists : held'.lists p.node ≡ held.lists p.node)
     (still_built : (o : Outcome) → IsBuilt F (graph_of before held) p.node r.def o → IsBuilt F (graph_of arena held') p.node r.def o)
     (looked : (q : Point) → Among q (looks (graph_of before held) out p r) → shown (graph_of arena held') out' q ≡ shown (graph_of before held) out q) where
   abbrev G : Graph
@@ -155,7 +172,7 @@ module _ (F : Functions) (before arena : Arena) (held held' : Holdings) (out out
   -- its own function sees the same in both
   own_alike : own F G' (shown G' out') p.node r.def ≡ own F G (shown G' out') p.node r.def
   own_alike = own_at F G' before.time (shown G' out') p.node r.def clock
-      ∙ own_crosses G (record G' { now = before.time }) p.node F (shown G' out') refl refl refl same_built r.def
+      ∙ own_crosses G (record G' { now = before.time }) p.node F (shown G' out') refl same_frozen same_lists same_built r.def
 
   part_agrees : (part : Part) → p.part ≡ part → PartAgrees F G out p.node r.def part → PartAgrees F G' out' p.node r.def part
   part_agrees Main is o =
@@ -185,7 +202,8 @@ module _ (F : Functions) (before arena : Arena) (held held' : Holdings) (out out
       → Recalls G' (shown G' out') last' p
   recalls_still last last' lasts recalls r'' kids values e part takes values_are =
       let same : r'' ≡ r = same_some (sym e ∙ row') in
-      let takes' : taken_by G' p.node r.def ≡ Some kids = ap (λ (x : Row). taken_by G' p.node x.def) (sym same) ∙ takes in
+      let takes' : taken_by G p.node r.def ≡ Some kids =
+      sym (taken_same G G' p.node r.def same_frozen same_lists) ∙ (ap (λ (x : Row). taken_by G' p.node x.def) (sym same) ∙ takes) in
       let d = code_row before p.node r row in
       let reads : fixed_reads G p.node r.def p.part ≡ map main kids =
       ap (λ (x : Part). fixed_reads G p.node r.def x) part

@@ -14,21 +14,22 @@ use Rattle.point_map.specs.Rows.{Rows, at}
 use Rattle.wiring.specs.Answers.{EndsWired, WireAnswers, TakenAnswers, PassesGate, GateAnswers, AsksGate, ConnectAnswers}
 use Rattle.wiring.specs.Growing.{Grows}
 use Rattle.wiring.specs.Kept.{IsKept}
-use Rattle.wiring.specs.Stands.{hand}
+use Rattle.wiring.specs.Stands.{hand, owes}
 use Rattle.wiring.specs.Wiring.{Wires, WiresTaken, StaysInHand, KeepsPlaces}
 use Rattle.wiring.specs.declared.refused.Refused.{Refused}
 use Rattle.wiring.specs.declared.work.Work.{Work}
 use Rattle.wiring.proofs.Gating.{lacks_gated, ran_gate}
 use Rattle.wiring.proofs.Growing.{grows_then}
 use Rattle.wiring.proofs.Holding.{has_links_same}
-use Rattle.wiring.proofs.Lifting.{Lifts, DueAfter, lifted_wires, lifted_refused, one_on, one_gone, one_refused, stays_wires, stays_refused, wires_taken}
+use Rattle.wiring.proofs.Lifting.{Lifts, DueAfter, lifted_wires, lifted_refused, one_on, one_gone, one_refused, refused_taken, stays_wires, stays_refused, wires_taken}
 use Rattle.wiring.proofs.Raising.{staged_places, staged_grows}
 use Rattle.wiring.proofs.TakingAll.{places_then}
+use Rattle.wiring.proofs.Reading.{read_still}
 
 -- ---- what stays
 
 pub same_places : (work : Work) → KeepsPlaces work work
-same_places work = record { rows = λ a. refl; roots = λ a. refl; deaths = refl; round = refl }
+same_places work = record { rows = λ a. refl; roots = λ a. refl; deaths = refl; round = refl; experts = read_still work.experts }
 
 pub grows_here : (work : Work) → Grows work work
 grows_here work points covers = omega arith
@@ -123,10 +124,10 @@ module _ (arena : Arena) (old mid : Work) (p q : Point) (owed : IsOwed arena old
     pub gone_answers : {A : Type 0} (x : A) → IsFalse on → WireAnswers arena old con (Some (hand p [])) (Ok x)
     gone_answers x off = ends_ok x arena old con (gone_wires off) link_places a.kept link_grows
 
-    pub gone_gates : (off : Bool) → IsFalse on → IsFalse off → GateAnswers arena old con p (Ok off)
-    gone_gates off f is = record {
+    pub gone_gates : (off : Bool) → owes old true p ≡ [] → IsFalse on → IsFalse off → GateAnswers arena old con p (Ok off)
+    gone_gates off none f is = record {
       passes = λ t. absurd (let e = t in let g = is in cc);
-      left = λ g. wires_taken arena old con p (gone_wires f);
+      left = λ g. wires_taken arena old con p [] none (gone_wires f);
       refused = tt;
       places = link_places;
       kept = a.kept;
@@ -164,17 +165,18 @@ gate_done on arena work p kept passes left = record {
 }
 
 -- the gate was asked for a point that has its link alone
-pub gate_asked : (on : Bool) (arena : Arena) (old mid new : Work) (p : Point) (bind : NodeId) → StaysInHand arena old mid p → KeepsPlaces old mid
+pub gate_asked : (on : Bool) (arena : Arena) (old mid new : Work) (p : Point) (bind : NodeId) → owes old true p ≡ [] → StaysInHand arena old mid p
+    → KeepsPlaces old mid
     → Grows old mid → Needed mid.graph p → stage_in (at mid.rows p) ≡ Some code.Gated
     → ((r : Row) × (row_at arena p.node ≡ Some r) × (r.scope ≡ Some bind)) → AsksGate arena mid new p bind on → GateAnswers arena old new p (Ok on)
-gate_asked on arena old mid new p bind stays places grows need gated row a = record {
+gate_asked on arena old mid new p bind none stays places grows need gated row a = record {
   passes = λ t. record {
     in_hand = subst (λ (x : Work). StaysInHand arena old x p) (sym (a.stays t)) stays;
     lacking = lacks_gated arena new p (ap (λ (x : Work). stage_in (at x.rows p)) (a.stays t) ∙ gated);
     ran = ran_gate arena new p bind row (a.ran t);
     needed = subst (λ (x : Work). Needed x.graph p) (sym (a.stays t)) need;
   };
-  left = λ f. wires_taken arena old new p (stays_wires arena old mid new p stays (a.left f));
+  left = λ f. wires_taken arena old new p [] none (stays_wires arena old mid new p stays (a.left f));
   refused = tt;
   places = places_then old mid new places a.places;
   kept = a.kept;
@@ -183,14 +185,16 @@ gate_asked on arena old mid new p bind stays places grows need gated row a = rec
 
 -- ---- a point that was taken from the worklist
 
-pub taken_answers : {A : Type 0} (r : Result A Refused) (arena : Arena) (old new : Work) (p : Point) → WireAnswers arena old new (Some (hand p [])) r
-    → TakenAnswers arena old new p r
-taken_answers r arena old new p a = ends_as r arena old old new (wires_taken arena old new p) (λ e h. h) (same_places old) (λ g. g) a
+pub taken_answers : {A : Type 0} (r : Result A Refused) (arena : Arena) (old new : Work) (p : Point) (owed : List Point) → owes old true p ≡ owed
+    → WireAnswers arena old new (Some (hand p owed)) r → TakenAnswers arena old new p r
+taken_answers r arena old new p owed is a = ends_as r arena old old new (wires_taken arena old new p owed is) (refused_taken arena old new p owed is)
+    (same_places old) (λ g. g) a
 
 -- its gate's link was refused
-pub gate_refused : {A : Type 0} (r : Result A Refused) (e : Refused) (arena : Arena) (old new : Work) (p : Point) → IsErrAnd r (λ y. y ≡ e)
-    → GateAnswers arena old new p (Err e) → TakenAnswers arena old new p r
-gate_refused r e arena old new p is a = ends_refused r e arena old new is a.refused a.places a.kept
+pub gate_refused : {A : Type 0} (r : Result A Refused) (e : Refused) (arena : Arena) (old new : Work) (p : Point) → owes old true p ≡ []
+    → IsErrAnd r (λ y. y ≡ e) → GateAnswers arena old new p (Err e) → TakenAnswers arena old new p r
+gate_refused r e arena old new p none is a =
+    ends_refused r e arena old new is (refused_taken arena old new p [] none e a.refused) a.places a.kept
 
 -- it doesn't pass
 pub gate_left : {A : Type 0} (x : A) (on : Bool) (arena : Arena) (old new : Work) (p : Point) → IsFalse on → GateAnswers arena old new p (Ok on)
@@ -198,9 +202,9 @@ pub gate_left : {A : Type 0} (x : A) (on : Bool) (arena : Arena) (old new : Work
 gate_left x on arena old new p off a = ends_ok x arena old new (a.left off) a.places a.kept a.pushed
 
 -- it passes, and is given its other links
-pub gate_passed : {A : Type 0} (r : Result A Refused) (on : Bool) (arena : Arena) (old mid new : Work) (p : Point) → IsTrue on
+pub gate_passed : {A : Type 0} (r : Result A Refused) (on : Bool) (arena : Arena) (old mid new : Work) (p : Point) → owes old true p ≡ [] → IsTrue on
     → GateAnswers arena old mid p (Ok on) → WireAnswers arena mid new (Some (hand p [])) r → TakenAnswers arena old new p r
-gate_passed r on arena old mid new p t a w =
+gate_passed r on arena old mid new p none t a w =
     let stays = (a.passes t).in_hand in
-    taken_answers r arena old new p (ends_as r arena old mid new (stays_wires arena old mid new p stays) (stays_refused arena old mid new p stays) a.places
+    taken_answers r arena old new p [] none (ends_as r arena old mid new (stays_wires arena old mid new p stays) (stays_refused arena old mid new p stays) a.places
     (grows_along old mid new a.places a.pushed) w)

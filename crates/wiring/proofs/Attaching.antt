@@ -24,36 +24,36 @@ use Rattle.stabilize_round.specs.Steps.{Wiring, plainly}
 use Rattle.stabilize_round.specs.Wire.{raised, Raise}
 use Rattle.stabilize_round.proofs.Machine.{moves_keep}
 use Rattle.stabilize_round.proofs.Points.{at_same, count_append}
+use Rattle.expert_nodes.specs.Experts.{ExpertPlace, fresh_at}
 use Rattle.node_outcomes.specs.Computing.{has_part}
 use Rattle.wiring.specs.Kept.{IsKept}
 use Rattle.node_outcomes.specs.Row.{IsRewritten, with_stage, settled_in, stage_in, outcome_in}
-use Rattle.wiring.specs.Stands.{MatchesState, hand, Counts}
+use Rattle.wiring.specs.Stands.{MatchesState, hand, debts, owes, Counts}
 use Rattle.node_outcomes.specs.Choosing.{right_by, right_in}
 use Rattle.wiring.specs.Turning.{IsWaiting}
 use Rattle.wiring.specs.Wiring.{IsDue, IsTurnedIn, Attaches, AttachRefused, Connects, LosesNeed, ConnectRefused, AreUnlinked}
 use Rattle.wiring.specs.declared.refused.Refused.{Refused}
 use Rattle.node_outcomes.specs.declared.row.Progress.{Progress}
-use Rattle.node_outcomes.specs.declared.row.Stage.{Stage}
 use Rattle.node_outcomes.specs.declared.row.Stage.TheVariants as code
 use Rattle.wiring.specs.declared.work.Work.{Work}
 use Rattle.wiring.proofs.Lifting.{full_finishes}
 use Rattle.wiring.proofs.Raising.{wired_before, wired_after, staged_now, up_stands, leaves_hand, hand_empty, own_alone}
-use Rattle.wiring.proofs.InHand.{nothing}
+use Rattle.wiring.proofs.Owing.{owes_none, owes_whoever, two_fresh}
 use Rattle.wiring.proofs.Staying.{staged_row, row_of_state, stage_is, stage_was, out_is}
 use Rattle.wiring.proofs.Unlinked.{raised_unlinked}
 use Rattle.wiring.proofs.Holding.{right_at, targets_at}
 use Rattle.wiring.specs.Graph.{graph_at}
 
 -- nothing is to be done
-pub stays_off : (arena : Arena) (work : Work) (n : NodeId) → (Needed work.graph (main n) → (k : Progress) → at work.rows (main n) ≡ Some k → k.stage ≡ code.Static → ⊥)
+pub stays_off : (arena : Arena) (work : Work) (n : NodeId) → owes work true (main n) ≡ [] → (Needed work.graph (main n) → (k : Progress) → at work.rows (main n) ≡ Some k → k.stage ≡ code.Static → ⊥)
     → Holds work.rows (main n) → Attaches arena work work n
-stays_off arena work n not rowed F z s counts t = (
+stays_off arena work n none not rowed F z s counts t = (
   s,
   plainly here,
-  hand_empty s arena work counts (main n) on (λ h. waits_not (main n) refl h),
+  hand_empty s arena work counts (main n) on (owes_whoever work (s.needed (main n)) (main n) none) (λ h. waits_not (main n) refl h),
   λ a h need. elim (t.unlinked a h need) [
     | inl b ↦ inl b
-    | inr k ↦ elim k [ inl g ↦ inr (inl g) | inr e ↦ absurd (waits_not a e h) ]
+    | inr k ↦ elim k [ inl g ↦ inr (inl g) | inr m ↦ elim m [ inl e ↦ absurd (waits_not a e h) | inr owing ↦ inr (inr (inr owing)) ] ]
   ],
 )
   where
@@ -116,6 +116,10 @@ module _ (arena : Arena) (n : NodeId) (r : Row) (old : Work) (rows : Rows Progre
   right_is = ap (λ (x : Option Progress). right_by r.def n (outcome_in x) (at old.roots (change n)))
       (w.others (change n) (λ e. let x = ap (λ (y : Point). y.part) e in cc))
 
+  -- a node of two points has no list
+  two_none : fresh_at old.experts n ≡ []
+  two_none = two_fresh arena old.experts kept.experts n r row was.two
+
   -- the target is given
   pub right_given : (m : NodeId) → right ≡ Some m → Given arena.given m
   right_given m e = by (at old.rows (change n)) refl
@@ -156,7 +160,7 @@ module _ (arena : Arena) (n : NodeId) (r : Row) (old : Work) (rows : Rows Progre
     pub raise_is : Raise s (main n) machine.Full owed
     raise_is = record {
       todo = t.wakes is_needed is_static;
-      owed = on.owed (main n) ∙ at_same (main n) [] nothing;
+      owed = on.owed (main n) ∙ at_same (main n) [] (debts old s.needed);
       plan = λ b.
           let own = own_alone n (subject_of r.def) (kids_of s.graph n r.def) was.two in
           let all : count b (plan_at s.graph s.out s.died (main n) (s.graph.row n) machine.Full) ≡ count b (gate_of r.scope ++ ((change n ∷ []) ++ owed)) =
@@ -224,7 +228,8 @@ module _ (arena : Arena) (n : NodeId) (r : Row) (old : Work) (rows : Rows Progre
   none_attached none F z s counts t =
       let on = subst (λ (x : Option NodeId). MatchesState arena mid counts (Some (hand (main n) (map main (at_most_one x)))) (full F z s counts t)) none
       (on_full F z s counts t) in
-      let out = leaves_hand F z (full F z s counts t) arena mid counts (main n) on (full_unlinked F z s counts t) (full_finishes (full F z s counts t) arena mid counts (main n) on full_in) in
+      let out = leaves_hand F z (full F z s counts t) arena mid counts (main n) on (full_unlinked F z s counts t)
+      (owes_none mid ((full F z s counts t).needed (main n)) (main n) two_none) (full_finishes (full F z s counts t) arena mid counts (main n) on full_in) in
       (out.0, wired_after F z s (full F z s counts t) out.0 (plainly (full_moves F z s counts t)) out.1, out.2, out.3)
 
   module _ (m : NodeId) (is : right ≡ Some m) (new : Work) where
@@ -238,8 +243,9 @@ module _ (arena : Arena) (n : NodeId) (r : Row) (old : Work) (rows : Rows Progre
         let a = gone F z (full F z s counts t) counts [] (right_due F z s counts t m is) in
         (a.0, wired_before F z s (full F z s counts t) a.0 (full_moves F z s counts t) a.1, a.2, a.3)
 
-    pub right_on : Connects arena mid new (main n) (main m) → at new.rows (main n) ≡ at rows (main n) → Attaches arena old new n
-    right_on connects same F z s counts t =
+    pub right_on : Connects arena mid new (main n) (main m) → at new.rows (main n) ≡ at rows (main n) → new.experts ≡ old.experts → Attaches arena old new n
+    right_on connects same experts F z s counts t =
         let a = connects F z (full F z s counts t) counts [] (right_due F z s counts t m is) in
-        let out = leaves_hand F z a.0 arena new counts (main n) a.2 a.3 (full_finishes a.0 arena new counts (main n) a.2 (ap stage_in same ∙ full_in)) in
+        let none = ap (λ (x : List ExpertPlace). fresh_at x n) experts ∙ two_none in
+        let out = leaves_hand F z a.0 arena new counts (main n) a.2 a.3 (owes_none new ((a.0).needed (main n)) (main n) none) (full_finishes a.0 arena new counts (main n) a.2 (ap stage_in same ∙ full_in)) in
         (out.0, wired_after F z s a.0 out.0 (wired_before F z s (full F z s counts t) a.0 (full_moves F z s counts t) a.1) out.1, out.2, out.3)

@@ -115,6 +115,7 @@ woken old mid todo rows q w e rest there more =
         ran = ap (λ (k : Work). k.ran.items) rest;
         retries = ap (λ (k : Work). k.retries) rest;
         round = ap (λ (k : Work). k.round) rest;
+        experts = ap (λ (k : Work). k.experts) rest;
       };
       step = e.step;
     }
@@ -147,7 +148,7 @@ module _ (old : Work) (q : Point) (step_is : IsInStep old.graph) (dead : at old.
     leaf = λ none. leaf;
     todo = before;
     lists = record { pairs = refl; scoped = refl };
-    round = record { roots = refl; deaths = refl; ran = refl; retries = refl; round = refl };
+    round = record { roots = refl; deaths = refl; ran = refl; retries = refl; round = refl; experts = refl };
     step = step_is;
   }
 
@@ -171,7 +172,7 @@ module _ (old : Work) (q : Point) (step_is : IsInStep old.graph) (dead : at old.
     leaf = λ none alive. refl;
     todo = λ p a. a;
     lists = record { pairs = refl; scoped = refl };
-    round = record { roots = refl; deaths = refl; ran = refl; retries = refl; round = refl };
+    round = record { roots = refl; deaths = refl; ran = refl; retries = refl; round = refl; experts = refl };
     step = step_is;
   }
     where

@@ -275,6 +275,7 @@ module _ (old told gone : Work) (first : told ≡ with_graph old told.graph) (se
     ran = ap (λ (w : Work). w.ran) second ∙ ap (λ (w : Work). w.ran) first;
     retries = ap (λ (w : Work). w.retries) second ∙ ap (λ (w : Work). w.retries) first;
     round = ap (λ (w : Work). w.round) second ∙ ap (λ (w : Work). w.round) first;
+    experts = ap (λ (w : Work). w.experts) second ∙ ap (λ (w : Work). w.experts) first;
   }
 
   pub roots_alone : gone.roots ≡ old.roots
@@ -292,6 +293,7 @@ module _ (old told gone : Work) (first : told ≡ with_graph old told.graph) (se
           ran = ap (λ (w : Work). w.ran) fourth ∙ (ap (λ (w : Work). w.ran) third ∙ before.ran);
           retries = ap (λ (w : Work). w.retries) fourth ∙ (ap (λ (w : Work). w.retries) third ∙ before.retries);
           round = ap (λ (w : Work). w.round) fourth ∙ (ap (λ (w : Work). w.round) third ∙ before.round);
+          experts = ap (λ (w : Work). w.experts) fourth ∙ (ap (λ (w : Work). w.experts) third ∙ before.experts);
         }
 
     pub roots_both : (n : NodeId) → Changes last.roots rootless.roots (change n) None → Changes old.roots rootless.roots (change n) None

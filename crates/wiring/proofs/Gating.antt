@@ -1,5 +1,5 @@
 -- A point in a scope is linked to its gate, and waits for it.
-use Rattle.std.proofs.Common.{◌≡◌, ◌⊎◌, inl, inr, ◌<◌, true, false, [], ◌∷◌, Option, None, Some, refl, sym, ap, ◌∙◌, arith}
+use Rattle.std.proofs.Common.{◌≡◌, ◌⊎◌, inl, inr, ◌<◌, true, false, List, [], ◌∷◌, Option, None, Some, refl, sym, ap, subst, ◌∙◌, arith}
 use Rattle.std.specs.Prelude.{is_some, IsSome}
 use Rattle.std.proofs.lemmas.Option.{same_Some}
 use Rattle.inc_value.specs.declared.node.NodeId.{NodeId}
@@ -29,12 +29,13 @@ use Rattle.node_outcomes.specs.declared.row.Progress.{Progress}
 use Rattle.node_outcomes.specs.declared.row.Stage.{Stage}
 use Rattle.node_outcomes.specs.declared.row.Stage.TheVariants as code
 use Rattle.wiring.specs.Kept.{IsKept}
-use Rattle.wiring.specs.Stands.{MatchesState, hand, Counts}
+use Rattle.wiring.specs.Stands.{MatchesState, hand, debts, owes, Counts}
 use Rattle.wiring.specs.Wiring.{IsMarked, IsTarget, LacksLinks, GateRan, Wires, WiresTaken}
 use Rattle.wiring.specs.declared.work.Work.{Work}
 use Rattle.wiring.proofs.Lifting.{Lifts, DueAfter, staged_lifts}
 use Rattle.wiring.proofs.Raising.{staged_now, leaves_hand, hand_empty, no_change, one_row}
-use Rattle.wiring.proofs.InHand.{nothing}
+use Rattle.wiring.proofs.Owing.{owes_staged, owes_whoever}
+use Rattle.wiring.proofs.Unlinked.{none_owed}
 use Rattle.wiring.proofs.Staying.{row_of_state, stage_is, stage_was, staged_row}
 use Rattle.wiring.proofs.Scheduling.{put_in, put_stands, scheduled}
 
@@ -98,17 +99,19 @@ ran_gate arena work p bind row settled r' b e scope =
     let is : b ≡ bind = same_Some b bind (sym scope ∙ (same ∙ row.2)) in
     ap (λ (x : NodeId). settled_in work.round (at work.rows (change x))) is ∙ settled
 
--- ---- a point that was taken from the worklist and has more leaves it
+-- ---- a point that was taken from the worklist, has more and is owed nothing leaves it
 
 pub more_wires : (arena : Arena) (work : Work) (p : Point) → Holds work.rows p → Needed work.graph p
-    → (stage_in (at work.rows p) ≡ Some code.Bare → ⊥) → (stage_in (at work.rows p) ≡ Some code.Gated → ⊥) → WiresTaken arena work work p
-more_wires arena work p rowed need not_bare not_gated F z s counts inv on unlinked = (s, plainly here, hand_empty s arena work counts p on out, unlinked)
+    → (stage_in (at work.rows p) ≡ Some code.Bare → ⊥) → (stage_in (at work.rows p) ≡ Some code.Gated → ⊥) → owes work true p ≡ []
+    → WiresTaken arena work work p
+more_wires arena work p rowed need not_bare not_gated none F z s counts inv on unlinked = (s, plainly here, hand_empty s arena work counts p in_hand (owes_whoever work (s.needed p) p none) out, unlinked)
   where
+    in_hand : MatchesState arena work counts (Some (hand p [])) s
+    in_hand = subst (λ (xs : List Point). MatchesState arena work counts (Some (hand p xs)) s) none on
+
     out : s.todo p ≡ true → ⊥
-    out t = elim (unlinked p t ((on.needed p).1 need)) [
-      | inl b ↦ not_bare (stage_was on p code.Bare rowed b)
-      | inr k ↦ elim k [ inl g ↦ not_gated (stage_was on p code.Gated rowed g) | inr none ↦ none ]
-    ]
+    out = none_owed s p unlinked ((on.needed p).1 need) (λ b. not_bare (stage_was on p code.Bare rowed b))
+        (λ g. not_gated (stage_was on p code.Gated rowed g)) (in_hand.owed p ∙ at_same p [] (debts work s.needed))
 
 -- ---- it is linked to its gate
 
@@ -131,7 +134,7 @@ module _ (arena : Arena) (p : Point) (bind : NodeId) (r : Row) (row : row_at are
           let is_bare : s.stage p ≡ machine.Bare = stage_is on p code.Bare bare in
           record {
             todo = inv.rows.bare p ((on.needed p).1 need) is_bare;
-            owed = on.owed p ∙ at_same p [] nothing;
+            owed = on.owed p ∙ at_same p [] (debts old s.needed);
             plan = λ b.
                 let all : count b (plan_at s.graph s.out s.died p (s.graph.row p.node) machine.Gated) ≡ count b (change bind ∷ []) =
                 ap (λ (x : Option Row). count b (plan_at s.graph s.out s.died p x machine.Gated)) row_is
@@ -170,9 +173,14 @@ module _ (arena : Arena) (p : Point) (bind : NodeId) (r : Row) (row : row_at are
     (rest : new ≡ record old { graph = new.graph }) where
   pub gate_waits : Wires arena old new (Some (hand p []))
   gate_waits F z s counts inv on unlinked =
-      let out = leaves_hand F z (put_in (change bind) old new marked rest s arena counts (Some (hand p [])) on) arena new counts p (put_stands (change bind) old new marked rest s arena counts (Some (hand p [])) on) unlinked finishes in
+      let out = leaves_hand F z (put_in (change bind) old new marked rest s arena counts (Some (hand p [])) on) arena new counts p
+      (put_stands (change bind) old new marked rest s arena counts (Some (hand p [])) on) unlinked (owes_staged new (s.needed p) p code.Gated gated_now (λ e. cc))
+      finishes in
       (out.0, plainly (step (move.schedule (scheduled (change bind) old new marked rest s arena counts (Some (hand p [])) on gate_need may) refl, tt) out.1), out.2, out.3)
     where
+      gated_now : stage_in (at new.rows p) ≡ Some code.Gated
+      gated_now = ap (λ (w : Work). stage_in (at w.rows p)) rest ∙ gated
+
       row_is : s.graph.row p.node ≡ Some r
       row_is = row_of_state on p.node ∙ row
 
@@ -187,8 +195,8 @@ module _ (arena : Arena) (p : Point) (bind : NodeId) (r : Row) (row : row_at are
           ap (λ (x : machine.Stage). count (change bind) (plan_at s.graph s.out s.died p (s.graph.row p.node) x)) is_gated
           ∙ ap (λ (x : Option Row). count (change bind) (plan_at s.graph s.out s.died p x machine.Gated)) row_is in
           let there = among_count (change bind) (gate_of r.scope) (among_gate r.scope bind scope) in
-          let owes : count (change bind) (s.owed p) ≡ 0 = ap (count (change bind)) (on.owed p ∙ at_same p [] nothing) in
-          omega (arith, is, plan, there, owes)
+          let owes_none : count (change bind) (s.owed p) ≡ 0 = ap (count (change bind)) (on.owed p ∙ at_same p [] (debts old s.needed)) in
+          omega (arith, is, plan, there, owes_none)
 
       gate_need : Needed old.graph (change bind)
       gate_need = (on.needed (change bind)).0 (inv.web.onto p (change bind) linked)
@@ -205,7 +213,7 @@ module _ (arena : Arena) (p : Point) (bind : NodeId) (r : Row) (row : row_at are
 
       finishes : Finish (put_in (change bind) old new marked rest s arena counts (Some (hand p [])) on) p
       finishes = record {
-        owed = on.owed p ∙ at_same p [] nothing;
+        owed = on.owed p ∙ at_same p [] (debts old s.needed);
         bare = λ n e. let g = is_gated in cc;
         gated = λ r' e n g. (
           bind,

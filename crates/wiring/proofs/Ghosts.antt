@@ -1,5 +1,5 @@
 -- A point of a dead node has its gate's link, if the node died in this round, and else none.
-use Rattle.std.proofs.Common.{◌≡◌, inl, inr, ◌+◌, List, [], ◌∷◌, Option, None, Some, refl, sym, ap, ◌∙◌, arith}
+use Rattle.std.proofs.Common.{◌≡◌, inl, inr, ◌+◌, true, List, [], ◌∷◌, Option, None, Some, refl, sym, ap, ◌∙◌, arith}
 use Rattle.std.proofs.lemmas.Option.{none-some}
 use Rattle.inc_value.specs.declared.node.NodeId.{NodeId}
 use Rattle.inc_value.specs.declared.node.Point.{Point}
@@ -17,9 +17,11 @@ use Rattle.stabilize_round.specs.Steps.{Wiring, Wired, plainly}
 use Rattle.stabilize_round.specs.Wire.{raised, Raise, Finish}
 use Rattle.stabilize_round.proofs.Points.{at_same, one_same}
 use Rattle.node_outcomes.specs.Computing.{has_part}
+use Rattle.node_outcomes.specs.Row.{is_full, stage_in}
+use Rattle.node_outcomes.specs.declared.row.Progress.{Progress}
 use Rattle.wiring.specs.Graph.{died_at}
 use Rattle.wiring.specs.Kept.{IsKept, IsGhostLink, IsDead}
-use Rattle.wiring.specs.Stands.{MatchesState, hand, Counts}
+use Rattle.wiring.specs.Stands.{MatchesState, hand, debts, owes, Counts}
 use Rattle.wiring.specs.Wiring.{IsTarget, Wires, AreUnlinked}
 use Rattle.wiring.specs.declared.work.Work.{Work}
 use Rattle.wiring.proofs.Gating.{rowed_target, change_rowed}
@@ -27,7 +29,7 @@ use Rattle.wiring.proofs.Linking.{none_if}
 use Rattle.wiring.proofs.Lifting.{Lifts, DueAfter, done_wires}
 use Rattle.wiring.proofs.Raising.{rowless_stands, leaves_hand}
 use Rattle.wiring.proofs.Staying.{row_of_state}
-use Rattle.wiring.proofs.InHand.{nothing}
+use Rattle.wiring.proofs.Owing.{owes_partly, owes_whoever}
 use Rattle.wiring.proofs.Unlinked.{raised_unlinked}
 
 -- a point of a dead node has no row
@@ -57,6 +59,10 @@ module _ (arena : Arena) (work : Work) (p : Point) (dead : row_at arena p.node �
   rowless : at work.rows p ≡ None
   rowless = dead_rowless arena work p kept dead
 
+  -- it is owed nothing by itself
+  pub dead_owes : owes work true p ≡ []
+  dead_owes = owes_partly work true p (ap (λ (x : Option Progress). is_full (stage_in x)) rowless)
+
   module _ (s : State) (counts : Counts) (owed : List Point) (on : MatchesState arena work counts (Some (hand p owed)) s) where
     row_none : s.graph.row p.node ≡ None
     row_none = row_of_state on p.node ∙ dead
@@ -71,7 +77,7 @@ module _ (arena : Arena) (work : Work) (p : Point) (dead : row_at arena p.node �
   -- it leaves the worklist, unless it is to have a link
   dead_finishes : (s : State) (counts : Counts) → MatchesState arena work counts (Some (hand p [])) s → (s.stage p ≡ machine.Bare → ⊥) → Finish s p
   dead_finishes s counts on other = record {
-    owed = on.owed p ∙ at_same p [] nothing;
+    owed = on.owed p ∙ at_same p [] (debts work s.needed);
     bare = λ n e. other e;
     gated = λ r e. absurd (no_row s counts [] on r e);
     static = λ r e. absurd (no_row s counts [] on r e);
@@ -93,12 +99,12 @@ module _ (arena : Arena) (work : Work) (p : Point) (dead : row_at arena p.node �
 
       leaves : (t : State) → MatchesState arena work counts (Some (hand p [])) t → AreUnlinked (Some (hand p [])) t → (t.stage p ≡ machine.Bare → ⊥)
           → (u : State) × Reaches (Wiring F z) t u × MatchesState arena work counts None u × AreUnlinked None u
-      leaves t on' unlinked' other = leaves_hand F z t arena work counts p on' unlinked' (dead_finishes t counts on' other)
+      leaves t on' unlinked' other = leaves_hand F z t arena work counts p on' unlinked' (owes_whoever work (t.needed p) p dead_owes) (dead_finishes t counts on' other)
 
       raises : s.stage p ≡ machine.Bare → Raise s p machine.Full []
       raises bare = record {
         todo = inv.rows.bare p ((on.needed p).1 need) bare;
-        owed = on.owed p ∙ at_same p [] nothing;
+        owed = on.owed p ∙ at_same p [] (debts work s.needed);
         plan = λ b. ap (count b) (no_plan machine.Full) ∙ sym (ap (λ (xs : List Point). count b xs + 0) (no_plan (s.stage p)));
         lower = λ e. let b = bare in cc;
         gates = λ full r b e. absurd (no_row s counts [] on r e);
@@ -128,7 +134,7 @@ module _ (arena : Arena) (work : Work) (p : Point) (dead : row_at arena p.node �
 
     -- with its link it isn't Bare
     pub ghost_wires : Needed work.graph p → Reads work.graph.links p (change bind) → Wires arena work work (Some (hand p []))
-    ghost_wires need reads = done_wires arena work p (λ F z s counts inv on. dead_finishes s counts on (λ bare.
+    ghost_wires need reads = done_wires arena work p dead_owes (λ F z s counts inv on. dead_finishes s counts on (λ bare.
         let is = inv.rows.links p (change bind) ((on.needed p).1 need) in
         let plan : count (change bind) (planned s p) ≡ 0 =
         ap (λ (x : machine.Stage). count (change bind) (plan_at s.graph s.out s.died p (s.graph.row p.node) x)) bare
@@ -151,10 +157,10 @@ module _ (arena : Arena) (work : Work) (p : Point) (dead : row_at arena p.node �
             let planned_is : count (change bind) (planned s p) ≡ count (change bind) (change bind ∷ []) =
             ap (λ (y : machine.Stage). count (change bind) (plan_at s.graph s.out s.died p (s.graph.row p.node) y)) e
             ∙ ap (count (change bind)) (plans s counts [] on x ∙ plan) in
-            let owes : count (change bind) (s.owed p) ≡ 0 = ap (count (change bind)) (on.owed p ∙ at_same p [] nothing) in
+            let none : count (change bind) (s.owed p) ≡ 0 = ap (count (change bind)) (on.owed p ∙ at_same p [] (debts work s.needed)) in
             let once = one_same (change bind) in
             let link = on.links p (change bind) in
-            off (omega (arith, is, planned_is, owes, once, link))
+            off (omega (arith, is, planned_is, none, once, link))
 
         is_bare : s.stage p ≡ machine.Bare
         is_bare = by (s.stage p) refl
@@ -168,7 +174,7 @@ module _ (arena : Arena) (work : Work) (p : Point) (dead : row_at arena p.node �
         raises : Raise s p machine.Gated (change bind ∷ [])
         raises = record {
           todo = inv.rows.bare p ((on.needed p).1 need) is_bare;
-          owed = on.owed p ∙ at_same p [] nothing;
+          owed = on.owed p ∙ at_same p [] (debts work s.needed);
           plan = λ b.
               let all = ap (count b) (plans s counts [] on machine.Gated) in
               let before : count b (planned s p) ≡ 0 =

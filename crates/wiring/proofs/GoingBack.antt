@@ -196,7 +196,13 @@ module _ (arena : Arena) (old new : Work) (p waited : Point) (to : Stage) (links
   }
 
   pub lowered_places : KeepsPlaces old new
-  lowered_places = record { rows = lowered_most.held; roots = same_roots; deaths = lowered_round.deaths; round = lowered_round.round }
+  lowered_places = record {
+    rows = lowered_most.held;
+    roots = same_roots;
+    deaths = lowered_round.deaths;
+    round = lowered_round.round;
+    experts = lowered_most.experts;
+  }
 
   -- ---- points that are there
 

@@ -1,5 +1,5 @@
--- What a graph holds beside its nodes stays where changes keep their outcomes and binds their roots.
-use Rattle.std.proofs.Common.{◌≡◌, ◌≢◌, ◌⊎◌, inl, inr, refl, sym, ap, subst, ◌∙◌, map, Option, None, Some}
+-- What a graph holds beside its nodes stays where changes keep their outcomes, binds their roots, freezes their values, and experts their lists.
+use Rattle.std.proofs.Common.{◌≡◌, ◌⊎◌, inl, inr, refl, sym, ap, subst, ◌∙◌, map, Option, None, Some}
 use Rattle.std.specs.Prelude.{option_map, is_some}
 use Rattle.inc_value.specs.declared.node.NodeId.{NodeId}
 use Rattle.inc_value.specs.declared.node.Part.TheVariants.{Change}
@@ -12,10 +12,11 @@ use Rattle.inc_terms.specs.Graph.{Graph, Row, Def}
 use Rattle.inc_terms.specs.Plan.{targets}
 use Rattle.point_map.specs.Rows.{Rows, at, Holds, KeepsRows}
 use Rattle.inc_terms.proofs.Crossing.{same_choice}
+use Rattle.expert_nodes.specs.Experts.{kids_at}
 use Rattle.node_arena.specs.Arena.{Arena, row_at}
 use Rattle.node_arena.specs.Graph.{graph_of}
 use Rattle.node_outcomes.specs.Choosing.{built_by, built_in, right_in}
-use Rattle.node_outcomes.specs.Row.{IsRewritten, with_stage, outcome_in}
+use Rattle.node_outcomes.specs.Row.{IsRewritten, kept_in, with_stage, outcome_in}
 use Rattle.node_outcomes.specs.declared.row.Progress.{Progress}
 use Rattle.node_outcomes.specs.declared.row.Stage.{Stage}
 use Rattle.node_outcomes.proofs.Held.{built_live, right_is, same_held}
@@ -30,33 +31,34 @@ use Rattle.wiring.specs.declared.work.Work.{Work}
 -- ---- rows and roots stay
 
 module _ (arena : Arena) (old new : Work) where
-  -- where changes keep their outcomes
+  -- where changes keep their outcomes, and mains the values of freezes
   pub held_same : ((n : NodeId) → outcome_in (at new.rows (change n)) ≡ outcome_in (at old.rows (change n))) → new.roots ≡ old.roots
-      → held_at arena new ≡ held_at arena old
-  held_same outcomes roots =
-      same_held arena old.rows new.rows old.roots new.roots outcomes (λ n. ap (λ (m : Rows NodeId). at m (change n)) roots)
+      → ((n : NodeId) → kept_in (at new.rows (main n)) ≡ kept_in (at old.rows (main n)))
+      → ((n : NodeId) → kids_at new.experts n ≡ kids_at old.experts n) → held_at arena new ≡ held_at arena old
+  held_same outcomes roots kept lists = same_held arena old.rows new.rows old.roots new.roots old.experts new.experts outcomes
+      (λ n. ap (λ (m : Rows NodeId). at m (change n)) roots) kept lists
 
   -- all rows stay
-  pub held_rows : KeepsRows old.rows new.rows → new.roots ≡ old.roots → held_at arena new ≡ held_at arena old
-  held_rows rows roots = held_same (λ n. ap outcome_in (rows (change n))) roots
-
-  pub graph_rows : KeepsRows old.rows new.rows → new.roots ≡ old.roots → graph_at arena new ≡ graph_at arena old
-  graph_rows rows roots = ap (graph_of arena) (held_rows rows roots)
-
-  -- all rows but those of a main
-  pub held_main : (n : NodeId) → ((p : Point) → p ≢ main n → at new.rows p ≡ at old.rows p) → new.roots ≡ old.roots
+  pub held_rows : KeepsRows old.rows new.rows → new.roots ≡ old.roots → ((n : NodeId) → kids_at new.experts n ≡ kids_at old.experts n)
       → held_at arena new ≡ held_at arena old
-  held_main n others roots = held_same (λ m. ap outcome_in (others (change m) (λ e. let parts = ap (λ (x : Point). x.part) e in absurd (cc)))) roots
+  held_rows rows roots lists = held_same (λ n. ap outcome_in (rows (change n))) roots (λ n. ap kept_in (rows (main n))) lists
 
-  pub graph_main : (n : NodeId) → ((p : Point) → p ≢ main n → at new.rows p ≡ at old.rows p) → new.roots ≡ old.roots
-      → graph_at arena new ≡ graph_at arena old
-  graph_main n others roots = ap (graph_of arena) (held_main n others roots)
-
-  -- a row is rewritten, and keeps its outcome where it is a change's
+  -- a row is rewritten: it keeps its outcome where it is a change's, and the value that a freeze keeps
   pub held_rewritten : (p : Point) (f : Progress → Progress) → IsRewritten old.rows new.rows p f
-      → ((k : Progress) → p.part ≡ Change → (f k).outcome ≡ k.outcome) → new.roots ≡ old.roots → held_at arena new ≡ held_at arena old
-  held_rewritten p f w keeps roots = held_same outcomes roots
+      → ((k : Progress) → p.part ≡ Change → (f k).outcome ≡ k.outcome) → ((k : Progress) → kept_in (Some (f k)) ≡ kept_in (Some k))
+      → new.roots ≡ old.roots → ((n : NodeId) → kids_at new.experts n ≡ kids_at old.experts n) → held_at arena new ≡ held_at arena old
+  held_rewritten p f w keeps still roots lists = held_same outcomes roots kept lists
     where
+      still_mapped : (x : Option Progress) → kept_in (option_map f x) ≡ kept_in x
+      still_mapped None = refl
+      still_mapped (Some k) = still k
+
+      kept : (n : NodeId) → kept_in (at new.rows (main n)) ≡ kept_in (at old.rows (main n))
+      kept n = elim (same_or_other p (main n)) [
+        | inl e ↦ subst (λ (x : Point). kept_in (at new.rows x) ≡ kept_in (at old.rows x)) e (ap kept_in w.changed ∙ still_mapped (at old.rows p))
+        | inr ne ↦ ap kept_in (w.others (main n) (λ e. ne (sym e)))
+      ]
+
       mapped : (x : Option Progress) → p.part ≡ Change → outcome_in (option_map f x) ≡ outcome_in x
       mapped None is = refl
       mapped (Some k) is = keeps k is
@@ -69,13 +71,14 @@ module _ (arena : Arena) (old new : Work) where
       ]
 
   pub graph_rewritten : (p : Point) (f : Progress → Progress) → IsRewritten old.rows new.rows p f
-      → ((k : Progress) → p.part ≡ Change → (f k).outcome ≡ k.outcome) → new.roots ≡ old.roots → graph_at arena new ≡ graph_at arena old
-  graph_rewritten p f w keeps roots = ap (graph_of arena) (held_rewritten p f w keeps roots)
+      → ((k : Progress) → p.part ≡ Change → (f k).outcome ≡ k.outcome) → ((k : Progress) → kept_in (Some (f k)) ≡ kept_in (Some k))
+      → new.roots ≡ old.roots → ((n : NodeId) → kids_at new.experts n ≡ kids_at old.experts n) → graph_at arena new ≡ graph_at arena old
+  graph_rewritten p f w keeps still roots lists = ap (graph_of arena) (held_rewritten p f w keeps still roots lists)
 
   -- `set_stage`
   pub graph_staged : (p : Point) (stage : Stage) → IsRewritten old.rows new.rows p (with_stage stage) → new.roots ≡ old.roots
-      → graph_at arena new ≡ graph_at arena old
-  graph_staged p stage w roots = graph_rewritten p (with_stage stage) w (λ k is. refl) roots
+      → ((n : NodeId) → kids_at new.experts n ≡ kids_at old.experts n) → graph_at arena new ≡ graph_at arena old
+  graph_staged p stage w roots lists = graph_rewritten p (with_stage stage) w (λ k is. refl) (λ k. refl) roots lists
 
 -- ---- one node
 
@@ -116,7 +119,7 @@ unran_unbuilt arena work n never = ap (λ (o : Option Outcome). built_in (row_at
 pub right_at : (arena : Arena) (work : Work) (n : NodeId) (r : Row) → row_at arena n ≡ Some r
     → right_in work.rows work.roots n r.def ≡ and_then (outcome_in (at work.rows (change n))) (λ (o : Outcome). right_of (graph_at arena work) n r.def o)
 right_at arena work n r row =
-    right_is work.rows work.roots n (graph_at arena work) r.def (built_live work.rows work.roots n arena r row)
+    right_is work.rows work.roots n (graph_at arena work) r.def (built_live work.rows work.roots n arena work.experts r row)
 
 targets_by : (G : Graph) (n : NodeId) (def : Def) (x : Option Outcome)
     → targets G n def x ≡ map main (at_most_one (and_then x (λ (o : Outcome). right_of G n def o)))

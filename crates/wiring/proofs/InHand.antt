@@ -8,8 +8,6 @@ use Rattle.inc_terms.specs.Depend.{change}
 use Rattle.point_map.specs.Rows.{at}
 use Rattle.necessary_graph.specs.Part.{Needed, IsInStep}
 use Rattle.node_arena.specs.Arena.{Arena}
-use Rattle.stabilize_round.specs.State.{at_point}
-use Rattle.stabilize_round.proofs.Points.{same_or_other, at_same, at_other}
 use Rattle.node_outcomes.specs.Row.{with_stage, settled_in, stage_in}
 use Rattle.node_outcomes.specs.declared.row.Progress.{Progress}
 use Rattle.node_outcomes.specs.declared.row.Stage.TheVariants as code
@@ -55,12 +53,6 @@ still_needed old new a e = by (is_needed new.graph a) (not (is_gated (stage_in (
 
 abbrev pub nothing : Point → List Point
 nothing p = []
-
-pub nothing_at : (p a : Point) → at_point p [] nothing a ≡ []
-nothing_at p a = elim (same_or_other p a) [
-  | inl e ↦ subst (λ (x : Point). at_point p [] nothing x ≡ []) e (at_same p [] nothing)
-  | inr ne ↦ at_other p [] nothing a ne
-]
 
 -- a point in hand stays in hand
 pub in_hand_now : (old new : Work) (held : Option PointInHand) (a : Point) → IsInHand held a → IsInHand (hand_now old new held) a

@@ -36,3 +36,5 @@ pub mod Releasing
 pub mod Forgetting
 pub mod Gathering
 pub mod Unsettling
+pub mod Owing
+pub mod Reading

@@ -23,13 +23,13 @@ use Rattle.node_outcomes.specs.Row.{IsRewritten, with_stage, stage_in, stage_of}
 use Rattle.node_outcomes.specs.declared.row.Progress.{Progress}
 use Rattle.node_outcomes.specs.declared.row.Stage.{Stage}
 use Rattle.node_outcomes.specs.declared.row.Stage.TheVariants as code
-use Rattle.wiring.specs.Stands.{MatchesState, hand, Counts}
+use Rattle.wiring.specs.Stands.{MatchesState, hand, debts, owes, Counts}
 use Rattle.wiring.specs.Wiring.{IsDue, Connects, LosesNeed, ConnectRefused, Wires, WiresTaken, WireRefused, StaysInHand, GateRan, AreUnlinked}
 use Rattle.wiring.specs.declared.refused.Refused.{Refused}
 use Rattle.wiring.specs.declared.work.Work.{Work}
 use Rattle.wiring.proofs.Raising.{wired_before, wired_then, wired_settled, up_stands, leaves_hand, one_row}
 use Rattle.wiring.proofs.Staying.{stage_is, row_of_state}
-use Rattle.wiring.proofs.InHand.{nothing}
+use Rattle.wiring.proofs.Owing.{owes_whoever}
 use Rattle.wiring.proofs.Unlinked.{held_unlinked, raised_unlinked}
 
 -- moves lead from where the point in hand is owed nothing to where it is owed these links
@@ -115,17 +115,23 @@ module _ (arena : Arena) (old mid new : Work) (p : Point) (stays : StaysInHand a
       let b = refused F z a.0 counts (moves_keep F z s a.0 (wired_moves F z s a.0 a.1) inv) a.2 a.3 in
       (b.0, b.1, wired_then F z s a.0 b.0 a.1 b.2, b.3, b.4)
 
--- whatever links a point has that was taken from the worklist
-pub wires_taken : (arena : Arena) (old new : Work) (p : Point) → Wires arena old new (Some (hand p [])) → WiresTaken arena old new p
-wires_taken arena old new p wires F z s counts inv on unlinked = wires F z s counts inv on (held_unlinked s p unlinked)
+-- whatever links a point has that was taken from the worklist, with what it is owed
+pub wires_taken : (arena : Arena) (old new : Work) (p : Point) (owed : List Point) → owes old true p ≡ owed → Wires arena old new (Some (hand p owed))
+    → WiresTaken arena old new p
+wires_taken arena old new p owed is wires F z s counts inv on unlinked =
+    wires F z s counts inv (subst (λ (xs : List Point). MatchesState arena old counts (Some (hand p xs)) s) is on) (held_unlinked s p unlinked)
+
+pub refused_taken : (arena : Arena) (old new : Work) (p : Point) (owed : List Point) → owes old true p ≡ owed → (e : Refused)
+    → WireRefused arena old new (Some (hand p owed)) e → WireRefused arena old new (Some (hand p (owes old true p))) e
+refused_taken arena old new p owed is e refused = subst (λ (xs : List Point). WireRefused arena old new (Some (hand p xs)) e) (sym is) refused
 
 -- ---- it leaves the worklist
 
-pub done_wires : (arena : Arena) (work : Work) (p : Point)
+pub done_wires : (arena : Arena) (work : Work) (p : Point) → owes work true p ≡ []
     → ((F : Functions) (z : Start) (s : State) (counts : Counts) → Invariant F z s → MatchesState arena work counts (Some (hand p [])) s → Finish s p)
     → Wires arena work work (Some (hand p []))
-done_wires arena work p finishes F z s counts inv on unlinked =
-    let a = leaves_hand F z s arena work counts p on unlinked (finishes F z s counts inv on) in
+done_wires arena work p none finishes F z s counts inv on unlinked =
+    let a = leaves_hand F z s arena work counts p on unlinked (owes_whoever work (s.needed p) p none) (finishes F z s counts inv on) in
     (a.0, plainly a.1, a.2, a.3)
 
 -- with all its links
@@ -134,14 +140,15 @@ pub full_finishes : (s : State) (arena : Arena) (work : Work) (counts : Counts) 
 full_finishes s arena work counts p on full =
     let is_full = stage_is on p code.Full full in
     record {
-      owed = on.owed p ∙ at_same p [] nothing;
+      owed = on.owed p ∙ at_same p [] (debts work s.needed);
       bare = λ x e. let y = is_full in cc;
       gated = λ r e x g. absurd (let y = is_full in cc);
       static = λ r e x g. absurd (let y = is_full in cc);
     }
 
-pub full_wires : (arena : Arena) (work : Work) (p : Point) → stage_in (at work.rows p) ≡ Some code.Full → Wires arena work work (Some (hand p []))
-full_wires arena work p full = done_wires arena work p (λ F z s counts inv on. full_finishes s arena work counts p on full)
+pub full_wires : (arena : Arena) (work : Work) (p : Point) → owes work true p ≡ [] → stage_in (at work.rows p) ≡ Some code.Full
+    → Wires arena work work (Some (hand p []))
+full_wires arena work p none full = done_wires arena work p none (λ F z s counts inv on. full_finishes s arena work counts p on full)
 
 -- ---- a link that is read whatever is given
 

@@ -1,6 +1,6 @@
 -- A link or a root more: how the state follows.
 use Rattle.std.proofs.Common.{◌≡◌, ◌⊎◌, inl, inr, ℕ, suc, ◌<◌, ◌+◌, Bool, true, false, List, [], ◌∷◌, Option, None, Some, refl, sym, ap, subst, ◌∙◌, arith}
-use Rattle.std.specs.Prelude.{is_some, ◌↔◌}
+use Rattle.std.specs.Prelude.{is_some, option_map, ◌↔◌}
 use Rattle.inc_value.specs.declared.node.NodeId.{NodeId}
 use Rattle.inc_value.specs.declared.node.Point.{Point}
 use Rattle.inc_value.specs.Choice.{here, step, Among, Reaches}
@@ -22,15 +22,17 @@ use Rattle.stabilize_round.specs.Moves.{Enqueues}
 use Rattle.stabilize_round.specs.Wire.{linked, newly, IsIt, Link, IsConfirmed, raised, Raise, finished, Finish}
 use Rattle.stabilize_round.proofs.Parts.{bool_cases}
 use Rattle.stabilize_round.proofs.Points.{same_or_other, at_same, at_other}
-use Rattle.node_outcomes.specs.Row.{stage_of}
-use Rattle.wiring.specs.Stands.{MatchesState, StandsWith, PointInHand, hand, owed_in, IsInHand, Counts}
+use Rattle.expert_nodes.specs.Experts.{ExpertPlace, fresh_at}
+use Rattle.node_outcomes.specs.Row.{is_full, stage_in, stage_of, with_stage}
+use Rattle.wiring.specs.Stands.{MatchesState, StandsWith, PointInHand, hand, debts, owed_in, owes, IsInHand, Counts}
 use Rattle.wiring.specs.Graph.{HasLinks, died_at}
 use Rattle.wiring.specs.Wiring.{IsReached, IsNewlyNeeded, AreUnlinked}
 use Rattle.node_outcomes.specs.declared.row.Progress.{Progress}
-use Rattle.node_outcomes.specs.declared.row.Stage.{Stage}
 use Rattle.node_outcomes.specs.declared.row.Stage.TheVariants as code
 use Rattle.wiring.specs.declared.work.Work.{Work}
-use Rattle.wiring.proofs.Unlinked.{not_off, newly_unlinked, rested_unlinked}
+use Rattle.wiring.proofs.InHand.{nothing}
+use Rattle.wiring.proofs.Owing.{owed_at, owed_idle, owed_put, owes_partly, owes_same}
+use Rattle.wiring.proofs.Unlinked.{linked_unlinked, not_off, newly_unlinked, rested_unlinked}
 use Rattle.wiring.proofs.Staying.{row_before, stage_now, most_same, most_staged, most_stands}
 
 -- one link more is one link more in the state
@@ -81,20 +83,15 @@ module _ (F : Functions) (z : Start) (s : State) (arena : Arena) (old : Work) (g
   pub is_link : Link F s p q rest heights
   is_link = record {
     need = (st.needed p).1 need;
-    owed = st.owed p ∙ at_same p (q ∷ rest) (λ (x : Point). []);
+    owed = st.owed p ∙ at_same p (q ∷ rest) (debts old s.needed);
     depends = dep;
     confirmed = conf;
     rises = λ a b l. reached.step.rises a b (subst (λ (n : ℕ). 0 < n) (links_after a b) l);
     low = reached.step.low;
   }
 
-  owed_after : (a : Point) → after.owed a ≡ owed_in (Some (hand p rest)) a
-  owed_after a = elim (same_or_other p a) [
-    | inl e ↦ subst (λ (x : Point). at_point p rest s.owed x ≡ at_point p rest (λ (y : Point). []) x) e
-        (at_same p rest s.owed ∙ sym (at_same p rest (λ (y : Point). [])))
-    | inr ne ↦ at_other p rest s.owed a ne
-        ∙ (st.owed a ∙ (at_other p (q ∷ rest) (λ (y : Point). []) a ne ∙ sym (at_other p rest (λ (y : Point). []) a ne)))
-  ]
+  owed_after : (a : Point) → after.owed a ≡ owed_in (debts old s.needed) (Some (hand p rest)) a
+  owed_after = owed_put (debts old s.needed) (debts old s.needed) p (q ∷ rest) rest (λ a ne. refl) s.owed st.owed
 
   pub linked_with : (N : Point → Type 0) → ((a : Point) → (s.needed a ≡ true) ↔ N a) → StandsWith N arena (record old { graph = g }) counts
       (Some (hand p rest)) after
@@ -123,14 +120,14 @@ module _ (F : Functions) (z : Start) (s : State) (arena : Arena) (old : Work) (g
         | inr e ↦ (st.needed a).1 (subst (Needed old.graph) (sym e) there)
       ],
     )),
-    unlinked,
+    linked_unlinked s p q rest heights unlinked,
   )
 
 -- ---- what is newly needed
 
 module _ (F : Functions) (z : Start) (s : State) (arena : Arena) (mid new : Work) (counts : Counts) (held : Option PointInHand) (q : Point) (N : Point → Type 0)
     (st : StandsWith N arena mid counts held s) (fresh : N q → ⊥) (now : (a : Point) → Needed new.graph a ↔ (N a ⊎ (a ≡ q)))
-    (high : s.height q ≡ level mid.graph.heights q) (idle : owed_in held q ≡ [])
+    (high : s.height q ≡ level mid.graph.heights q) (idle : owed_in nothing held q ≡ [])
     (w : IsNewlyNeeded mid new q) (same : is_some (at mid.rows q) ≡ is_some (s.graph.row q.node)) where
   abbrev heap' : Point → Bool
   heap' a = is_some (at new.graph.heap a)
@@ -187,10 +184,28 @@ module _ (F : Functions) (z : Start) (s : State) (arena : Arena) (mid new : Work
     | inr e ↦ subst (λ (x : Point). s.height x ≡ level mid.graph.heights x) (sym e) high
   ] ∙ ap (λ (h : Rows ℕ). level h a) (sym w.graph.heights)
 
+  -- it is owed nothing, as it has no links yet, and others are owed what they were
+  abbrev owed_new : Point → List Point
+  owed_new = debts new (at_point q true s.needed)
+
+  none_new : owed_new q ≡ []
+  none_new = owes_partly new (at_point q true s.needed q) q (ap (λ (x : Option Progress). is_full (stage_in x)) w.rows.changed ∙ bare_partly (at mid.rows q))
+    where
+      bare_partly : (x : Option Progress) → is_full (stage_in (option_map (with_stage code.Bare) x)) ≡ false
+      bare_partly None = refl
+      bare_partly (Some k) = refl
+
+  same_debts : (a : Point) → (q ≡ a → ⊥) → owed_new a ≡ debts mid s.needed a
+  same_debts a ne = ap (λ (b : Bool). owes new b a) (at_other q true s.needed a ne)
+      ∙ owes_same mid new (s.needed a) a (w.rows.others a (λ e. ne (sym e))) (ap (λ (x : List ExpertPlace). fresh_at x a.node) w.round.experts)
+
+  none_at : owed_in owed_new held q ≡ []
+  none_at = owed_idle owed_new held q none_new ∙ idle
+
   woken_with : (todo : Point → Bool) (stage : Point → machine.Stage) (owed : Point → List Point)
       → ((a : Point) → todo a ≡ true → Among a new.todo.items ⊎ IsInHand held a)
       → ((a : Point) (k : Progress) → at new.rows a ≡ Some k → stage a ≡ stage_of k.stage)
-      → ((a : Point) → owed a ≡ owed_in held a)
+      → ((a : Point) → owed a ≡ owed_in owed_new held a)
       → MatchesState arena new counts held (record woken { todo = todo; stage = stage; owed = owed })
   woken_with todo stage owed todo_is stage_is owed_is =
       most_stands mid new (most_staged mid new q code.Bare w.rows w.lists w.round) arena s (record woken { todo = todo; stage = stage; owed = owed }) w.round.ran
@@ -206,10 +221,10 @@ module _ (F : Functions) (z : Start) (s : State) (arena : Arena) (mid new : Work
         retries = st.retries ∙ sym w.round.retries;
       })
 
-  owed_now : (a : Point) → at_point q [] s.owed a ≡ owed_in held a
+  owed_now : (a : Point) → at_point q [] s.owed a ≡ owed_in owed_new held a
   owed_now a = elim (same_or_other q a) [
-    | inl e ↦ subst (λ (x : Point). at_point q [] s.owed x ≡ owed_in held x) e (at_same q [] s.owed ∙ sym idle)
-    | inr ne ↦ at_other q [] s.owed a ne ∙ st.owed a
+    | inl e ↦ subst (λ (x : Point). at_point q [] s.owed x ≡ owed_in owed_new held x) e (at_same q [] s.owed ∙ sym none_at)
+    | inr ne ↦ at_other q [] s.owed a ne ∙ (st.owed a ∙ owed_at (debts mid s.needed) owed_new held a (sym (same_debts a ne)))
   ]
 
   listed : (a : Point) → s.todo a ≡ true → Among a new.todo.items ⊎ IsInHand held a
@@ -281,7 +296,7 @@ module _ (F : Functions) (z : Start) (s : State) (arena : Arena) (mid new : Work
           | inr ne ↦ at_other q machine.Full woken.stage a ne ∙ stage_now mid.rows new.rows q code.Bare w.rows s.stage st.stage a k e
         ])
         (λ a. elim (same_or_other q a) [
-          | inl e ↦ subst (λ (x : Point). rested.owed x ≡ owed_in held x) e (at_same q [] woken.owed ∙ sym idle)
+          | inl e ↦ subst (λ (x : Point). rested.owed x ≡ owed_in owed_new held x) e (at_same q [] woken.owed ∙ sym none_at)
           | inr ne ↦ at_other q [] woken.owed a ne ∙ owed_now a
         ])
 
@@ -324,15 +339,16 @@ module _ (F : Functions) (z : Start) (s : State) (arena : Arena) (old new : Work
   other : p ≡ q → ⊥
   other e = fresh (subst (Needed old.graph) e need)
 
-  idle : owed_in (Some (hand p rest)) q ≡ []
-  idle = at_other p rest (λ (y : Point). []) q other
+  idle : owed_in nothing (Some (hand p rest)) q ≡ []
+  idle = at_other p rest nothing q other
 
   pub linked_new_stands : AreUnlinked (Some (hand p [])) s
       → (t : State) × Reaches (Wiring F z) s t × MatchesState arena new counts (Some (hand p rest)) t × AreUnlinked (Some (hand p [])) t
   linked_new_stands unlinked =
       let e = enqueues F z linked_state arena mid new counts (Some (hand p rest)) q (Needed old.graph) with_old fresh now refl idle w same in
       let u = unneeded F z linked_state arena mid new counts (Some (hand p rest)) q (Needed old.graph) with_old fresh now refl idle w same in
-      let on = woken_stands F z linked_state arena mid new counts (Some (hand p rest)) q (Needed old.graph) with_old fresh now refl idle w same unlinked in
+      let on = woken_stands F z linked_state arena mid new counts (Some (hand p rest)) q (Needed old.graph) with_old fresh now refl idle w same
+      (linked_unlinked s p q rest (level g.heights) unlinked) in
       let k : Link F s p q rest (level g.heights) = is_link F z s arena old g counts p q rest st reached more roots need dep conf in
       let h : Enqueues s s.heap (λ a. is_some (at new.graph.heap a)) (IsIt s q) (IsIt s q) = record { kept = e.kept; new = e.new; told = e.told } in
       (on.0, step (move.link_new k u h refl, tt) on.1, on.2, on.3)

@@ -1,5 +1,5 @@
 -- The rows and places of a node's points, and the nodes of two points that are listed.
-use Rattle.std.proofs.Common.{◌≡◌, ◌≢◌, ◌⊎◌, inl, inr, ◌++◌, List, [], ◌∷◌, Option, None, Some, refl, sym, ap, subst, ◌∙◌}
+use Rattle.std.proofs.Common.{◌≡◌, ◌≢◌, ◌⊎◌, inl, inr, false, ◌++◌, List, [], ◌∷◌, Option, None, Some, refl, sym, ap, subst, ◌∙◌}
 use Rattle.std.specs.Prelude.{is_some, IsSome, option_map}
 use Rattle.std.proofs.lemmas.Option.{none-some}
 use Rattle.inc_value.specs.declared.node.NodeId.{NodeId}
@@ -7,7 +7,9 @@ use Rattle.inc_value.specs.declared.node.Part.{Part}
 use Rattle.inc_value.specs.declared.node.Part.TheVariants.{Main, Change}
 use Rattle.inc_value.specs.declared.node.Point.{Point}
 use Rattle.inc_value.specs.Choice.{Among}
+use Rattle.expert_nodes.specs.Experts.{ExpertPlace}
 use Rattle.inc_terms.specs.Depend.{main, change, subject_of}
+use Rattle.inc_terms.specs.Graph as graph
 use Rattle.inc_terms.specs.Graph.{Row, Def}
 use Rattle.map_nodes.specs.declared.cutoff.Cutoff.TheVariants.{Equal}
 use Rattle.point_map.specs.Rows.{Rows, at, Changes, KeepsRows}
@@ -18,13 +20,14 @@ use Rattle.node_outcomes.specs.Computing.{has_part}
 use Rattle.node_outcomes.specs.declared.row.Progress.{Progress}
 use Rattle.node_outcomes.specs.declared.row.Stage.TheVariants.{Bare}
 use Rattle.stabilize_round.proofs.Points.{node_or_other}
+use Rattle.wiring.specs.Experts.{ExpertIsAdded}
 use Rattle.wiring.specs.Places.{ChangesNode, for_parts, pairs_after}
-use Rattle.wiring.specs.Wiring.{GraphStays, KeepsRound}
+use Rattle.wiring.specs.Wiring.{GraphStays}
 use Rattle.wiring.specs.declared.work.Work.{Work}
 
 -- the row of a new point
 abbrev pub unsettled : Progress
-unsettled = record { stage = Bare; settled = 0; outcome = None; last = None; cutoff = Equal }
+unsettled = record { stage = Bare; settled = 0; outcome = None; last = None; cutoff = Equal; frozen = false }
 
 point : NodeId → Part → Point
 point n part = record { node = n; part = part }
@@ -189,15 +192,6 @@ change_still old new n row c = c.others (change n) (change_other n n)
 
 -- ---- what stays where points come and go
 
-rounds : (old mid new : Work) → KeepsRound old mid → KeepsRound mid new → KeepsRound old new
-rounds old mid new a b = record {
-  roots = b.roots ∙ a.roots;
-  deaths = b.deaths ∙ a.deaths;
-  ran = b.ran ∙ a.ran;
-  retries = b.retries ∙ a.retries;
-  round = b.round ∙ a.round;
-}
-
 pub stays_twice : (old mid new : Work) → GraphStays old mid → GraphStays mid new → GraphStays old new
 stays_twice old mid new a b = record {
   links = b.links ∙ a.links;
@@ -205,8 +199,37 @@ stays_twice old mid new a b = record {
   heap = λ p. b.heap p ∙ a.heap p;
   step = b.step;
   todo = b.todo ∙ a.todo;
-  round = rounds old mid new a.round b.round;
+  round = record {
+    roots = b.round.roots ∙ a.round.roots;
+    deaths = b.round.deaths ∙ a.round.deaths;
+    ran = b.round.ran ∙ a.round.ran;
+    retries = b.round.retries ∙ a.round.retries;
+    round = b.round.round ∙ a.round.round;
+    experts = refl;
+  };
 }
+
+pub stays_after : (old new : Work) (experts : List ExpertPlace) → GraphStays (record old { experts = experts }) new → GraphStays old new
+stays_after old new experts a = record {
+  links = a.links;
+  roots = a.roots;
+  heap = a.heap;
+  step = a.step;
+  todo = a.todo;
+  round = record {
+    roots = a.round.roots;
+    deaths = a.round.deaths;
+    ran = a.round.ran;
+    retries = a.round.retries;
+    round = a.round.round;
+    experts = refl;
+  };
+}
+
+-- a node of two points is no expert
+pub no_expert_added : (def : Def) (old new : List ExpertPlace) (n m : NodeId) → subject_of def ≡ Some m → new ≡ old → ExpertIsAdded def old new n
+no_expert_added (graph.Expert f v ns) old new n m two same = absurd (none-some m two)
+no_expert_added _ old new n m two same = same
 
 -- which nodes are listed is no part of it
 pub stays_listed : (old new : Work) (pairs scoped : Listed) → GraphStays (record old { pairs = pairs; scoped = scoped }) new → GraphStays old new
@@ -216,7 +239,14 @@ stays_listed old new pairs scoped a = record {
   heap = a.heap;
   step = a.step;
   todo = a.todo;
-  round = record { roots = a.round.roots; deaths = a.round.deaths; ran = a.round.ran; retries = a.round.retries; round = a.round.round };
+  round = record {
+    roots = a.round.roots;
+    deaths = a.round.deaths;
+    ran = a.round.ran;
+    retries = a.round.retries;
+    round = a.round.round;
+    experts = refl;
+  };
 }
 
 pub stays_then_listed : (old new : Work) (pairs scoped : Listed) → GraphStays old new → GraphStays old (record new { pairs = pairs; scoped = scoped })
@@ -226,5 +256,12 @@ stays_then_listed old new pairs scoped a = record {
   heap = a.heap;
   step = a.step;
   todo = a.todo;
-  round = record { roots = a.round.roots; deaths = a.round.deaths; ran = a.round.ran; retries = a.round.retries; round = a.round.round };
+  round = record {
+    roots = a.round.roots;
+    deaths = a.round.deaths;
+    ran = a.round.ran;
+    retries = a.round.retries;
+    round = a.round.round;
+    experts = refl;
+  };
 }

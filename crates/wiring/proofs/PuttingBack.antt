@@ -23,6 +23,7 @@ use Rattle.stabilize_round.specs.State as machine
 use Rattle.stabilize_round.specs.State.{State, Start, Linked, count, one, planned, live_plan, plan_at}
 use Rattle.stabilize_round.specs.Wire.{Drop}
 use Rattle.stabilize_round.proofs.Points.{same_or_other, at_same, at_other, count_append, count_among, one_same, one_other}
+use Rattle.expert_nodes.specs.Experts.{fresh_at}
 use Rattle.node_outcomes.specs.Computing.{has_part}
 use Rattle.node_outcomes.specs.Row.{IsRewritten, with_stage, settled_in, stage_in}
 use Rattle.node_outcomes.specs.declared.row.Progress.{Progress}
@@ -30,11 +31,12 @@ use Rattle.node_outcomes.specs.declared.row.Stage.{Stage}
 use Rattle.node_outcomes.specs.declared.row.Stage.TheVariants as code
 use Rattle.wiring.specs.Graph.{rowless}
 use Rattle.wiring.specs.Kept.{IsKept}
-use Rattle.wiring.specs.Stands.{MatchesState, PointInHand, owed_in, Counts}
+use Rattle.wiring.specs.Stands.{MatchesState, PointInHand, debts, owed_in, Counts}
 use Rattle.wiring.specs.Wiring.{IsMarked, IsEnqueued, HasMore, IsAtGate, GoesBack, HandIsSpared, IsSparedHand, TakesOne, is_gated}
 use Rattle.wiring.specs.declared.work.Work.{Work}
 use Rattle.wiring.proofs.GoingBack.{IsLowered, lowered, fewer_links}
-use Rattle.wiring.proofs.InHand.{nothing, still_not}
+use Rattle.wiring.proofs.InHand.{still_not}
+use Rattle.wiring.proofs.Owing.{owes_no_change}
 use Rattle.wiring.proofs.Staying.{stage_is}
 use Rattle.wiring.proofs.TakingOff.{MayLower, scheduled, row_at_stage, takes, stands_off}
 
@@ -195,12 +197,15 @@ module _ (arena : Arena) (old new : Work) (p : Point) (bind : NodeId) (r : Row) 
     owes_no_gate : count gate (s.owed p) ≡ 0
     owes_no_gate = ap (count gate) (st.owed p) ∙ by_hand held refl
       where
-        by_hand : (x : Option PointInHand) → held ≡ x → count gate (owed_in x p) ≡ 0
-        by_hand None e = refl
+        alone : count gate (debts old s.needed p) ≡ 0
+        alone = owes_no_change old (s.needed p) p bind (mains_alone bind (fresh_at old.experts p.node))
+
+        by_hand : (x : Option PointInHand) → held ≡ x → count gate (owed_in (debts old s.needed) x p) ≡ 0
+        by_hand None e = alone
         by_hand (Some h) e = elim (same_or_other h.point p) [
-          | inl same ↦ ap (count gate) (subst (λ (y : Point). owed_in (Some h) y ≡ h.owed) same (at_same h.point h.owed nothing))
+          | inl same ↦ ap (count gate) (subst (λ (y : Point). owed_in (debts old s.needed) (Some h) y ≡ h.owed) same (at_same h.point h.owed (debts old s.needed)))
               ∙ none (count gate h.owed) (λ some. not_owed same (count_among gate h.owed some))
-          | inr ne ↦ ap (count gate) (at_other h.point h.owed nothing p ne)
+          | inr ne ↦ ap (count gate) (at_other h.point h.owed (debts old s.needed) p ne) ∙ alone
         ]
           where
             not_owed : h.point ≡ p → Among gate h.owed → ⊥

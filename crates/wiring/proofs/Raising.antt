@@ -12,7 +12,6 @@ use Rattle.inc_terms.specs.Graph.{Graph, Row, Def}
 use Rattle.inc_terms.specs.Plan.{gate_of, targets}
 use Rattle.inc_terms.specs.Term.{Functions}
 use Rattle.point_map.specs.Rows.{Rows, at, Holds}
-use Rattle.height_order.specs.Levels.{level}
 use Rattle.necessary_graph.specs.Part.{Needed}
 use Rattle.node_arena.specs.Arena.{Arena, row_at}
 use Rattle.stabilize_round.specs.Invariant.{Invariant}
@@ -28,7 +27,7 @@ use Rattle.stabilize_round.proofs.Steps.{joined}
 use Rattle.wiring.specs.Growing.{Grows}
 use Rattle.wiring.specs.Kept.{IsKept}
 use Rattle.node_outcomes.specs.Row.{IsRewritten, with_stage, stage_in, stage_of}
-use Rattle.wiring.specs.Stands.{MatchesState, hand, Counts}
+use Rattle.wiring.specs.Stands.{MatchesState, hand, debts, owes, Counts}
 use Rattle.wiring.specs.Wiring.{KeepsPlaces, LacksLinks, GateRan, AreUnlinked}
 use Rattle.node_outcomes.specs.declared.row.Progress.{Progress}
 use Rattle.node_outcomes.specs.declared.row.Stage.{Stage}
@@ -37,7 +36,8 @@ use Rattle.wiring.specs.declared.work.Work.{Work}
 use Rattle.wiring.proofs.Staying.{KeepsMost, row_of_state, stage_is, stage_now, most_staged, most_same, round_same, most_settled, most_kept_there, most_stands, hand_stands}
 use Rattle.wiring.proofs.Unlinked.{not_off, finished_unlinked}
 use Rattle.wiring.proofs.Holding.{has_links_same}
-use Rattle.wiring.proofs.InHand.{nothing, nothing_at}
+use Rattle.wiring.proofs.Reading.{read_still}
+use Rattle.wiring.proofs.Owing.{owed_put, owed_taken, owes_same}
 
 -- ---- moves one after the other
 
@@ -109,6 +109,12 @@ module _ (F : Functions) (z : Start) where
   wired_settled s t (after_refusal {u = u} {v = v} {w = w} a off m h b) =
       wired_settled w t b ∙ ((spend_keeps v w m h).settled ∙ ((off_keeps u v off).settled ∙ (wiring_keeps s u a).settled))
 
+  -- so it is with the graph
+  pub wired_graph : (s t : State) → Wired F z s t → t.graph ≡ s.graph
+  wired_graph s t (plainly a) = (wiring_keeps s t a).graph
+  wired_graph s t (after_refusal {u = u} {v = v} {w = w} a off m h b) =
+      wired_graph w t b ∙ ((spend_keeps v w m h).graph ∙ ((off_keeps u v off).graph ∙ (wiring_keeps s u a).graph))
+
   one_retries : (s t : State) (m : Move F z s t) → WiringMove m → t.retries ≡ s.retries
   one_retries s t (move.link x n e) h = ap (λ (a : State). a.retries) e
   one_retries s t (move.link_new x n k e) h = ap (λ (a : State). a.retries) e
@@ -129,20 +135,20 @@ if_refusal P e (Err y) is h = subst P (sym is) h
 
 -- ---- what is owed
 
--- what is owed after a point is raised
-owed_raised : (s : State) (p : Point) (links : List Point) (st : machine.Stage) → ((a : Point) → s.owed a ≡ at_point p [] nothing a)
-    → (a : Point) → at_point p links s.owed a ≡ at_point p links nothing a
-owed_raised s p links st before a = elim (same_or_other p a) [
-  | inl e ↦ subst (λ (x : Point). at_point p links s.owed x ≡ at_point p links nothing x) e (at_same p links s.owed ∙ sym (at_same p links nothing))
-  | inr ne ↦ at_other p links s.owed a ne ∙ (before a ∙ (at_other p [] nothing a ne ∙ sym (at_other p links nothing a ne)))
-]
+-- what is owed after a point is raised: its row alone is another
+owed_raised : (s : State) (work : Work) (rows : Rows Progress) (p : Point) (links : List Point)
+    → ((a : Point) → s.owed a ≡ at_point p [] (debts work s.needed) a) → ((a : Point) → (p ≡ a → ⊥) → at rows a ≡ at work.rows a)
+    → (a : Point) → at_point p links s.owed a ≡ at_point p links (debts (record work { rows = rows }) s.needed) a
+owed_raised s work rows p links before others = owed_put (debts work s.needed) (debts (record work { rows = rows }) s.needed) p [] links
+    (λ a ne. owes_same work (record work { rows = rows }) (s.needed a) a (others a ne) refl) s.owed before
 
 -- a point is raised, where rows keep all but their stages
 pub raised_stands : (s : State) (arena : Arena) (work : Work) (rows : Rows Progress) (counts : Counts) (p : Point) (st : machine.Stage) (links : List Point)
     → MatchesState arena work counts (Some (hand p [])) s → KeepsMost work (record work { rows = rows })
+    → ((a : Point) → (p ≡ a → ⊥) → at rows a ≡ at work.rows a)
     → ((a : Point) (k : Progress) → at rows a ≡ Some k → at_point p st s.stage a ≡ stage_of k.stage)
     → MatchesState arena (record work { rows = rows }) counts (Some (hand p links)) (raised s p st links)
-raised_stands s arena work rows counts p st links on most stages =
+raised_stands s arena work rows counts p st links on most others stages =
     most_stands work (record work { rows = rows }) most arena s (raised s p st links) refl on refl (record {
       links = on.links;
       root = on.root;
@@ -150,7 +156,7 @@ raised_stands s arena work rows counts p st links on most stages =
       height = on.height;
       heap = on.heap;
       stage = stages;
-      owed = owed_raised s p links st on.owed;
+      owed = owed_raised s work rows p links on.owed others;
       todo = on.todo;
       retries = on.retries;
     })
@@ -180,7 +186,7 @@ module _ (old : Work) (rows : Rows Progress) (p : Point) (st : Stage) (w : IsRew
   staged_ran arena ran r b row scope = most_settled old staged staged_most (change b) ∙ ran r b row scope
 
   pub staged_places : KeepsPlaces old staged
-  staged_places = record { rows = staged_there; roots = λ a. refl; deaths = refl; round = refl }
+  staged_places = record { rows = staged_there; roots = λ a. refl; deaths = refl; round = refl; experts = read_still old.experts }
 
   -- what follows is left to wire as before
   pub staged_grows : (next : Work) → Grows staged next → Grows old next
@@ -192,24 +198,28 @@ module _ (old : Work) (rows : Rows Progress) (p : Point) (st : Stage) (w : IsRew
   pub up_stands : (s : State) (arena : Arena) (counts : Counts) (links : List Point) → MatchesState arena old counts (Some (hand p [])) s
       → MatchesState arena staged counts (Some (hand p links)) (raised s p (stage_of st) links)
   up_stands s arena counts links on =
-      raised_stands s arena old rows counts p (stage_of st) links on staged_most (stage_now old.rows rows p st w s.stage on.stage)
+      raised_stands s arena old rows counts p (stage_of st) links on staged_most (λ a ne. w.others a (λ e. ne (sym e)))
+      (stage_now old.rows rows p st w s.stage on.stage)
 
 -- a point without a row is raised: nothing is kept of that
 pub rowless_stands : (s : State) (arena : Arena) (work : Work) (counts : Counts) (p : Point) (st : machine.Stage) (links : List Point)
     → MatchesState arena work counts (Some (hand p [])) s → at work.rows p ≡ None → MatchesState arena work counts (Some (hand p links)) (raised s p st links)
 rowless_stands s arena work counts p st links on rowless =
-    raised_stands s arena work work.rows counts p st links on (most_same work work.graph work.todo work.retries) (λ a k e. elim (same_or_other p a) [
+    raised_stands s arena work work.rows counts p st links on (most_same work work.graph work.todo work.retries) (λ a ne. refl)
+    (λ a k e. elim (same_or_other p a) [
       | inl is ↦ absurd (none-some k (sym rowless ∙ subst (λ (x : Point). at work.rows x ≡ Some k) (sym is) e))
       | inr ne ↦ at_other p st s.stage a ne ∙ on.stage a k e
     ])
 
--- the point in hand is owed nothing, and leaves the worklist
+-- the point in hand is owed nothing, in hand or not, and leaves the worklist
 pub leaves_hand : (F : Functions) (z : Start) (s : State) (arena : Arena) (work : Work) (counts : Counts) (p : Point) → MatchesState arena work counts (Some (hand p [])) s
-    → AreUnlinked (Some (hand p [])) s → Finish s p → (t : State) × Reaches (Wiring F z) s t × MatchesState arena work counts None t × AreUnlinked None t
-leaves_hand F z s arena work counts p on unlinked finishes = (
+    → AreUnlinked (Some (hand p [])) s → owes work (s.needed p) p ≡ [] → Finish s p
+    → (t : State) × Reaches (Wiring F z) s t × MatchesState arena work counts None t × AreUnlinked None t
+leaves_hand F z s arena work counts p on unlinked none finishes = (
   finished s p,
   step (move.finish finishes refl, tt) here,
-  hand_stands s arena work counts (Some (hand p [])) None work.todo s.owed (at_point p false s.todo) on (λ a. on.owed a ∙ nothing_at p a)
+  hand_stands s arena work counts (Some (hand p [])) None work.todo s.owed (at_point p false s.todo) on
+      (λ a. on.owed a ∙ owed_taken (debts work s.needed) p [] none a)
       (λ a t. elim (same_or_other p a) [
         | inl e ↦ absurd (not_off p a s.todo e t)
         | inr ne ↦ elim (on.todo a (sym (at_other p false s.todo a ne) ∙ t)) [ inl k ↦ inl k | inr k ↦ absurd (ne (sym k)) ]
@@ -219,9 +229,9 @@ leaves_hand F z s arena work counts p on unlinked finishes = (
 
 -- it isn't in the worklist, and nothing is in hand
 pub hand_empty : (s : State) (arena : Arena) (work : Work) (counts : Counts) (p : Point) → MatchesState arena work counts (Some (hand p [])) s
-    → (s.todo p ≡ true → ⊥) → MatchesState arena work counts None s
-hand_empty s arena work counts p on out =
-    hand_stands s arena work counts (Some (hand p [])) None work.todo s.owed s.todo on (λ a. on.owed a ∙ nothing_at p a)
+    → owes work (s.needed p) p ≡ [] → (s.todo p ≡ true → ⊥) → MatchesState arena work counts None s
+hand_empty s arena work counts p on none out =
+    hand_stands s arena work counts (Some (hand p [])) None work.todo s.owed s.todo on (λ a. on.owed a ∙ owed_taken (debts work s.needed) p [] none a)
     (λ a t. elim (on.todo a t) [ inl k ↦ inl k | inr e ↦ absurd (out (ap s.todo (sym e) ∙ t)) ])
 
 -- ---- stages and links, by cases
@@ -297,7 +307,7 @@ module _ (arena : Arena) (p : Point) (r : Row) (row : row_at arena p.node ≡ So
       → (st ≡ machine.Full → p.part ≡ Main → (q : Point) → Among q (targets s.graph p.node r.def (s.out (change p.node))) → ⊥) → Raise s p st extra
   goes_up st extra plan rightless = record {
     todo = in_todo;
-    owed = on.owed p ∙ at_same p [] nothing;
+    owed = on.owed p ∙ at_same p [] (debts old s.needed);
     plan = λ b.
         let all : count b (plan_at s.graph s.out s.died p (s.graph.row p.node) st) ≡ count b (gate_of r.scope ++ extra) =
         ap (λ (x : Option Row). count b (plan_at s.graph s.out s.died p x st)) row_is ∙ ap (count b) plan in

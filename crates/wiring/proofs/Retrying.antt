@@ -38,14 +38,16 @@ use Rattle.node_outcomes.specs.declared.row.Progress.{Progress}
 use Rattle.node_outcomes.specs.declared.row.Stage.{Stage}
 use Rattle.node_outcomes.specs.declared.row.Stage.TheVariants as code
 use Rattle.wiring.specs.TakingOff.{RowsSpared, TakesMore}
-use Rattle.wiring.specs.Stands.{MatchesState, PointInHand, hand, Counts}
+use Rattle.wiring.specs.Stands.{MatchesState, PointInHand, hand, debts, owes, Counts}
 use Rattle.wiring.specs.Wiring.{IsDue, IsLevelled, IsSpared, IsPutBack, HasMore, IsTarget, MayRead, KeepsPlaces, Links, is_gated, is_still, hand_now, AreUnlinked}
 use Rattle.wiring.specs.declared.refused.Refused.{Refused}
 use Rattle.wiring.specs.declared.work.Work.{Work}
 use Rattle.wiring.proofs.Deciding.{decides_needed, same_need}
 use Rattle.wiring.proofs.Growing.{grows_then}
 use Rattle.wiring.proofs.Holding.{has_links_same, links_same}
-use Rattle.wiring.proofs.InHand.{still_same, still_not, still_needed, still_spared, nothing, change_settled}
+use Rattle.wiring.proofs.InHand.{still_same, still_not, still_needed, still_spared, change_settled}
+use Rattle.wiring.proofs.Owing.{owes_staged, owes_unneeded}
+use Rattle.wiring.proofs.Reading.{read_still}
 use Rattle.wiring.proofs.Levelling.{low_wiring, low_stands, refused_at_once}
 use Rattle.wiring.proofs.PuttingBack.{gate_once, gated_now, more_isnt_gated}
 use Rattle.wiring.proofs.Raising.{Keeps, keeps_then, wiring_keeps, off_keeps, spend_keeps, wired_then, wired_after, leaves_hand}
@@ -236,15 +238,15 @@ module _ (F : Functions) (z : Start) (s : State) (arena : Arena) (old mid new : 
     at_hand = subst (λ (b : Bool). MatchesState arena new counts (cond b held (Some (hand p []))) then) gone was.4
 
     owes_nothing : then.owed p ≡ []
-    owes_nothing = at_hand.owed p ∙ at_same p [] nothing
+    owes_nothing = at_hand.owed p ∙ at_same p [] (debts new then.needed)
 
-    left : Finish then p → (t : State) × Wired F z s t × MatchesState arena new counts None t × AreUnlinked None t
-    left leaves =
-        let out = leaves_hand F z then arena new counts p at_hand unlinked leaves in
+    left : owes new (then.needed p) p ≡ [] → Finish then p → (t : State) × Wired F z s t × MatchesState arena new counts None t × AreUnlinked None t
+    left none leaves =
+        let out = leaves_hand F z then arena new counts p at_hand unlinked none leaves in
         (out.0, wired_on out.0 out.1, out.2, out.3)
 
   pub lost_need : (Needed new.graph p → ⊥) → (t : State) × Wired F z s t × MatchesState arena new counts None t × AreUnlinked None t
-  lost_need lost = left gone (record {
+  lost_need lost = left gone (owes_unneeded new (then.needed p) p unneeded_now) (record {
     owed = owes_nothing gone;
     bare = λ n e. lost (need_now n);
     gated = λ r row n e. absurd (lost (need_now n));
@@ -260,8 +262,11 @@ module _ (F : Functions) (z : Start) (s : State) (arena : Arena) (old mid new : 
       need_now : then.needed p ≡ true → Needed new.graph p
       need_now n = (was.4.needed p).0 n
 
+      unneeded_now : then.needed p ≡ false
+      unneeded_now = elim (bool_cases (then.needed p)) [ inl t ↦ absurd (lost (need_now t)) | inr f ↦ f ]
+
   pub put_back : (back : IsPutBack arena mid new p) → (t : State) × Wired F z s t × MatchesState arena new counts None t × AreUnlinked None t
-  put_back back = left gone (record {
+  put_back back = left gone (owes_staged new (then.needed p) p code.Gated gated_now_row (λ e. cc)) (record {
     owed = owes_nothing gone;
     bare = λ n e. let g = is_gated_now in cc;
     gated = λ r row n e. (back.bind, scope r row, unsettled, in_heap r row n);
@@ -272,8 +277,11 @@ module _ (F : Functions) (z : Start) (s : State) (arena : Arena) (old mid new : 
       gone = still_not mid new p (ap (λ (x : Option Progress). is_gated (stage_in x)) back.back.now ∙ gated_now (at mid.rows p) back.back.more)
           (more_isnt_gated (stage_in (at mid.rows p)) back.back.more)
 
+      gated_now_row : stage_in (at new.rows p) ≡ Some code.Gated
+      gated_now_row = ap stage_in back.back.now ∙ gated_for (at mid.rows p) back.back.more
+
       is_gated_now : then.stage p ≡ machine.Gated
-      is_gated_now = stage_is was.4 p code.Gated (ap stage_in back.back.now ∙ gated_for (at mid.rows p) back.back.more)
+      is_gated_now = stage_is was.4 p code.Gated gated_now_row
 
       same_row : (r : Row) → then.graph.row p.node ≡ Some r → back.back.row ≡ r
       same_row r row = same_Some back.back.row r (sym back.back.is_row ∙ (sym (row_of_state was.4 p.node) ∙ row))
@@ -318,19 +326,21 @@ pub record IsTrying (arena : Arena) (old now : Work) (p q : Point) : Type 0 wher
   pub row : at now.rows p ≡ at old.rows p
   pub grows : Grows old now
   pub retries : now.retries ≤ old.retries
+  pub experts : now.experts ≡ old.experts
   pub barred : (now ≡ old) ⊎ IsBarred old p q
 
 -- at first
 pub first_trying : (arena : Arena) (work : Work) (p q : Point) → IsKept arena work → Needed work.graph p → IsSpared arena work p → IsTrying arena work work p q
 first_trying arena work p q kept needed spared = record {
   due = λ F z s counts rest due. (s, plainly here, due);
-  places = record { rows = λ a. refl; roots = λ a. refl; deaths = refl; round = refl };
+  places = record { rows = λ a. refl; roots = λ a. refl; deaths = refl; round = refl; experts = read_still work.experts };
   kept = kept;
   needed = needed;
   spared = spared;
   row = refl;
   grows = λ points covers. omega arith;
   retries = omega arith;
+  experts = refl;
   barred = inl refl;
 }
 
@@ -352,6 +362,10 @@ module _ (arena : Arena) (old now : Work) (p q : Point) (so : IsTrying arena old
   has_links : (a : Point) → HasLinks now a → HasLinks old a
   has_links = has_links_same now old (λ a. sym (so.places.rows a)) (sym so.places.deaths)
 
+  -- experts stay
+  off_experts : (mid new : Work) → IsOffNow arena now mid new p → new.experts ≡ old.experts
+  off_experts mid new o = ap (λ (w : Work). w.experts) o.more.rest ∙ (o.levelled.round.experts ∙ so.experts)
+
   -- it is needed still, and wasn't put back
   pub more_trying : (mid new : Work) → IsOffNow arena now mid new p → IsBarred mid p q → IsStill mid new p → IsTrying arena old new p q
   more_trying mid new o bar still =
@@ -367,6 +381,7 @@ module _ (arena : Arena) (old now : Work) (p q : Point) (so : IsTrying arena old
         row = same ∙ (o.levelled.rows p ∙ so.row);
         grows = grows_then old now new has_links so.grows o.grows;
         retries = let a = so.retries in let b = o.fewer in omega (arith, a, b);
+        experts = off_experts mid new o;
         barred = inr (first_barred mid o.levelled bar);
       }
 
@@ -387,6 +402,7 @@ module _ (arena : Arena) (old now : Work) (p q : Point) (so : IsTrying arena old
     refused = tt;
     barred = λ fewer. first_barred mid o.levelled bar;
     row = λ t. absurd (let e = t in cc);
+    experts = off_experts mid new o;
     places = places_then old now new so.places o.places;
     kept = o.more.kept;
     pushed = grows_then old now new has_links so.grows o.grows;
@@ -394,9 +410,9 @@ module _ (arena : Arena) (old now : Work) (p q : Point) (so : IsTrying arena old
 
   -- the link is on
   pub on_answers : (new : Work) → Links arena now new p q → Needed new.graph p × Needed new.graph q → Reads new.graph.links p q
-      → at new.rows p ≡ at now.rows p → new.retries ≡ now.retries → KeepsPlaces now new → IsKept arena new → Grows now new
+      → at new.rows p ≡ at now.rows p → new.retries ≡ now.retries → new.experts ≡ now.experts → KeepsPlaces now new → IsKept arena new → Grows now new
       → ConnectAnswers arena old new p q (Ok true)
-  on_answers new links need reads same as_now places kept grows = record {
+  on_answers new links need reads same as_now experts places kept grows = record {
     linked = λ t F z s counts rest due.
         let a = so.due F z s counts rest due in
         let b = links F z a.0 counts rest a.2 in
@@ -407,6 +423,7 @@ module _ (arena : Arena) (old now : Work) (p q : Point) (so : IsTrying arena old
     refused = tt;
     barred = was_barred new as_now;
     row = λ t. same ∙ so.row;
+    experts = experts ∙ so.experts;
     places = places_then old now new so.places places;
     kept = kept;
     pushed = grows_then old now new has_links so.grows grows;
@@ -426,6 +443,7 @@ module _ (arena : Arena) (old now : Work) (p q : Point) (so : IsTrying arena old
         (b.0, wired_then F z s a.0 b.0 a.1 b.1, b.2, b.3);
     barred = was_barred new as_now;
     row = tt;
+    experts = l.round.experts ∙ so.experts;
     places = places_then old now new so.places places;
     kept = kept;
     pushed = tt;

@@ -24,7 +24,7 @@ module _ (old : Work) (todo : Vec Point Global) (g : NecessaryPart) (items : tod
     heap = λ a. ap is_some (heap a);
     todo = items;
     lists = record { pairs = refl; scoped = refl };
-    round = record { roots = refl; deaths = refl; ran = refl; retries = refl; round = refl };
+    round = record { roots = refl; deaths = refl; ran = refl; retries = refl; round = refl; experts = refl };
   }
 
   -- there was no memory for the point

@@ -141,7 +141,7 @@ module _ (old mid new : Work) (g : NecessaryPart) (p : Point) (newly : Bool) (lo
     step = mid_step;
     todo = refl;
     lists = record { pairs = refl; scoped = refl };
-    round = record { roots = refl; deaths = refl; ran = refl; retries = refl; round = refl };
+    round = record { roots = refl; deaths = refl; ran = refl; retries = refl; round = refl; experts = refl };
   }
 
   root_follows_low : (arena : Arena) → IsKept arena old → IsTarget arena old p → (F : Functions) (z : Start) (s : State) (counts : Counts)

@@ -44,6 +44,7 @@ module _ (q : Point) (old new : Work) (marked : IsMarked old.graph new.graph q) 
     roots = λ a. ap (λ x. root_times x a) marked.graph.roots;
     deaths = marked_most.deaths;
     round = ap (λ (w : Work). w.round) rest;
+    experts = marked_most.experts;
   }
 
   pub marked_grows : IsInStep old.graph → IsInStep new.graph → Grows old new

@@ -12,12 +12,13 @@ use Rattle.inc_value.specs.Choice.{Among}
 use Rattle.inc_terms.specs.declared.def.Def as declared
 use Rattle.inc_terms.specs.declared.def.Def.TheVariants as form
 use Rattle.inc_terms.specs.Code.{def_of}
-use Rattle.inc_terms.specs.Depend.{Depends, fixed, right, main, change, subject_of, fixed_reads, right_of, at_most_one}
+use Rattle.inc_terms.specs.Depend.{Depends, fixed, right, main, change, subject_of, kids_of, unfrozen, fixed_reads, right_of, at_most_one}
 use Rattle.inc_terms.specs.Evaluate.{Gathered, Unknown, SomeInvalid, Values, joined, gathered, with_value, NodeGives}
 use Rattle.inc_terms.specs.Evaluate.{Stands as StandsIn}
-use Rattle.inc_terms.specs.Graph.{Graph, Row, Def, kids}
-use Rattle.inc_terms.specs.Local.{shown, shown_of, by_sight, see_right, own_right, own, Exact, HasRun}
+use Rattle.inc_terms.specs.Graph.{Graph, Row, Def}
+use Rattle.inc_terms.specs.Local.{shown, shown_of, by_sight, see_right, own_right, frozen_or_seen, own, Exact, HasRun}
 use Rattle.inc_terms.specs.Term.{Functions, refs}
+use Rattle.expert_nodes.specs.Experts.{is_stale_at}
 use Rattle.point_map.specs.Rows.{at}
 use Rattle.node_arena.specs.Arena.{Arena, row_at}
 use Rattle.wiring.specs.Graph.{graph_at}
@@ -127,6 +128,8 @@ module _ (s : State) (arena : Arena) (work : Work) (counts : Counts) (kept : IsK
       own_right_same (graph_at arena work) (shown s.graph s.out) (seen work.rows) n (def_of (form.Join k)) sees (own_change refl)
   by_form F n (form.Bind l f caps) own_change =
       own_right_same (graph_at arena work) (shown s.graph s.out) (seen work.rows) n (def_of (form.Bind l f caps)) sees (own_change refl)
+  by_form F n (form.Freeze kid f) own_change = ap (frozen_or_seen ((graph_at arena work).frozen n)) (sees kid)
+  by_form F n (form.Expert f v) own_change = let e = sees_together ((graph_at arena work).lists n) in rw e refl
   by_form F n _ own_change = refl
 
   -- a live node's own function sees the same in the state
@@ -180,17 +183,20 @@ module _ (s : State) (arena : Arena) (work : Work) (counts : Counts) (kept : IsK
   module _ (F : Functions) (z : Start) (inv : Invariant F z s) (quiet : Quiet s) (n : NodeId) (taken : IsLeast s (main n)) (r : Row)
       (live : row_at arena n ≡ Some r) where
     of_kids : (d : declared.Def) → ((m : NodeId) → Among (main m) (fixed_reads s.graph n (def_of d) Main) → (o : Outcome) × (shown s.graph s.out (main m) ≡ Some o))
-        → gathered (by_sight (shown s.graph s.out)) (refs (kids (def_of d))) ≡ Unknown → ⊥
+        → gathered (by_sight (shown s.graph s.out)) (refs (kids_of s.graph n (def_of d))) ≡ Unknown → ⊥
     of_kids (form.Map f ns) h u = gathered_known (shown s.graph s.out) ns h u
     of_kids (form.Fold f v ns) h u = gathered_known (shown s.graph s.out) ns h u
+    of_kids (form.Freeze kid f) h u = gathered_known (shown s.graph s.out) (unfrozen kid (s.graph.frozen n)) h u
+    of_kids (form.Expert f v) h u = gathered_known (shown s.graph s.out) (s.graph.lists n) h u
     of_kids _ h u = cc
 
-    kids_known : seen_together work.rows (kids r.def) ≡ Unknown → ⊥
+    kids_known : seen_together work.rows (kids_of (graph_at arena work) n r.def) ≡ Unknown → ⊥
     kids_known u =
         let d = code_row arena n r live in
+        let same = ap (λ (G : Graph). seen_together work.rows (kids_of G n r.def)) st.graph in
         subst (λ (x : Def). ((m : NodeId) → Among (main m) (fixed_reads s.graph n x Main) → (o : Outcome) × (shown s.graph s.out (main m) ≡ Some o))
-        → gathered (by_sight (shown s.graph s.out)) (refs (kids x)) ≡ Unknown → ⊥) (sym d.1) (of_kids d.0)
-        (reads_known F z inv quiet (main n) taken r live) (sees_together (kids r.def) ∙ u)
+        → gathered (by_sight (shown s.graph s.out)) (refs (kids_of s.graph n x)) ≡ Unknown → ⊥) (sym d.1) (of_kids d.0)
+        (reads_known F z inv quiet (main n) taken r live) (sees_together (kids_of s.graph n r.def) ∙ (same ∙ u))
 
     ran : (k : NodeId) → subject_of r.def ≡ Some k → HasRun F s.graph s.out n r.def k
     ran k sub = (reads_exact F z inv quiet (main n) taken r live (change n) (own_among s.graph n r.def Main k refl sub) r (row_is n ∙ live)).1 k sub
@@ -237,22 +243,24 @@ module _ (s : State) (arena : Arena) (work : Work) (counts : Counts) (kept : IsK
     last_is = ap (option_and_then (λ (x : Progress). x.last)) row ∙ sym (st.last n k row)
 
     -- a reason by rows is one in the state
-    reason_is : (ns : List NodeId) (values : List Value) → ReasonIn work.round work.rows n ns values → Reason s.last s.cutoff s.settled s.stale n ns values
+    reason_is : (ns : List NodeId) (values : List Value) → ReasonIn (is_stale_at work.experts) work.round work.rows n ns values
+        → Reason s.last s.cutoff s.settled s.stale n ns values
     reason_is ns values (other differs) = other (λ c l a. differs c (last_is ∙ l) a)
     reason_is ns values (why.forced {kid} a tells settled) =
         why.forced {kid = kid} a (subst TellsAgain (sym (cutoff_is kid (at work.rows (main kid)) refl settled)) tells) (st.settled (main kid) ∙ settled)
-    reason_is ns values (made_stale marked) = absurd (cc)
+    reason_is ns values (made_stale marked) = made_stale (st.stale n ∙ marked)
 
-    -- and the other way round, as none was made stale
-    reason_seen : (ns : List NodeId) (values : List Value) → Reason s.last s.cutoff s.settled s.stale n ns values → ReasonIn work.round work.rows n ns values
+    -- and the other way round
+    reason_seen : (ns : List NodeId) (values : List Value) → Reason s.last s.cutoff s.settled s.stale n ns values
+        → ReasonIn (is_stale_at work.experts) work.round work.rows n ns values
     reason_seen ns values (other differs) = other (λ c l a. differs c (sym last_is ∙ l) a)
     reason_seen ns values (why.forced {kid} a tells settled) =
         let done = sym (st.settled (main kid)) ∙ settled in
         why.forced {kid = kid} a (subst TellsAgain (cutoff_is kid (at work.rows (main kid)) refl done) tells) done
-    reason_seen ns values (made_stale marked) = absurd (let x = st.stale n in cc)
+    reason_seen ns values (made_stale marked) = made_stale (sym (st.stale n) ∙ marked)
 
     -- what is seen due is due
-    pub due_is : (def : Def) → IsSeenDue s.graph n work.round work.rows def → CallIsDue s n def
+    pub due_is : (def : Def) → IsSeenDue s.graph (is_stale_at work.experts) n work.round work.rows def → CallIsDue s n def
     due_is def due = record {
       kids = due.nodes;
       values = due.values;
@@ -263,7 +271,7 @@ module _ (s : State) (arena : Arena) (work : Work) (counts : Counts) (kept : IsK
 
     -- a call that was seen is a call
     pub calls_are : (F : Functions) (def : Def) (last' : Option Call) (called : Bool)
-        → CallsSeen F s.graph n work.round work.rows def k.last last' called → Calls F s n def last' called
+        → CallsSeen F s.graph (is_stale_at work.experts) n work.round work.rows def k.last last' called → Calls F s n def last' called
     calls_are F def last' false c = (
       c.0 ∙ sym (st.last n k row),
       λ ns values e g.

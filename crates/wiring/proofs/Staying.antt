@@ -1,10 +1,10 @@
--- Rows that keep all but their stages: what the work keeps then, and what a state shows of it.
-use Rattle.std.proofs.Common.{◌≡◌, ◌⊎◌, inl, inr, ℕ, Bool, true, List, [], Option, None, Some, refl, sym, ap, subst, ◌∙◌, arith, Vec, Global}
+-- Rows that keep all but their stages, and experts that read what they read: what the work keeps then, and what a state shows of it.
+use Rattle.std.proofs.Common.{◌≡◌, ◌⊎◌, inl, inr, ℕ, Bool, true, List, Option, None, Some, refl, sym, ap, subst, ◌∙◌, arith, Vec, Global}
 use Rattle.std.specs.Prelude.{is_some, option_map, reverse, ◌↔◌, ◌==◌}
 use Rattle.std.proofs.lemmas.Option.{none-some, same_Some}
 use Rattle.inc_value.specs.declared.node.NodeId.{NodeId}
 use Rattle.inc_value.specs.declared.node.Point.{Point}
-use Rattle.inc_value.specs.Choice.{Among}
+use Rattle.inc_value.specs.Choice.{Among, Every}
 use Rattle.inc_terms.specs.Depend.{main, change, right_of}
 use Rattle.inc_terms.specs.Graph.{Graph}
 use Rattle.inc_terms.specs.Within.{Given}
@@ -15,20 +15,25 @@ use Rattle.height_order.specs.Levels.{level, KeepsPoints}
 use Rattle.necessary_graph.specs.Part.{NecessaryPart, Needed, IsInStep}
 use Rattle.node_arena.specs.Arena.{Arena, row_at}
 use Rattle.node_arena.specs.Graph.{graph_of}
+use Rattle.node_arena.specs.Typing.{FoldTakes}
+use Rattle.expert_nodes.specs.Experts.{ExpertPlace, fresh_at}
+use Rattle.stabilize_round.specs.Freezing.{found}
 use Rattle.stabilize_round.specs.State as machine
-use Rattle.stabilize_round.specs.State.{State, at_point}
+use Rattle.stabilize_round.specs.State.{Call, State, at_point}
 use Rattle.stabilize_round.proofs.Points.{same_or_other, at_same, at_other}
-use Rattle.node_outcomes.specs.Row.{IsRewritten, with_stage, settled_in, outcome_in, stage_in, stage_of}
+use Rattle.node_outcomes.specs.Row.{IsRewritten, kept_by, kept_in, with_stage, settled_in, outcome_in, stage_in, stage_of}
 use Rattle.node_outcomes.specs.declared.row.Progress.{Progress}
 use Rattle.node_outcomes.specs.declared.row.Stage.{Stage}
 use Rattle.node_outcomes.specs.declared.row.Stage.TheVariants as code
 use Rattle.wiring.specs.Graph.{graph_at}
-use Rattle.wiring.specs.Kept.{IsKept}
-use Rattle.wiring.specs.Stands.{MatchesState, StandsWith, PointInHand, hand, IsInHand, Counts, counts_of, owed_in}
+use Rattle.wiring.specs.Experts.{ReadSame}
+use Rattle.wiring.specs.Kept.{HasFired, IsKept}
+use Rattle.wiring.specs.Stands.{MatchesState, StandsWith, PointInHand, hand, IsInHand, Counts, counts_of, debts, owed_in, owes}
 use Rattle.wiring.specs.Wiring.{KeepsRound, KeepsLists, MayRead, ShowsSame}
 use Rattle.wiring.specs.declared.work.Work.{Work}
 use Rattle.wiring.proofs.Deciding.{same_need}
-use Rattle.wiring.proofs.InHand.{nothing_at}
+use Rattle.wiring.proofs.Owing.{owed_same, owed_taken, owes_same}
+use Rattle.wiring.proofs.Reading.{read_as, read_still, read_then}
 use Rattle.wiring.proofs.Holding.{held_same, died_same, links_same, root_same, pairs_same, scoped_same}
 
 -- ---- rows
@@ -41,6 +46,11 @@ pub record IsBefore (old : Rows Progress) (a : Point) (k : Progress) : Type 0 wh
   pub last : k.last ≡ row.last
   pub cutoff : k.cutoff ≡ row.cutoff
   pub settled : k.settled ≡ row.settled
+  pub frozen : k.frozen ≡ row.frozen
+
+-- a row that stays keeps it
+pub same_before : (old : Rows Progress) (a : Point) (k : Progress) → at old a ≡ Some k → IsBefore old a k
+same_before old a k e = record { row = k; was = e; outcome = refl; last = refl; cutoff = refl; settled = refl; frozen = refl }
 
 mapped : (x : Option Progress) (st : Stage) (k : Progress) → option_map (with_stage st) x ≡ Some k
     → (row : Progress) × (x ≡ Some row) × (k ≡ with_stage st row)
@@ -80,8 +90,9 @@ module _ (old new : Rows Progress) (q : Point) (st : Stage) (w : IsRewritten old
           last = ap (λ (x : Progress). x.last) m.2;
           cutoff = ap (λ (x : Progress). x.cutoff) m.2;
           settled = ap (λ (x : Progress). x.settled) m.2;
+          frozen = ap (λ (x : Progress). x.frozen) m.2;
         }
-    | inr ne ↦ record { row = k; was = sym (w.others a (λ h. ne (sym h))) ∙ e; outcome = refl; last = refl; cutoff = refl; settled = refl }
+    | inr ne ↦ same_before old a k (sym (w.others a (λ h. ne (sym h))) ∙ e)
   ]
 
   pub stage_now : (stage : Point → machine.Stage) → ((a : Point) (k : Progress) → at old a ≡ Some k → stage a ≡ stage_of k.stage)
@@ -97,7 +108,7 @@ module _ (old new : Rows Progress) (q : Point) (st : Stage) (w : IsRewritten old
 
 -- ---- what is beside the graph
 
--- rows keep all but their stages; what binds are built for, who died in the round, its number, and who is listed stay
+-- rows keep all but their stages, and experts read what they read; what binds are built for, who died in the round, its number, and who is listed stay
 pub record KeepsMost (old new : Work) : Type 0 where
   pub rows : (a : Point) (k : Progress) → at new.rows a ≡ Some k → IsBefore old.rows a k
   pub held : (a : Point) → is_some (at new.rows a) ≡ is_some (at old.rows a)
@@ -105,16 +116,18 @@ pub record KeepsMost (old new : Work) : Type 0 where
   pub deaths : new.deaths ≡ old.deaths
   pub round : new.round ≡ old.round
   pub lists : KeepsLists old new
+  pub experts : ReadSame old.experts new.experts
 
 -- where all rows stay
 pub most_still : (old new : Work) → KeepsRows old.rows new.rows → KeepsLists old new → KeepsRound old new → KeepsMost old new
 most_still old new rows lists round = record {
-  rows = λ a k e. record { row = k; was = sym (rows a) ∙ e; outcome = refl; last = refl; cutoff = refl; settled = refl };
+  rows = λ a k e. same_before old.rows a k (sym (rows a) ∙ e);
   held = λ a. ap is_some (rows a);
   roots = round.roots;
   deaths = round.deaths;
   round = round.round;
   lists = lists;
+  experts = read_as old.experts new.experts round.experts;
 }
 
 -- where one has another stage
@@ -127,22 +140,24 @@ most_staged old new q st w lists round = record {
   deaths = round.deaths;
   round = round.round;
   lists = lists;
+  experts = read_as old.experts new.experts round.experts;
 }
 
 -- just the graph, rows, the worklist and how many links may be tried again are others
 pub round_same : (work : Work) (graph : NecessaryPart) (rows : Rows Progress) (todo : Vec Point Global)
     → KeepsRound work (record work { graph = graph; rows = rows; todo = todo })
-round_same work graph rows todo = record { roots = refl; deaths = refl; ran = refl; retries = refl; round = refl }
+round_same work graph rows todo = record { roots = refl; deaths = refl; ran = refl; retries = refl; round = refl; experts = refl }
 
 pub most_same : (work : Work) (graph : NecessaryPart) (todo : Vec Point Global) (left : ℕ)
     → KeepsMost work (record work { graph = graph; todo = todo; retries = left })
 most_same work graph todo left = record {
-  rows = λ a k e. record { row = k; was = e; outcome = refl; last = refl; cutoff = refl; settled = refl };
+  rows = λ a k e. same_before work.rows a k e;
   held = λ a. refl;
   roots = refl;
   deaths = refl;
   round = refl;
   lists = record { pairs = refl; scoped = refl };
+  experts = read_still work.experts;
 }
 
 pub most_then : (old mid new : Work) → KeepsMost old mid → KeepsMost mid new → KeepsMost old new
@@ -150,12 +165,21 @@ most_then old mid new first next = record {
   rows = λ a k e.
       let b = next.rows a k e in
       let c = first.rows a b.row b.was in
-      record { row = c.row; was = c.was; outcome = b.outcome ∙ c.outcome; last = b.last ∙ c.last; cutoff = b.cutoff ∙ c.cutoff; settled = b.settled ∙ c.settled };
+      record {
+        row = c.row;
+        was = c.was;
+        outcome = b.outcome ∙ c.outcome;
+        last = b.last ∙ c.last;
+        cutoff = b.cutoff ∙ c.cutoff;
+        settled = b.settled ∙ c.settled;
+        frozen = b.frozen ∙ c.frozen;
+      };
   held = λ a. next.held a ∙ first.held a;
   roots = next.roots ∙ first.roots;
   deaths = next.deaths ∙ first.deaths;
   round = next.round ∙ first.round;
   lists = record { pairs = next.lists.pairs ∙ first.lists.pairs; scoped = next.lists.scoped ∙ first.lists.scoped };
+  experts = read_then old.experts mid.experts new.experts first.experts next.experts;
 }
 
 module _ (old new : Work) (rest : new ≡ record old { graph = new.graph; rows = new.rows }) where
@@ -169,6 +193,7 @@ module _ (old new : Work) (rest : new ≡ record old { graph = new.graph; rows =
     ran = ap (λ (w : Work). w.ran.items) rest;
     retries = ap (λ (w : Work). w.retries) rest;
     round = ap (λ (w : Work). w.round) rest;
+    experts = ap (λ (w : Work). w.experts) rest;
   }
 
 -- ---- a graph that fits rows which are where they were
@@ -205,11 +230,16 @@ pub record ShowsLinks (IsNeeded : Point → Type 0) (work : Work) (held : Option
   pub height : (p : Point) → IsNeeded p → s.height p ≡ level work.graph.heights p
   pub heap : (p : Point) → s.heap p ≡ is_some (at work.graph.heap p)
   pub stage : (p : Point) (k : Progress) → at work.rows p ≡ Some k → s.stage p ≡ stage_of k.stage
-  pub owed : (p : Point) → s.owed p ≡ owed_in held p
+  pub owed : (p : Point) → s.owed p ≡ owed_in (debts work s.needed) held p
   pub todo : (p : Point) → s.todo p ≡ true → Among p work.todo.items ⊎ IsInHand held p
   pub retries : s.retries ≡ work.retries
 
 -- ---- what stays
+
+-- a freeze that keeps a value keeps it while its last call stays
+pub fired_still : (arena : Arena) (n : NodeId) (before now : Progress) → HasFired arena n before → now.last ≡ before.last → HasFired arena n now
+fired_still arena n before now fired last =
+    record { row = fired.row; is_row = fired.is_row; is_freeze = fired.is_freeze; value = fired.value; last = ap found last ∙ fired.last }
 
 module _ (old new : Work) (most : KeepsMost old new) where
   by_row : {A : Type 0} (f : Option Progress → A) (a : Point) → ((k : Progress) (b : IsBefore old.rows a k) → f (Some k) ≡ f (Some b.row))
@@ -228,8 +258,12 @@ module _ (old new : Work) (most : KeepsMost old new) where
   most_settled a = ap (λ (n : ℕ). settled_in n (at new.rows a)) most.round
       ∙ by_row (settled_in old.round) a (λ k b. ap (λ (n : ℕ). n == old.round) b.settled)
 
+  -- so is the value that a freeze keeps
+  pub most_frozen : (a : Point) → kept_in (at new.rows a) ≡ kept_in (at old.rows a)
+  most_frozen a = by_row kept_in a (λ k b. ap (λ (c : Option Call). kept_by k.frozen c) b.last ∙ ap (λ (f : Bool). kept_by f b.row.last) b.frozen)
+
   pub most_graph : (arena : Arena) → graph_at arena new ≡ graph_at arena old
-  most_graph arena = ap (graph_of arena) (held_same arena old new (λ n. most_outcome (change n)) most.roots)
+  most_graph arena = ap (graph_of arena) (held_same arena old new (λ n. most_outcome (change n)) most.roots (λ n. most_frozen (main n)) most.experts.kids)
 
   module _ (arena : Arena) (k : IsKept arena old) where
     -- where the graph fits the rows all is kept that was
@@ -255,6 +289,11 @@ module _ (old new : Work) (most : KeepsMost old new) where
       rounds = λ a w e. let b = most.rows a w e in let r = k.rounds a b.row b.was in let s = b.settled in let q = most.round in omega (arith, r, s, q);
       pairs = λ n r row some. pairs_same old new most.lists n (k.pairs n r row some);
       scoped = λ n r row some. scoped_same old new most.lists n (k.scoped n r row some);
+      experts = λ n. most.experts.there n ∙ k.experts n;
+      listed = λ n. subst (λ (ns : List NodeId). Every (Given arena.given) ns) (sym (most.experts.kids n)) (k.listed n);
+      lists = λ n r f v ns row is. subst (λ (xs : List NodeId). FoldTakes arena r.ty xs f.sig.takes) (sym (most.experts.kids n)) (k.lists n r f v ns row is);
+      tops = k.tops;
+      frozen = λ n w e on. let b = most.rows (main n) w e in fired_still arena n b.row w (k.frozen n b.row b.was (sym b.frozen ∙ on)) b.last;
     }
 
     -- so it is where the same points are there, who reads another did, and who was needed is
@@ -279,7 +318,7 @@ module _ (old new : Work) (most : KeepsMost old new) where
     out = λ a k e. let b = most.rows a k e in ap (λ (x : State). x.out a) same ∙ (st.out a b.row b.was ∙ sym b.outcome);
     last = λ n k e. let b = most.rows (main n) k e in ap (λ (x : State). x.last n) same ∙ (st.last n b.row b.was ∙ sym b.last);
     cutoff = λ n k e. let b = most.rows (main n) k e in ap (λ (x : State). x.cutoff n) same ∙ (st.cutoff n b.row b.was ∙ sym b.cutoff);
-    stale = λ n. ap (λ (x : State). x.stale n) same ∙ st.stale n;
+    stale = λ n. ap (λ (x : State). x.stale n) same ∙ (st.stale n ∙ sym (most.experts.stale n));
     links = shows.links;
     root = shows.root;
     needed = shows.needed;
@@ -302,6 +341,13 @@ pub beside_kept : (arena : Arena) (work : Work) (todo : Vec Point Global) (left 
 beside_kept arena work todo left k = most_kept_there work (record work { todo = todo; retries = left }) (most_same work work.graph todo left) arena k k.step
     (λ a. refl) (λ a n. n) (λ a b l. l) k.heap
 
+-- where rows and lists stay, who is owed something stays
+pub owed_still : (old new : Work) (s : State) (held : Option PointInHand) → KeepsRows old.rows new.rows
+    → ((n : NodeId) → fresh_at new.experts n ≡ fresh_at old.experts n)
+    → (a : Point) → owed_in (debts new s.needed) held a ≡ owed_in (debts old s.needed) held a
+owed_still old new s held rows fresh = owed_same (debts new s.needed) (debts old s.needed) held
+    (λ b. owes_same old new (s.needed b) b (rows b) (fresh b.node))
+
 -- heights, and what is in the heap, are others, where nothing else is that a state can tell
 pub shown_stands : (s : State) (arena : Arena) (old new : Work) (counts : Counts) (held : Option PointInHand) (height' : Point → ℕ) (heap' : Point → Bool)
     → KeepsRows old.rows new.rows → KeepsLists old new → KeepsRound old new → KeepsLinks old.graph.links new.graph.links
@@ -319,14 +365,15 @@ shown_stands s arena old new counts held height' heap' rows lists round links ro
       height = height;
       heap = heap;
       stage = λ a k e. st.stage a k (sym (rows a) ∙ e);
-      owed = st.owed;
+      owed = λ a. st.owed a ∙ sym (owed_still old new s held rows (λ n. ap (λ (x : List ExpertPlace). fresh_at x n) round.experts) a);
       todo = λ a t. subst (λ (xs : List Point). Among a xs ⊎ IsInHand held a) (sym todo) (st.todo a t);
       retries = st.retries ∙ sym round.retries;
     })
 
 -- the worklist, and what is in hand, are others
 pub hand_stands : (s : State) (arena : Arena) (work : Work) (counts : Counts) (held held' : Option PointInHand) (todo : Vec Point Global)
-    (owed' : Point → List Point) (todo' : Point → Bool) → MatchesState arena work counts held s → ((a : Point) → owed' a ≡ owed_in held' a)
+    (owed' : Point → List Point) (todo' : Point → Bool) → MatchesState arena work counts held s
+    → ((a : Point) → owed' a ≡ owed_in (debts work s.needed) held' a)
     → ((a : Point) → todo' a ≡ true → Among a todo.items ⊎ IsInHand held' a)
     → MatchesState arena (record work { todo = todo }) counts held' (record s { owed = owed'; todo = todo' })
 hand_stands s arena work counts held held' todo owed' todo' st owed listed =
@@ -343,11 +390,13 @@ hand_stands s arena work counts held held' todo owed' todo' st owed listed =
       retries = st.retries;
     })
 
--- a point of the worklist is taken in hand
+-- a point of the worklist is taken in hand, with what it is owed
 pub taken_stands : (s : State) (arena : Arena) (work : Work) (todo : Vec Point Global) (counts : Counts) (p : Point) → MatchesState arena work counts None s
-    → ((a : Point) → Among a work.todo.items → Among a todo.items ⊎ (a ≡ p)) → MatchesState arena (record work { todo = todo }) counts (Some (hand p [])) s
-taken_stands s arena work todo counts p st listed = hand_stands s arena work counts None (Some (hand p [])) todo s.owed s.todo st
-    (λ a. st.owed a ∙ sym (nothing_at p a)) (λ a t. elim (st.todo a t) [ inl k ↦ listed a k | inr k ↦ absurd k ])
+    → (owed : List Point) → owes work (s.needed p) p ≡ owed → ((a : Point) → Among a work.todo.items → Among a todo.items ⊎ (a ≡ p))
+    → MatchesState arena (record work { todo = todo }) counts (Some (hand p owed)) s
+taken_stands s arena work todo counts p st owed is listed = hand_stands s arena work counts None (Some (hand p owed)) todo s.owed s.todo st
+    (λ a. st.owed a ∙ sym (owed_taken (debts work s.needed) p owed is a))
+    (λ a t. elim (st.todo a t) [ inl k ↦ listed a k | inr k ↦ absurd k ])
 
 -- what a state can't tell is other
 pub looks_stands : (s : State) (arena : Arena) (old new : Work) (counts : Counts) (held : Option PointInHand) → ShowsSame old new → MatchesState arena old counts held s

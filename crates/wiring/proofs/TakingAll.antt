@@ -37,6 +37,7 @@ use Rattle.wiring.proofs.Agreeing.{no_target}
 use Rattle.wiring.proofs.Staying.{stage_was, out_is, most_same, most_stands, beside_kept}
 use Rattle.wiring.proofs.InHand.{KeepsSpared, gated_none, still_spared, hand_spared, same_hand, change_settled}
 use Rattle.wiring.proofs.TakingOne.{nothing_taken}
+use Rattle.wiring.proofs.Reading.{read_still, read_then}
 
 -- ---- one after the other
 
@@ -63,12 +64,18 @@ loses_then f g h a b = record {
 }
 
 pub places_then : (old mid new : Work) → KeepsPlaces old mid → KeepsPlaces mid new → KeepsPlaces old new
-places_then old mid new a b = record { rows = λ p. b.rows p ∙ a.rows p; roots = λ p. b.roots p ∙ a.roots p; deaths = b.deaths ∙ a.deaths; round = b.round ∙ a.round }
+places_then old mid new a b = record {
+  rows = λ p. b.rows p ∙ a.rows p;
+  roots = λ p. b.roots p ∙ a.roots p;
+  deaths = b.deaths ∙ a.deaths;
+  round = b.round ∙ a.round;
+  experts = read_then old.experts mid.experts new.experts a.experts b.experts;
+}
 
 pub loses_nothing : (arena : Arena) (work : Work) → IsKept arena work → LosesLinks arena work work
 loses_nothing arena work kept = record {
   kept = kept;
-  places = record { rows = λ p. refl; roots = λ p. refl; deaths = refl; round = refl };
+  places = record { rows = λ p. refl; roots = λ p. refl; deaths = refl; round = refl; experts = read_still work.experts };
   loses = loses_none work.graph;
   rest = refl;
 }
@@ -315,7 +322,7 @@ spent_more arena old last left so taken =
     let places = so.stays.places in record {
       taken = taken;
       kept = beside_kept arena last last.todo left so.stays.kept;
-      places = record { rows = places.rows; roots = places.roots; deaths = places.deaths; round = places.round };
+      places = record { rows = places.rows; roots = places.roots; deaths = places.deaths; round = places.round; experts = places.experts };
       rest = ap (λ (w : Work). record w { retries = left }) so.stays.rest;
       rows = λ p s. elim (so.rows p s) [
         | inl e ↦ inl e

@@ -1,6 +1,7 @@
 -- A point goes back to a lower stage: more is put into the heap, and the point is cut.
-use Rattle.std.proofs.Common.{◌≡◌, ◌⊎◌, inl, inr, ℕ, zero, suc, ◌<◌, Bool, true, false, cond, List, [], Option, None, Some, refl, sym, ap, subst, ◌∙◌, arith}
-use Rattle.std.specs.Prelude.{is_some, ◌↔◌}
+use Rattle.std.proofs.Common.{◌≡◌, inl, inr, ℕ, zero, suc, ◌<◌, Bool, true, false, cond, List, [], Option, None, Some, refl, sym, ap, subst, ◌∙◌, arith}
+use Rattle.std.proofs.lemmas.Option.{same_Some}
+use Rattle.std.specs.Prelude.{is_some, option_map, ◌↔◌}
 use Rattle.inc_value.specs.declared.node.Point.{Point}
 use Rattle.inc_value.specs.Choice.{here, step, Among, Reaches}
 use Rattle.inc_terms.specs.Graph.{Row}
@@ -18,15 +19,19 @@ use Rattle.stabilize_round.specs.Steps.{TakingOff}
 use Rattle.stabilize_round.specs.Wire as wire
 use Rattle.stabilize_round.specs.Wire.{heaped, Schedule, dropped, Drop, Sweep}
 use Rattle.stabilize_round.proofs.Points.{same_or_other, at_same, at_other}
-use Rattle.node_outcomes.specs.Row.{stage_of}
+use Rattle.expert_nodes.specs.Experts.{fresh_at}
+use Rattle.node_outcomes.specs.Row.{is_full, stage_in, stage_of, with_stage}
+use Rattle.node_outcomes.specs.declared.row.Progress.{Progress}
 use Rattle.node_outcomes.specs.declared.row.Stage.{Stage}
+use Rattle.node_outcomes.specs.declared.row.Stage.TheVariants as code
 use Rattle.wiring.specs.Deciding.{is_needed}
-use Rattle.wiring.specs.Stands.{MatchesState, PointInHand, hand, owed_in, Counts}
+use Rattle.wiring.specs.Stands.{MatchesState, PointInHand, hand, debts, owed_in, owes, Counts}
 use Rattle.wiring.specs.Wiring.{is_still, hand_now}
 use Rattle.wiring.specs.declared.work.Work.{Work}
 use Rattle.wiring.proofs.Deciding.{decides_needed, not_both}
 use Rattle.wiring.proofs.GoingBack.{IsLowered, lowered_most, need_before, same_roots, height_same}
-use Rattle.wiring.proofs.InHand.{still_same, still_needed, nothing, nothing_at, in_hand_now}
+use Rattle.wiring.proofs.InHand.{still_same, still_needed, in_hand_now}
+use Rattle.wiring.proofs.Owing.{full_or_not, owes_partly, owes_same, owes_unneeded}
 use Rattle.wiring.proofs.Staying.{stage_now, most_stands}
 
 -- the state once more is in the heap
@@ -168,26 +173,46 @@ module _ (F : Functions) (z : Start) (s : State) (arena : Arena) (old new : Work
   cond_same true xs e = e
   cond_same false xs e = refl
 
-  owed_out : (a : Point) → (p ≡ a) ⊎ (s.owed a ≡ []) → owed' a ≡ []
-  owed_out a (inl same) = cond_same (need' a) (at_point p [] s.owed a)
+  owed_out : (a : Point) → p ≡ a → owed' a ≡ []
+  owed_out a same = cond_same (need' a) (at_point p [] s.owed a)
       (subst (λ (x : Point). at_point p [] s.owed x ≡ []) same (at_same p [] s.owed))
-  owed_out a (inr none) = cond_same (need' a) (at_point p [] s.owed a) (elim (same_or_other p a) [
-    | inl same ↦ subst (λ (x : Point). at_point p [] s.owed x ≡ []) same (at_same p [] s.owed)
-    | inr ne ↦ at_other p [] s.owed a ne ∙ none
-  ])
 
-  owed_now : (a : Point) → owed' a ≡ owed_in (hand_now old new held) a
+  -- it has a lower stage, and is owed nothing
+  lowered_owes : debts new need' p ≡ []
+  lowered_owes = owes_partly new (need' p) p (ap (λ (x : Option Progress). is_full (stage_in x)) l.rows.changed ∙ by (at old.rows p))
+    where
+      by : (x : Option Progress) → is_full (stage_in (option_map (with_stage to) x)) ≡ false
+      by None = refl
+      by (Some k) = full_or_not (Some to) (λ e. may.drops.full (ap stage_of (same_Some to code.Full e)))
+
+  -- others are owed what they were, where they are needed
+  alone : (a : Point) → s.owed a ≡ debts old s.needed a → owed' a ≡ debts new need' a
+  alone a is = elim (same_or_other p a) [
+    | inl e ↦ owed_out a e ∙ sym (subst (λ (x : Point). debts new need' x ≡ []) e lowered_owes)
+    | inr ne ↦ by (need' a) refl ne
+  ]
+    where
+      by : (b : Bool) → need' a ≡ b → (p ≡ a → ⊥) → owed' a ≡ debts new need' a
+      by false f ne = ap (λ (b : Bool). cond b (at_point p [] s.owed a) []) f ∙ sym (owes_unneeded new (need' a) a f)
+      by true t ne = ap (λ (b : Bool). cond b (at_point p [] s.owed a) []) t
+          ∙ (at_other p [] s.owed a ne
+          ∙ (is
+          ∙ (ap (λ (b : Bool). owes old b a) (sweeps.was a t)
+          ∙ (sym (owes_same old new true a (l.rows.others a (λ e. ne (sym e))) (ap (λ (w : Work). fresh_at w.experts a.node) l.rest))
+          ∙ ap (λ (b : Bool). owes new b a) (sym t)))))
+
+  owed_now : (a : Point) → owed' a ≡ owed_in (debts new need') (hand_now old new held) a
   owed_now a = by_hand held refl
     where
-      by_hand : (x : Option PointInHand) → held ≡ x → owed' a ≡ owed_in (hand_now old new x) a
-      by_hand None e = owed_out a (inr (st.owed a ∙ ap (λ (y : Option PointInHand). owed_in y a) e))
+      by_hand : (x : Option PointInHand) → held ≡ x → owed' a ≡ owed_in (debts new need') (hand_now old new x) a
+      by_hand None e = alone a (st.owed a ∙ ap (λ (y : Option PointInHand). owed_in (debts old s.needed) y a) e)
       by_hand (Some h) e = by (is_still old new h.point) refl
         where
-          owes : (b : Point) → s.owed b ≡ at_point h.point h.owed nothing b
-          owes b = st.owed b ∙ ap (λ (y : Option PointInHand). owed_in y b) e
+          debt : (b : Point) → s.owed b ≡ at_point h.point h.owed (debts old s.needed) b
+          debt b = st.owed b ∙ ap (λ (y : Option PointInHand). owed_in (debts old s.needed) y b) e
 
-          other : (h.point ≡ a → ⊥) → owed' a ≡ []
-          other ne = owed_out a (inr (owes a ∙ at_other h.point h.owed nothing a ne))
+          other : (xs : List Point) → (h.point ≡ a → ⊥) → owed' a ≡ at_point h.point xs (debts new need') a
+          other xs ne = alone a (debt a ∙ at_other h.point h.owed (debts old s.needed) a ne) ∙ sym (at_other h.point xs (debts new need') a ne)
 
           apart : is_still old new h.point ≡ true → p ≡ h.point → ⊥
           apart t same = let f = subst (λ (x : Point). is_still old new x ≡ false) same (may.back h e (sym same)) in
@@ -195,25 +220,27 @@ module _ (F : Functions) (z : Start) (s : State) (arena : Arena) (old new : Work
 
           kept : is_still old new h.point ≡ true → owed' h.point ≡ h.owed
           kept t = ap (λ (b : Bool). cond b (at_point p [] s.owed h.point) []) (still_needed old new h.point t)
-              ∙ (at_other p [] s.owed h.point (apart t) ∙ (owes h.point ∙ at_same h.point h.owed nothing))
+              ∙ (at_other p [] s.owed h.point (apart t) ∙ (debt h.point ∙ at_same h.point h.owed (debts old s.needed)))
 
           -- it isn't needed any more, or was put back
           lost : is_still old new h.point ≡ false → owed' h.point ≡ []
           lost f = elim (same_or_other p h.point) [
-            | inl same ↦ owed_out h.point (inl same)
+            | inl same ↦ owed_out h.point same
             | inr ne ↦ ap (λ (b : Bool). cond b (at_point p [] s.owed h.point) [])
                 (sym (still_same old new h.point (l.rows.others h.point (λ x. ne (sym x)))) ∙ f)
           ]
 
-          by : (b : Bool) → is_still old new h.point ≡ b → owed' a ≡ owed_in (cond b (Some h) (Some (hand h.point []))) a
+          by : (b : Bool) → is_still old new h.point ≡ b → owed' a ≡ owed_in (debts new need') (cond b (Some h) (Some (hand h.point []))) a
           by true t = elim (same_or_other h.point a) [
-            | inl same ↦ subst (λ (x : Point). owed' x ≡ at_point h.point h.owed nothing x) same (kept t ∙ sym (at_same h.point h.owed nothing))
-            | inr ne ↦ other ne ∙ sym (at_other h.point h.owed nothing a ne)
+            | inl same ↦ subst (λ (x : Point). owed' x ≡ at_point h.point h.owed (debts new need') x) same
+                (kept t ∙ sym (at_same h.point h.owed (debts new need')))
+            | inr ne ↦ other h.owed ne
           ]
           by false f = elim (same_or_other h.point a) [
-            | inl same ↦ subst (λ (x : Point). owed' x ≡ []) same (lost f)
-            | inr ne ↦ other ne
-          ] ∙ sym (nothing_at h.point a)
+            | inl same ↦ subst (λ (x : Point). owed' x ≡ at_point h.point [] (debts new need') x) same
+                (lost f ∙ sym (at_same h.point [] (debts new need')))
+            | inr ne ↦ other [] ne
+          ]
 
   height_now : (a : Point) → Needed new.graph a → s.height a ≡ level new.graph.heights a
   height_now a n = st.height a (need_before arena old new p waited to links l a n)

@@ -25,19 +25,21 @@ use Rattle.stabilize_round.specs.State as machine
 use Rattle.stabilize_round.specs.State.{State, Start, count, one, planned, live_plan, plan_at}
 use Rattle.stabilize_round.specs.Wire.{Drop}
 use Rattle.stabilize_round.proofs.Points.{same_or_other, at_other, count_append, one_same, one_other, among_count}
+use Rattle.node_outcomes.specs.Computing.{AreExperts}
 use Rattle.node_outcomes.specs.Row.{settled_in, stage_in, outcome_in}
 use Rattle.node_outcomes.specs.Choosing.{right_in}
 use Rattle.node_outcomes.specs.declared.row.Progress.{Progress}
 use Rattle.node_outcomes.specs.declared.row.Stage.TheVariants as code
 use Rattle.wiring.specs.Graph.{rowless}
-use Rattle.wiring.specs.Stands.{MatchesState, PointInHand, hand, owed_in, Counts}
+use Rattle.wiring.specs.Stands.{MatchesState, PointInHand, hand, debts, owed_in, Counts}
 use Rattle.wiring.specs.Turning.{IsDetached, IsAttached, IsOff}
 use Rattle.wiring.specs.Wiring.{IsMarked, IsSpared, TakesOne, HandIsSpared, is_still, hand_now}
 use Rattle.wiring.specs.declared.work.Work.{Work}
 use Rattle.wiring.proofs.Deciding.{decides_needed}
 use Rattle.wiring.proofs.GoingBack.{IsLowered, lowered, lowered_alone}
 use Rattle.wiring.proofs.Holding.{targets_at}
-use Rattle.wiring.proofs.InHand.{still_same, nothing}
+use Rattle.wiring.proofs.InHand.{still_same}
+use Rattle.wiring.proofs.Owing.{owes_none, two_fresh}
 use Rattle.wiring.proofs.Staying.{stage_is, out_is}
 use Rattle.wiring.proofs.TakingOff.{MayLower, scheduled, row_at_stage, takes, stands_off}
 
@@ -105,7 +107,8 @@ module _ (arena : Arena) (old first new : Work) (n : NodeId) (r : Row) (s_id m :
     (sub : subject_of r.def ≡ Some s_id) (own_row : Holds old.rows (change n))
     (attached : IsAttached old n) (unsettled : settled_in old.round (at old.rows (change n)) ≡ false) (right : right_in old.rows old.roots n r.def ≡ Some m)
     (marked : IsMarked old.graph first.graph (change n)) (only : first ≡ record old { graph = first.graph })
-    (loose : IsDetached first new n (right_in first.rows first.roots n r.def)) (step_old : IsInStep old.graph) (step_new : IsInStep new.graph) where
+    (loose : IsDetached first new n (right_in first.rows first.roots n r.def)) (step_old : IsInStep old.graph) (step_new : IsInStep new.graph)
+    (experts : AreExperts arena old.experts) where
   right_now : right_in first.rows first.roots n r.def ≡ Some m
   right_now = ap (λ (w : Work). right_in w.rows w.roots n r.def) only ∙ right
 
@@ -146,9 +149,12 @@ module _ (arena : Arena) (old first new : Work) (n : NodeId) (r : Row) (s_id m :
     owes_nothing : s.owed (main n) ≡ []
     owes_nothing = st.owed (main n) ∙ by_hand held refl
       where
-        by_hand : (x : Option PointInHand) → held ≡ x → owed_in x (main n) ≡ []
-        by_hand None e = refl
-        by_hand (Some h) e = at_other h.point h.owed nothing (main n) (other h e)
+        alone : debts old s.needed (main n) ≡ []
+        alone = owes_none old (s.needed (main n)) (main n) (two_fresh arena old.experts experts n r row (ap is_some sub))
+
+        by_hand : (x : Option PointInHand) → held ≡ x → owed_in (debts old s.needed) x (main n) ≡ []
+        by_hand None e = alone
+        by_hand (Some h) e = at_other h.point h.owed (debts old s.needed) (main n) (other h e) ∙ alone
 
     -- its links before: those of a wait, and its right side's
     linked_all : (b : Point) → times old.graph.links (main n) b ≡ count b static_plan + one b (main m)

@@ -32,6 +32,7 @@ use Rattle.wiring.proofs.Linking.{linked_stands, linked_new_stands, some_or_none
 use Rattle.wiring.proofs.Deciding.{same_need}
 use Rattle.wiring.proofs.Staying.{KeepsMost, most_still, most_staged, most_same, most_then, most_kept, most_kept_there, looks_stands}
 use Rattle.wiring.proofs.Holding.{has_links_same}
+use Rattle.wiring.proofs.Reading.{read_as}
 use Rattle.wiring.specs.Graph.{died_at, HasLinks}
 
 -- a point that has a row is one of a live node
@@ -117,6 +118,7 @@ module _ (old mid closed : Work) (g : NecessaryPart) (q : Point) (opened : Bool)
       ran = ap (λ (x : Work). x.ran.items) rest ∙ looks.round.ran;
       retries = ap (λ (x : Work). x.retries) rest ∙ looks.round.retries;
       round = ap (λ (x : Work). x.round) rest ∙ looks.round.round;
+      experts = ap (λ (x : Work). x.experts) rest ∙ looks.round.experts;
     };
   }
 
@@ -263,6 +265,12 @@ module _ (old mid new : Work) (g : NecessaryPart) (p q : Point) (newly : Bool) (
     | inr f ↦ ap (λ (x : Work). x.retries) (same f) ∙ looks.round.retries
   ]
 
+  same_experts : new.experts ≡ old.experts
+  same_experts = elim (bool_cases newly) [
+    | inl t ↦ (woken t).round.experts ∙ looks.round.experts
+    | inr f ↦ ap (λ (x : Work). x.experts) (same f) ∙ looks.round.experts
+  ]
+
   -- rows of what was needed stay
   needed_rows : (a : Point) → Needed old.graph a → at new.rows a ≡ at old.rows a
   needed_rows a n = elim (bool_cases newly) [
@@ -317,7 +325,14 @@ module _ (old mid new : Work) (g : NecessaryPart) (p q : Point) (newly : Bool) (
     levelled = tt;
     why = tt;
     retries = same_retries;
-    places = record { rows = with_link.most.held; roots = same_roots; deaths = with_link.most.deaths; round = with_link.most.round };
+    experts = same_experts;
+    places = record {
+      rows = with_link.most.held;
+      roots = same_roots;
+      deaths = with_link.most.deaths;
+      round = with_link.most.round;
+      experts = with_link.most.experts;
+    };
     kept = grown_kept old new q with_link arena target kept;
     pushed = grows kept.step;
   }
@@ -333,7 +348,14 @@ levelled_answers e arena old new p q l kept why = record {
   levelled = l;
   why = why;
   retries = l.round.retries;
-  places = record { rows = λ a. ap is_some (l.rows a); roots = l.roots; deaths = l.round.deaths; round = l.round.round };
+  experts = l.round.experts;
+  places = record {
+    rows = λ a. ap is_some (l.rows a);
+    roots = l.roots;
+    deaths = l.round.deaths;
+    round = l.round.round;
+    experts = read_as old.experts new.experts l.round.experts;
+  };
   kept = levelled_kept arena old new l kept;
   pushed = tt;
 }

@@ -12,7 +12,7 @@ use Rattle.node_outcomes.specs.Row.{settled_in}
 use Rattle.wiring.specs.Growing.{Grows}
 use Rattle.wiring.specs.Kept.{IsKept}
 use Rattle.wiring.specs.Refusing.{IsBarred, TellsFault}
-use Rattle.wiring.specs.Stands.{PointInHand, hand}
+use Rattle.wiring.specs.Stands.{PointInHand, hand, owes}
 use Rattle.wiring.specs.Wiring.{Links, IsLevelled, Connects, LosesNeed, ConnectRefused, Wires, WiresTaken, WireRefused, StaysInHand, LacksLinks, GateRan, KeepsPlaces}
 use Rattle.wiring.specs.declared.refused.Refused.{Refused}
 use Rattle.wiring.specs.declared.work.Work.{Work}
@@ -31,7 +31,7 @@ WireAnswers arena old new held result = EndsWired (Wires arena old new held) (Wi
 
 -- a point that was taken from the worklist
 abbrev pub TakenAnswers : {A : Type 0} → Arena → Work → Work → Point → Result A Refused → Type 0
-TakenAnswers arena old new p result = EndsWired (WiresTaken arena old new p) (WireRefused arena old new (Some (hand p []))) arena old new result
+TakenAnswers arena old new p result = EndsWired (WiresTaken arena old new p) (WireRefused arena old new (Some (hand p (owes old true p)))) arena old new result
 
 -- a point is to have its other links: it is in hand still, needed, and lacks them, and its gate ran
 pub record PassesGate (arena : Arena) (old new : Work) (p : Point) : Type 0 where
@@ -67,6 +67,7 @@ pub record ConnectAnswers (arena : Arena) (old new : Work) (p q : Point) (result
   pub refused : IfErr result (ConnectRefused arena old new p q)
   pub barred : new.retries < old.retries → IsBarred old p q
   pub row : IfOk result (λ on. IsTrue on → at new.rows p ≡ at old.rows p)
+  pub experts : new.experts ≡ old.experts
   pub places : KeepsPlaces old new
   pub kept : IsKept arena new
   pub pushed : OnOk result (Grows old new)
@@ -80,6 +81,7 @@ pub record LinkAnswers {A : Type 0} (arena : Arena) (old new : Work) (p q : Poin
   pub levelled : OnErr result (IsLevelled old new)
   pub why : IfErr result (TellsFault new p q)
   pub retries : new.retries ≡ old.retries
+  pub experts : new.experts ≡ old.experts
   pub places : KeepsPlaces old new
   pub kept : IsKept arena new
   pub pushed : OnOk result (Grows old new)

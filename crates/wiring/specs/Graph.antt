@@ -10,9 +10,10 @@ use Rattle.node_arena.specs.Graph.{Holdings, graph_of}
 use Rattle.node_outcomes.specs.Choosing.{held_in}
 use Rattle.wiring.specs.declared.work.Work.{Work}
 
--- what the graph holds beside its nodes: a bind is built for the outcome that its change keeps
+-- what the graph holds beside its nodes: a bind is built for the outcome that its change keeps, a freeze keeps the value of its last call, and experts have
+-- their lists
 abbrev pub held_at : Arena → Work → Holdings
-held_at arena work = held_in arena work.rows work.roots
+held_at arena work = held_in arena work.rows work.roots work.experts
 
 -- the graph
 abbrev pub graph_at : Arena → Work → Graph

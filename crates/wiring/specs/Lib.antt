@@ -12,3 +12,4 @@ pub mod Answers
 pub mod TakingOff
 pub mod Scoped
 pub mod Rooting
+pub mod Experts

@@ -48,6 +48,7 @@ pub record IsElsewhere (old new : Work) : Type 0 where
   pub ran : new.ran ≡ old.ran
   pub retries : new.retries ≡ old.retries
   pub round : new.round ≡ old.round
+  pub experts : new.experts ≡ old.experts
 
 -- of a node that died nothing is kept but its needed points with their links; what reads its main and lives on is in the heap, unless it was settled
 pub record IsForgotten (old new : Work) (n : NodeId) : Type 0 where

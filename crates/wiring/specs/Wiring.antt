@@ -25,10 +25,11 @@ use Rattle.stabilize_round.specs.State.{State, Start}
 use Rattle.stabilize_round.specs.Wire.{IsConfirmed}
 use Rattle.wiring.specs.Graph.{graph_at, HasLinks, died_at}
 use Rattle.wiring.specs.Kept.{IsGhostLink}
-use Rattle.wiring.specs.Stands.{MatchesState, Counts, PointInHand, hand, IsInHand}
+use Rattle.wiring.specs.Stands.{MatchesState, Counts, PointInHand, hand, IsInHand, owes}
 use Rattle.wiring.specs.Deciding.{is_needed}
 use Rattle.wiring.specs.Refusing.{TellsWhy}
 use Rattle.map_nodes.specs.Cutoff.{IsStopped}
+use Rattle.wiring.specs.Experts.{ReadSame}
 use Rattle.node_outcomes.specs.Row.{IsRewritten, with_stage, stage_in, settled_in, outcome_in}
 use Rattle.wiring.specs.declared.refused.Refused.{Refused}
 use Rattle.node_outcomes.specs.declared.row.Progress.{Progress}
@@ -36,27 +37,28 @@ use Rattle.node_outcomes.specs.declared.row.Stage.{Stage}
 use Rattle.node_outcomes.specs.declared.row.Stage.TheVariants.{Bare, Gated, Static, Full}
 use Rattle.wiring.specs.declared.work.Work.{Work}
 
--- of the round itself nothing changed, nor did a bind's root
+-- of the round itself nothing changed, nor did a bind's root, or an expert
 pub record KeepsRound (old new : Work) : Type 0 where
   pub roots : new.roots ≡ old.roots
   pub deaths : new.deaths ≡ old.deaths
   pub ran : new.ran.items ≡ old.ran.items
   pub retries : new.retries ≡ old.retries
   pub round : new.round ≡ old.round
+  pub experts : new.experts ≡ old.experts
 
 -- which nodes are of two points, and which stand in scopes, is listed as before
 pub record KeepsLists (old new : Work) : Type 0 where
   pub pairs : new.pairs ≡ old.pairs
   pub scoped : new.scoped ≡ old.scoped
 
--- points come or go: links, roots, the heap, the worklist and what belongs to the round stay
+-- points come or go, and experts: links, roots, the heap, the worklist and what belongs to the round stay
 pub record GraphStays (old new : Work) : Type 0 where
   pub links : new.graph.links ≡ old.graph.links
   pub roots : new.graph.roots ≡ old.graph.roots
   pub heap : KeepsRows old.graph.heap new.graph.heap
   pub step : IsInStep new.graph
   pub todo : new.todo ≡ old.todo
-  pub round : KeepsRound old new
+  pub round : KeepsRound (record old { experts = new.experts }) new
 
 -- links, roots and heights stay
 pub record KeepsGraph (old new : NecessaryPart) : Type 0 where
@@ -238,10 +240,14 @@ TakesOff arena old new =
     → MatchesState arena old counts held s
     → (t u : State) × Reaches (TakingOff F z) s t × ((m : Move F z t u) × Spends m) × MatchesState arena new counts (hand_now old new held) u
 
--- each needed point of the worklist, but for the one in hand, has no link yet, or its gate's alone
+-- a point is owed links that its node was given while it had all others: that node stands in no scope, and is of one point
+abbrev pub IsOwing : State → Point → Type 0
+IsOwing s a = (s.owed a ≡ [] → ⊥) × ((r : Row) → s.graph.row a.node ≡ Some r → (r.scope ≡ None) × (subject_of r.def ≡ None))
+
+-- each needed point of the worklist, but for the one in hand, has no link yet, or its gate's alone, or is owed some
 abbrev pub AreUnlinked : Option PointInHand → State → Type 0
 AreUnlinked held s =
-    (a : Point) → s.todo a ≡ true → s.needed a ≡ true → (s.stage a ≡ machine.Bare) ⊎ (s.stage a ≡ machine.Gated) ⊎ IsInHand held a
+    (a : Point) → s.todo a ≡ true → s.needed a ≡ true → (s.stage a ≡ machine.Bare) ⊎ (s.stage a ≡ machine.Gated) ⊎ IsInHand held a ⊎ IsOwing s a
 
 -- the gate of a point ran in this round, if it has one
 abbrev pub GateRan : Arena → Work → Point → Type 0
@@ -292,10 +298,11 @@ Wires arena old new held =
     (F : Functions) (z : Start) (s : State) (counts : Counts) → Invariant F z s → MatchesState arena old counts held s → AreUnlinked held s
     → (t : State) × Wired F z s t × MatchesState arena new counts None t × AreUnlinked None t
 
--- a point that was taken from the worklist was given its links, or waits
+-- a point that was taken from the worklist was given its links, or what it was owed, or waits
 abbrev pub WiresTaken : Arena → Work → Work → Point → Type 0
 WiresTaken arena old new p =
-    (F : Functions) (z : Start) (s : State) (counts : Counts) → Invariant F z s → MatchesState arena old counts (Some (hand p [])) s → AreUnlinked None s
+    (F : Functions) (z : Start) (s : State) (counts : Counts) → Invariant F z s → MatchesState arena old counts (Some (hand p (owes old true p))) s
+    → AreUnlinked None s
     → (t : State) × Wired F z s t × MatchesState arena new counts None t × AreUnlinked None t
 
 -- the point in hand is still in hand, and is owed nothing
@@ -326,12 +333,13 @@ RootRefused arena old new e =
     (F : Functions) (z : Start) (s : State) (counts : Counts) → Invariant F z s → MatchesState arena old counts None s
     → (t : State) × (left : Option PointInHand) × Moves F z s t × MatchesState arena new counts left t × TellsWhy F t new left e
 
--- rows stay where they are, and so do roots, the nodes that died in the round, and its number
+-- rows stay where they are, and so do roots, the nodes that died in the round, and its number; experts read what they read
 pub record KeepsPlaces (old new : Work) : Type 0 where
   pub rows : (p : Point) → is_some (at new.rows p) ≡ is_some (at old.rows p)
   pub roots : KeepsRoots old.graph.roots new.graph.roots
   pub deaths : new.deaths ≡ old.deaths
   pub round : new.round ≡ old.round
+  pub experts : ReadSame old.experts new.experts
 
 -- only heights may be others than before
 pub record IsLevelled (old new : Work) : Type 0 where

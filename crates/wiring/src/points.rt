@@ -1,5 +1,5 @@
 //! The points of nodes: added with a node, dropped with it, and there for a dead node while they are needed.
-ghost use Rattle.std.specs.Prelude.{◌≡◌, ◌⊎◌, ◌<◌, ◌≤◌, ℕ, None, Some, IsTrue, IsFalse, OnOk, OnErr};
+ghost use Rattle.std.specs.Prelude.{◌≡◌, ◌⊎◌, ◌<◌, ◌≤◌, ℕ, false, None, Some, IsTrue, IsFalse, OnOk, OnErr};
 ghost use Rattle.inc_value.specs.Choice.{Among};
 ghost use Rattle.inc_value.specs.declared.node.NodeId.{NodeId as ANode};
 ghost use Rattle.inc_value.specs.declared.node.Part.{Part};
@@ -7,12 +7,15 @@ ghost use Rattle.inc_value.specs.declared.node.Point.{Point, Point as APoint};
 ghost use Rattle.inc_terms.specs.Code.{def_of};
 ghost use Rattle.inc_terms.specs.Depend.{main, change};
 ghost use Rattle.point_map.specs.Rows.{at, Holds, Changes, KeepsRows};
+ghost use Rattle.expert_nodes.specs.Experts.{ExpertChanges, expert_at};
 ghost use Rattle.necessary_graph.specs.Part.{Needed, IsInStep};
 ghost use Rattle.node_arena.specs.Arena.{IsLive};
+ghost use Rattle.wiring.specs.Experts.{ExpertIsAdded};
 ghost use Rattle.wiring.specs.Places.{ChangesNode, for_parts, pairs_with};
 ghost use Rattle.wiring.specs.Wiring.{GraphStays};
 
 use crate::work::Work;
+use expert_nodes::Experts;
 use inc_terms::Def;
 use inc_value::{NodeId, Point};
 use map_nodes::Cutoff;
@@ -29,7 +32,7 @@ impl Work {
         requires no_row { at self.old.rows p ≡ None }
         requires step { IsInStep self.old.graph }
         ensures row { OnOk result (Changes self.old.rows self.new.rows p
-            (Some (record { stage = Stage.Bare; settled = 0; outcome = None; last = None; cutoff = Cutoff.Equal }))) }
+            (Some (record { stage = Stage.Bare; settled = 0; outcome = None; last = None; cutoff = Cutoff.Equal; frozen = false }))) }
         ensures added { OnOk result (Changes self.old.graph.heights self.new.graph.heights p (Some height)) }
         ensures err { OnErr result (KeepsRows self.old.rows self.new.rows) }
         ensures err_heights { OnErr result (KeepsRows self.old.graph.heights self.new.graph.heights) }
@@ -47,7 +50,7 @@ impl Work {
     }
 
     /// Adds the points of a new node that is so defined and stands in the scope, if in one: its main, and a change where
-    /// it has a subject.
+    /// it has a subject. An expert has an empty list then.
     pub fn add_node(
         &mut self,
         arena: &Arena,
@@ -57,15 +60,18 @@ impl Work {
     ) -> Result<(), AllocError>
         requires no_main { (at self.old.graph.heights (main node) ≡ None) × (at self.old.rows (main node) ≡ None) }
         requires no_change { (at self.old.graph.heights (change node) ≡ None) × (at self.old.rows (change node) ≡ None) }
+        requires no_expert { expert_at self.old.experts node ≡ None }
         requires step { IsInStep self.old.graph }
         ensures rows { OnOk result (ChangesNode self.old.rows self.new.rows node (for_parts (def_of def.now) (λ part.
-            record { stage = Stage.Bare; settled = 0; outcome = None; last = None; cutoff = Cutoff.Equal }))) }
+            record { stage = Stage.Bare; settled = 0; outcome = None; last = None; cutoff = Cutoff.Equal; frozen = false }))) }
         ensures added { OnOk result ((h : Part → ℕ)
             × ChangesNode self.old.graph.heights self.new.graph.heights node (for_parts (def_of def.now) h)) }
+        ensures experts { OnOk result (ExpertIsAdded (def_of def.now) self.old.experts self.new.experts node) }
         ensures pairs { OnOk result ((n : ANode) → IsLive arena.now n ⊎ (n ≡ node) → Among n (pairs_with (def_of def.now)
             self.old.pairs.nodes node) → Among n self.new.pairs.nodes) }
         ensures err { OnErr result (KeepsRows self.old.rows self.new.rows) }
         ensures err_heights { OnErr result (KeepsRows self.old.graph.heights self.new.graph.heights) }
+        ensures err_experts { OnErr result (self.new.experts ≡ self.old.experts) }
         ensures err_pairs { OnErr result ((n : ANode) → IsLive arena.now n → Among n self.old.pairs.nodes
             → Among n self.new.pairs.nodes) }
         ensures err_fewer_pairs { OnErr result ((n : ANode) → Among n self.new.pairs.nodes → Among n self.old.pairs.nodes) }
@@ -80,7 +86,7 @@ impl Work {
             }
             None => {
                 let height = height_over(&self.graph, def.kids(), floor);
-                self.add(Point::main(node), height)
+                self.add_single(node, def, height)
             }
         }
     }
@@ -96,11 +102,13 @@ impl Work {
     ) -> Result<(), AllocError>
         requires no_main { (at self.old.graph.heights (main node) ≡ None) × (at self.old.rows (main node) ≡ None) }
         requires no_change { (at self.old.graph.heights (change node) ≡ None) × (at self.old.rows (change node) ≡ None) }
+        requires no_expert { expert_at self.old.experts node ≡ None }
         requires step { IsInStep self.old.graph }
         ensures rows { OnOk result (ChangesNode self.old.rows self.new.rows node (for_parts (def_of def.now) (λ part.
-            record { stage = Stage.Bare; settled = 0; outcome = None; last = None; cutoff = Cutoff.Equal }))) }
+            record { stage = Stage.Bare; settled = 0; outcome = None; last = None; cutoff = Cutoff.Equal; frozen = false }))) }
         ensures added { OnOk result ((h : Part → ℕ)
             × ChangesNode self.old.graph.heights self.new.graph.heights node (for_parts (def_of def.now) h)) }
+        ensures experts { OnOk result (ExpertIsAdded (def_of def.now) self.old.experts self.new.experts node) }
         ensures pairs { OnOk result ((n : ANode) → IsLive arena.now n ⊎ (n ≡ node) → Among n (pairs_with (def_of def.now)
             self.old.pairs.nodes node) → Among n self.new.pairs.nodes) }
         ensures scoped { OnOk result (Among node self.new.scoped.nodes) }
@@ -108,6 +116,7 @@ impl Work {
             → Among n self.new.scoped.nodes }
         ensures err { OnErr result (KeepsRows self.old.rows self.new.rows) }
         ensures err_heights { OnErr result (KeepsRows self.old.graph.heights self.new.graph.heights) }
+        ensures err_experts { OnErr result (self.new.experts ≡ self.old.experts) }
         ensures err_pairs { OnErr result ((n : ANode) → IsLive arena.now n → Among n self.old.pairs.nodes
             → Among n self.new.pairs.nodes) }
         ensures err_fewer_pairs { OnErr result ((n : ANode) → Among n self.new.pairs.nodes → Among n self.old.pairs.nodes) }
@@ -124,6 +133,37 @@ impl Work {
         Ok(())
     }
 
+    /// Adds the main of a new node of one point, and an empty list if it is an expert.
+    fn add_single(&mut self, node: NodeId, def: &Def, height: u32) -> Result<(), AllocError>
+        requires low { height ≤ 128 }
+        requires no_main { (at self.old.graph.heights (main node) ≡ None) × (at self.old.rows (main node) ≡ None) }
+        requires no_expert { expert_at self.old.experts node ≡ None }
+        requires step { IsInStep self.old.graph }
+        ensures row { OnOk result (Changes self.old.rows self.new.rows (main node)
+            (Some (record { stage = Stage.Bare; settled = 0; outcome = None; last = None; cutoff = Cutoff.Equal; frozen = false }))) }
+        ensures added { OnOk result (Changes self.old.graph.heights self.new.graph.heights (main node) (Some height)) }
+        ensures experts { OnOk result (ExpertIsAdded (def_of def.now) self.old.experts self.new.experts node) }
+        ensures err { OnErr result (KeepsRows self.old.rows self.new.rows) }
+        ensures err_heights { OnErr result (KeepsRows self.old.graph.heights self.new.graph.heights) }
+        ensures err_experts { OnErr result (self.new.experts ≡ self.old.experts) }
+        ensures stays { GraphStays self.old self.new }
+        ensures rest { self.new ≡ record self.old { graph = self.new.graph; rows = self.new.rows; experts = self.new.experts } }
+    {
+        let Ok(()) = self.add(Point::main(node), height) else {
+            return Err(AllocError);
+        };
+        match def {
+            Def::Expert { .. } => match self.experts.create(node) {
+                Ok(()) => Ok(()),
+                Err(AllocError) => {
+                    self.drop_point(Point::main(node));
+                    Err(AllocError)
+                }
+            },
+            _ => Ok(()),
+        }
+    }
+
     /// Adds both points of a new node of two points, the main over the change where there is a height for it.
     fn add_pair(&mut self, arena: &Arena, node: NodeId, height: u32) -> Result<(), AllocError>
         requires low { height ≤ 128 }
@@ -131,7 +171,7 @@ impl Work {
         requires no_change { (at self.old.graph.heights (change node) ≡ None) × (at self.old.rows (change node) ≡ None) }
         requires step { IsInStep self.old.graph }
         ensures rows { OnOk result (ChangesNode self.old.rows self.new.rows node (λ part. Some (
-            record { stage = Stage.Bare; settled = 0; outcome = None; last = None; cutoff = Cutoff.Equal }))) }
+            record { stage = Stage.Bare; settled = 0; outcome = None; last = None; cutoff = Cutoff.Equal; frozen = false }))) }
         ensures added { OnOk result ((h : Part → ℕ)
             × ChangesNode self.old.graph.heights self.new.graph.heights node (λ part. Some (h part))) }
         ensures pairs { OnOk result (Among node self.new.pairs.nodes × ((n : ANode) → IsLive arena.now n
@@ -143,6 +183,7 @@ impl Work {
         ensures err_fewer_pairs { OnErr result ((n : ANode) → Among n self.new.pairs.nodes → Among n self.old.pairs.nodes) }
         ensures stays { GraphStays self.old self.new }
         ensures scoped { self.new.scoped ≡ self.old.scoped }
+        ensures experts { self.new.experts ≡ self.old.experts }
     {
         let Ok(()) = self.pairs.reserve(arena) else {
             return Err(AllocError);
@@ -159,7 +200,7 @@ impl Work {
         Ok(())
     }
 
-    /// Drops the points of a node that died. None of them is needed.
+    /// Drops the points of a node that died, and its list if it was an expert. None of the points is needed.
     pub fn drop_node(&mut self, node: NodeId)
         requires main { Holds self.old.graph.heights (main node) × Holds self.old.rows (main node) }
         requires change { Holds self.old.rows (change node) → Holds self.old.graph.heights (change node) }
@@ -169,8 +210,11 @@ impl Work {
         ensures dropped { ChangesNode self.old.graph.heights self.new.graph.heights node (λ part. None) }
         ensures stays { GraphStays self.old self.new }
         ensures heap { self.new.graph.heap ≡ self.old.graph.heap }
-        ensures rest { self.new ≡ record self.old { graph = self.new.graph; rows = self.new.rows } }
+        ensures expert { ExpertChanges self.old.experts self.new.experts node None }
+        ensures no_expert { expert_at self.old.experts node ≡ None → self.new.experts ≡ self.old.experts }
+        ensures rest { self.new ≡ record self.old { graph = self.new.graph; rows = self.new.rows; experts = self.new.experts } }
     {
+        forget_expert(&mut self.experts, node);
         self.drop_point(Point::main(node));
         let own = Point::change(node);
         if self.rows.holds(own) {
@@ -223,6 +267,16 @@ impl Work {
         if opened {
             self.graph.drop_point(p);
         }
+    }
+}
+
+/// An expert is no more, if the node was one.
+fn forget_expert(experts: &mut Experts, node: NodeId)
+    ensures forgotten { ExpertChanges experts.old experts.new node None }
+    ensures kept { expert_at experts.old node ≡ None → experts.new ≡ experts.old }
+{
+    if experts.holds(node) {
+        experts.forget(node);
     }
 }
 

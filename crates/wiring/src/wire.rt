@@ -1,21 +1,23 @@
 //! Roots and links for what is newly needed.
-ghost use Rattle.std.specs.Prelude.{◌≡◌, ◌≢◌, ◌⊎◌, ◌↔◌, ◌<◌, [], true, None, Some, IsTrue, IsFalse, IsSome, map, vec_len, vec_capacity, IfOk, IfErr};
+ghost use Rattle.std.specs.Prelude.{◌≡◌, ◌≢◌, ◌⊎◌, ◌↔◌, ◌<◌, ◌≤◌, [], true, drop, length, None, Some, IsTrue, IsFalse, IsSome, map, vec_len, vec_capacity, IfOk, IfErr};
 ghost use Rattle.std.specs.Prelude.{OnOk, OnErr};
 ghost use Rattle.inc_value.specs.Choice.{Among};
 ghost use Rattle.inc_value.specs.declared.node.NodeId.{NodeId as ANode};
 ghost use Rattle.inc_value.specs.declared.node.Point.{Point, Point as APoint};
 ghost use Rattle.inc_value.specs.declared.node.Part.TheVariants.{Main};
 ghost use Rattle.inc_terms.specs.Code.{def_of};
-ghost use Rattle.inc_terms.specs.Depend.{main, subject_of, change};
-ghost use Rattle.inc_terms.specs.Graph.{Row as ARow, kids as kids_of_def};
+ghost use Rattle.inc_terms.specs.Depend.{kids_of, main, subject_of, change};
+ghost use Rattle.inc_terms.specs.Graph.{Row as ARow};
 ghost use Rattle.inc_terms.specs.Within.{Given};
 ghost use Rattle.point_map.specs.Rows.{at, Holds, KeepsRows};
 ghost use Rattle.link_table.specs.Links.{Reads};
 ghost use Rattle.necessity.specs.Need.{OneRootMore, root_times};
 ghost use Rattle.necessary_graph.specs.Part.{Needed, IsInStep};
 ghost use Rattle.node_arena.specs.Arena.{row_at};
+ghost use Rattle.expert_nodes.specs.Experts.{IsCreated, fresh_at, kids_at};
 ghost use Rattle.node_outcomes.specs.Row.{stage_in};
 ghost use Rattle.wiring.specs.Answers.{WireAnswers, TakenAnswers, GateAnswers, AsksGate};
+ghost use Rattle.wiring.specs.Graph.{graph_at};
 ghost use Rattle.wiring.specs.Kept.{IsKept};
 ghost use Rattle.wiring.specs.Rooting.{PutsRootOn};
 ghost use Rattle.wiring.specs.Stands.{hand};
@@ -28,7 +30,9 @@ use inc_terms::Def;
 use inc_value::{NodeId, Part, Point};
 use necessary_graph::NecessaryGraph;
 use node_arena::Arena;
-use node_outcomes::{Progress, Stage, is_bare, is_gated, set_stage, was_settled};
+use node_outcomes::{
+    Progress, Stage, is_bare, is_frozen, is_full, is_gated, set_stage, was_settled,
+};
 use point_map::PointMap;
 use std::alloc::AllocError;
 
@@ -107,11 +111,28 @@ impl Work {
         let Some(row) = arena.get(p.node) else {
             return self.wire_ghost(arena, p);
         };
+        if is_full(&self.rows, p) {
+            return self.wire_fresh(arena, p);
+        }
         match self.wire_gate(arena, p, row.scope) {
             Ok(true) => self.wire_rest(arena, p, &row.def),
             Ok(false) => Ok(()),
             Err(refused) => Err(refused),
         }
+    }
+
+    /// Links the main of an expert that has its links to what it was linked to since.
+    fn wire_fresh(&mut self, arena: &Arena, p: Point) -> Result<(), Refused>
+        requires needed { Needed self.old.graph p }
+        requires full { stage_in (at self.old.rows p) ≡ Some Stage.Full }
+        requires kept { IsKept arena.now self.old }
+        ensures { TakenAnswers arena.now self.old self.new p result }
+    {
+        if !self.experts.holds(p.node) {
+            return Ok(());
+        }
+        let taken = self.experts.taken(p.node);
+        self.connect_listed(arena, p, taken)
     }
 
     /// Links a point of a node that died in this round to its gate.
@@ -140,6 +161,7 @@ impl Work {
         requires needed { Needed self.old.graph p }
         requires row { (r : ARow) × (row_at arena.now p.node ≡ Some r) × (r.scope ≡ scope) }
         requires there { Holds self.old.rows p }
+        requires partly { stage_in (at self.old.rows p) ≢ Some Stage.Full }
         requires kept { IsKept arena.now self.old }
         ensures { GateAnswers arena.now self.old self.new p result }
     {
@@ -203,7 +225,7 @@ impl Work {
         match (p.part, def.subject()) {
             (Part::Main, None) => {
                 set_stage(&mut self.rows, p, Stage::Full);
-                self.connect_each(arena, p, def.kids())
+                self.connect_present(arena, p, def)
             }
             (Part::Main, Some(_)) => self.wire_pair(arena, p.node),
             (Part::Change, Some(subject)) => {
@@ -217,11 +239,56 @@ impl Work {
         }
     }
 
+    /// Links the main of a node of one point to the mains of its present children: those that it lists, but none where it is
+    /// a freeze that keeps a value, and those of an expert's list.
+    fn connect_present(&mut self, arena: &Arena, p: Point, def: &Def) -> Result<(), Refused>
+        requires main { p.part ≡ Main }
+        requires row { (r : ARow) × (row_at arena.now p.node ≡ Some r) × (r.def ≡ def_of def.now) × (subject_of r.def ≡ None) }
+        requires needed { Needed self.old.graph p }
+        requires full { stage_in (at self.old.rows p) ≡ Some Stage.Full }
+        requires ran { GateRan arena.now self.old p }
+        requires kept { IsKept arena.now self.old }
+        ensures { WireAnswers arena.now self.old self.new
+            (Some (hand p (map main (kids_of (graph_at arena.now self.old) p.node (def_of def.now))))) result }
+    {
+        match def {
+            Def::Expert { .. } => self.connect_listed(arena, p, 0),
+            Def::Freeze { .. } if is_frozen(&self.rows, p.node) => self.connect_each(arena, p, &[]),
+            _ => self.connect_each(arena, p, def.kids()),
+        }
+    }
+
+    /// Links an expert's main to the mains of its list from a place on. All of it is taken up then.
+    fn connect_listed(&mut self, arena: &Arena, p: Point, from: usize) -> Result<(), Refused>
+        requires main { p.part ≡ Main }
+        requires created { IsCreated self.old.experts p.node }
+        requires within { from ≤ length (kids_at self.old.experts p.node) }
+        requires needed { Needed self.old.graph p }
+        requires full { stage_in (at self.old.rows p) ≡ Some Stage.Full }
+        requires kept { IsKept arena.now self.old }
+        ensures { WireAnswers arena.now self.old self.new (Some (hand p (map main (drop from (kids_at self.old.experts p.node))))) result }
+    {
+        self.experts.take_up(p.node);
+        let mut place = from;
+        while place < self.experts.kids(p.node).len() {
+            let kid = self.experts.kids(p.node)[place];
+            match self.connect(arena, p, Point::main(kid)) {
+                Ok(true) => {}
+                Ok(false) => return Ok(()),
+                Err(refused) => return Err(refused),
+            }
+            place += 1;
+        }
+        Ok(())
+    }
+
     /// Links a main to the mains of its children.
     fn connect_each(&mut self, arena: &Arena, p: Point, kids: &[NodeId]) -> Result<(), Refused>
         requires main { p.part ≡ Main }
-        requires row { (r : ARow) × (row_at arena.now p.node ≡ Some r) × (kids.now ≡ kids_of_def r.def) × (subject_of r.def ≡ None) }
+        requires row { (r : ARow) × (row_at arena.now p.node ≡ Some r) × (kids.now ≡ kids_of (graph_at arena.now self.old) p.node r.def)
+            × (subject_of r.def ≡ None) }
         requires given { (k : ANode) → Among k kids.now → Given arena.now.given k }
+        requires plain { fresh_at self.old.experts p.node ≡ [] }
         requires needed { Needed self.old.graph p }
         requires full { stage_in (at self.old.rows p) ≡ Some Stage.Full }
         requires ran { GateRan arena.now self.old p }

@@ -11,6 +11,7 @@ ghost use Rattle.necessary_graph.specs.Part.{IsInStep};
 ghost use Rattle.wiring.specs.Graph.{died_at};
 ghost use Rattle.wiring.specs.Scoped.{IsReleased};
 
+use expert_nodes::Experts;
 use inc_value::{NodeId, Point};
 use necessary_graph::NecessaryGraph;
 use node_lists::{Deaths, Listed};
@@ -29,13 +30,16 @@ pub struct Work {
     pub rows: PointMap<Progress>,
     /// The root of each bind that is built for a value, at its change, whose outcome is what the bind is built for.
     pub roots: PointMap<NodeId>,
+    /// The lists of experts, and which experts were made stale.
+    pub experts: Experts,
     /// The nodes of two points, all live ones among them.
     pub pairs: Listed,
     /// The nodes in scopes of binds, all live ones among them.
     pub scoped: Listed,
     /// The nodes that died in this round. A rebuild makes room for those that it lets die.
     pub deaths: Deaths,
-    /// Points that are newly needed and have no links yet, or waited for a change that ran.
+    /// Points that are newly needed and have no links yet, or waited for a change that ran, and mains of experts whose lists
+    /// gained nodes.
     pub todo: Vec<Point>,
     /// The nodes whose functions were called in this round, each once. A fold of no nodes takes no call.
     pub ran: Vec<NodeId>,
@@ -53,6 +57,7 @@ impl Drop for Work {
             graph,
             rows,
             roots,
+            experts,
             pairs,
             scoped,
             deaths,
@@ -64,6 +69,7 @@ impl Drop for Work {
         drop(graph);
         drop(rows);
         drop(roots);
+        drop(experts);
         drop(pairs);
         drop(scoped);
         drop(deaths);
@@ -83,6 +89,7 @@ impl Work {
         ensures todo { result.todo.items ≡ [] }
         ensures ran { result.ran.items ≡ [] }
         ensures right_sides { (p : Point) → at result.roots p ≡ None }
+        ensures experts { result.experts ≡ [] }
         ensures pairs { result.pairs.nodes ≡ [] }
         ensures scoped { result.scoped.nodes ≡ [] }
         ensures deaths { result.deaths.nodes ≡ [] }
@@ -95,6 +102,7 @@ impl Work {
             graph: NecessaryGraph::new(alloc),
             rows: PointMap::new(alloc),
             roots: PointMap::new(alloc),
+            experts: Experts::new(alloc),
             pairs: Listed::new(alloc),
             scoped: Listed::new(alloc),
             deaths: Deaths::new(alloc),
@@ -116,6 +124,7 @@ impl Work {
         ensures step { IsInStep self.new.graph }
         ensures rows { self.new.rows ≡ self.old.rows }
         ensures right_sides { self.new.roots ≡ self.old.roots }
+        ensures experts { self.new.experts ≡ self.old.experts }
         ensures pairs { self.new.pairs ≡ self.old.pairs }
         ensures scoped { self.new.scoped ≡ self.old.scoped }
         ensures todo { self.new.todo ≡ self.old.todo }

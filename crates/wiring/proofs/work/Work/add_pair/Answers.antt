@@ -76,6 +76,16 @@ returns-in_default-add-2-clause-err_fewer_pairs c n listed =
 
 -- ---- what stays
 
+pub returns-clause-experts : goal.returns-clause-experts
+returns-clause-experts c = ap (λ (w : Work). w.experts) c.add-2.ensures.rest ∙ ap (λ (w : Work). w.experts) c.add.ensures.rest
+
+pub returns-in_default-add-clause-experts : goal.returns-in_default-add-clause-experts
+returns-in_default-add-clause-experts c = ap (λ (w : Work). w.experts) c.add.ensures.rest
+
+pub returns-in_default-add-2-clause-experts : goal.returns-in_default-add-2-clause-experts
+returns-in_default-add-2-clause-experts c = ap (λ (w : Work). w.experts) c.drop_point.ensures.rest
+    ∙ (ap (λ (w : Work). w.experts) c.add-2.ensures.rest ∙ ap (λ (w : Work). w.experts) c.add.ensures.rest)
+
 pub returns-clause-stays : goal.returns-clause-stays
 returns-clause-stays c =
     let old = c.args.self.now in

@@ -20,6 +20,7 @@ use Rattle.wiring.proofs.Raising.{staged_kept, staged_places}
 use Rattle.wiring.proofs.TakingAll.{places_then}
 use Rattle.wiring.proofs.Deciding.{not_both}
 use Rattle.wiring.proofs.Linking.{is_none}
+use Rattle.wiring.proofs.Owing.{owes_none, two_fresh}
 use Rattle.wiring.proofs.Attaching.{WasRaised, was_raised, stays_off, right_given, none_attached, right_refused, right_gone, right_on, full_in, right_is}
 use Rattle.wiring.proofs.work.Work.attach_right.Goals as goal
 use Rattle.wiring.proofs.work.Work.attach_right.Goals.{After-right_side}
@@ -35,6 +36,7 @@ returns-then-not-is_waiting-clause-attached c =
     let n = c.args.node in
     let r = c.requires.row in
     stays_off c.args.arena.now c.args.self.now n
+    (owes_none c.args.self.now true (main n) (two_fresh c.args.arena.now c.args.self.now.experts c.requires.kept.experts n r.0 r.1 r.2))
     (λ need k at_row static. not_both c.is_waiting.result c.if-not-is_waiting.true
     (c.is_waiting.ensures.1 (record { needed = need; stage = ap stage_in at_row ∙ ap (λ x. Some x) static })))
     (c.requires.kept.rows (main n) ∙ ap (λ (x : Option Row). has_part x Main) r.1)
@@ -104,7 +106,7 @@ returns-in-Ok-clause-attached c =
     let so = c.in-Ok.ensures in
     by_answer c.in-Ok.field-0
     (λ t. right_on arena n (r a) old rows (was a) m right con (rw (c.main-p.ensures, c.main.ensures) at (so.linked t))
-    (rw c.main-p.ensures at (so.row t)))
+    (rw c.main-p.ensures at (so.row t)) so.experts)
     (λ f. right_gone arena n (r a) old rows (was a) m right con (rw (c.main-p.ensures, c.main.ensures) at (so.gone f).0))
 
 pub returns-in-Ok-clause-full : goal.returns-in-Ok-clause-full

@@ -65,4 +65,4 @@ returns c =
     let t = c.try_link.ensures in
     let on = c.in_default.ensures in
     on_answers c.args.arena.now c.args.self.now c.loop-fault.self c.args.p c.args.q c.loop-fault.invariant c.try_link.new.self on.linked on.needed
-    on.reads (t.rows c.args.p c.loop-fault.invariant.needed) t.retries t.places t.kept on.pushed
+    on.reads (t.rows c.args.p c.loop-fault.invariant.needed) t.retries t.experts t.places t.kept on.pushed

@@ -4,7 +4,7 @@ use Rattle.std.proofs.lemmas.Option.{same_Some}
 use Rattle.inc_value.specs.declared.node.NodeId.{NodeId}
 use Rattle.inc_value.specs.declared.node.Point.{Point}
 use Rattle.inc_terms.specs.Depend.{main, subject_of}
-use Rattle.inc_terms.specs.Graph.{Row, kids}
+use Rattle.inc_terms.specs.Graph.{Row}
 use Rattle.node_outcomes.specs.declared.row.Stage.TheVariants as code
 use Rattle.wiring.specs.Wiring.{IsTarget}
 use Rattle.wiring.proofs.Gating.{main_is_target, stage_rowed}
@@ -14,7 +14,7 @@ use Rattle.wiring.proofs.work.Work.connect_each.Goals as goal
 use Rattle.wiring.proofs.work.Work.connect_each.Goals.{After-connect}
 
 pub loop-kid-init : goal.loop-kid-init
-loop-kid-init c = handed_none c.args.arena.now c.args.self.now c.args.p (map main c.args.kids.now) c.requires.needed c.requires.kept
+loop-kid-init c = handed_none c.args.arena.now c.args.self.now c.args.p (map main c.args.kids.now) c.requires.needed c.requires.kept c.requires.plain
 
 pub connect-requires-clause-reader : goal.connect-requires-clause-reader
 connect-requires-clause-reader c =
@@ -45,7 +45,7 @@ module _ (c : After-connect) where
   r = c.requires.row.0
 
   next : IsNext c.args.arena.now c.args.self.now c.loop-kid.self c.args.p r all c.main.result rest
-  next = next_kid c.args.arena.now c.args.self.now c.loop-kid.self c.args.p r c.args.kids.now c.loop-kid.kid-index _ c.main.result
+  next = next_kid c.args.arena.now c.args.self.now c.loop-kid.self c.args.p r all c.args.kids.now c.loop-kid.kid-index _ c.main.result
       c.requires.row.2 c.main.ensures c.loop-kid-test.true c.loop-kid.invariant
 
 pub returns-in-Err : goal.returns-in-Err

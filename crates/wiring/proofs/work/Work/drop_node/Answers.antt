@@ -1,11 +1,12 @@
-use Rattle.std.proofs.Common.{None, refl, sym, ap, subst, ◌∙◌}
+use Rattle.std.proofs.Common.{List, None, refl, sym, ap, subst, ◌∙◌}
 use Rattle.inc_value.specs.declared.node.Point.{Point}
 use Rattle.inc_terms.specs.Depend.{main}
+use Rattle.expert_nodes.specs.Experts.{ExpertChanges, ExpertPlace}
 use Rattle.point_map.specs.Rows.{Changes}
 use Rattle.necessary_graph.specs.Part.{Needed}
 use Rattle.wiring.specs.declared.work.Work.{Work}
 use Rattle.wiring.proofs.Linking.{none_if}
-use Rattle.wiring.proofs.Placing.{both_gone, one_gone, change_still, stays_twice}
+use Rattle.wiring.proofs.Placing.{both_gone, one_gone, change_still, stays_after, stays_twice}
 use Rattle.wiring.proofs.work.Work.drop_node.Goals as goal
 
 pub drop_point-requires-clause-unneeded : goal.drop_point-requires-clause-unneeded
@@ -30,14 +31,45 @@ returns-then-holds-clause-dropped c =
 
 pub returns-then-holds-clause-stays : goal.returns-then-holds-clause-stays
 returns-then-holds-clause-stays c =
-    stays_twice c.args.self.now c.drop_point.new.self c.drop_point-then-holds.new.self c.drop_point.ensures.stays c.drop_point-then-holds.ensures.stays
+    stays_after c.args.self.now c.drop_point-then-holds.new.self c.forget_expert.new.experts
+    (stays_twice (record c.args.self.now { experts = c.forget_expert.new.experts }) c.drop_point.new.self c.drop_point-then-holds.new.self
+    c.drop_point.ensures.stays c.drop_point-then-holds.ensures.stays)
+
+pub returns-then-holds-clause-expert : goal.returns-then-holds-clause-expert
+returns-then-holds-clause-expert c =
+    subst (λ (x : List ExpertPlace). ExpertChanges c.args.self.now.experts x c.args.node None) (sym (ap (λ (w : Work). w.experts)
+    c.drop_point-then-holds.ensures.rest ∙ ap (λ (w : Work). w.experts) c.drop_point.ensures.rest)) c.forget_expert.ensures.forgotten
+
+pub returns-then-holds-clause-no_expert : goal.returns-then-holds-clause-no_expert
+returns-then-holds-clause-no_expert c none = (ap (λ (w : Work). w.experts) c.drop_point-then-holds.ensures.rest
+    ∙ ap (λ (w : Work). w.experts) c.drop_point.ensures.rest) ∙ c.forget_expert.ensures.kept none
 
 pub returns-then-holds-clause-rest : goal.returns-then-holds-clause-rest
 returns-then-holds-clause-rest c =
     let new = c.drop_point-then-holds.new.self in
-    c.drop_point-then-holds.ensures.rest ∙ ap (λ (w : Work). record w { graph = new.graph; rows = new.rows }) c.drop_point.ensures.rest
+    let experts = ap (λ (w : Work). w.experts) c.drop_point-then-holds.ensures.rest ∙ ap (λ (w : Work). w.experts) c.drop_point.ensures.rest in
+    c.drop_point-then-holds.ensures.rest ∙ (ap (λ (w : Work). record w { graph = new.graph; rows = new.rows }) c.drop_point.ensures.rest
+    ∙ ap (λ (x : List ExpertPlace). record c.args.self.now { graph = new.graph; rows = new.rows; experts = x }) (sym experts))
 
 -- ---- a node of one point
+
+pub returns-else-holds-clause-stays : goal.returns-else-holds-clause-stays
+returns-else-holds-clause-stays c =
+    stays_after c.args.self.now c.drop_point.new.self c.forget_expert.new.experts c.drop_point.ensures.stays
+
+pub returns-else-holds-clause-expert : goal.returns-else-holds-clause-expert
+returns-else-holds-clause-expert c =
+    subst (λ (x : List ExpertPlace). ExpertChanges c.args.self.now.experts x c.args.node None)
+    (sym (ap (λ (w : Work). w.experts) c.drop_point.ensures.rest)) c.forget_expert.ensures.forgotten
+
+pub returns-else-holds-clause-no_expert : goal.returns-else-holds-clause-no_expert
+returns-else-holds-clause-no_expert c none = ap (λ (w : Work). w.experts) c.drop_point.ensures.rest ∙ c.forget_expert.ensures.kept none
+
+pub returns-else-holds-clause-rest : goal.returns-else-holds-clause-rest
+returns-else-holds-clause-rest c =
+    let new = c.drop_point.new.self in
+    c.drop_point.ensures.rest ∙ ap (λ (x : List ExpertPlace). record c.args.self.now { graph = new.graph; rows = new.rows; experts = x })
+    (sym (ap (λ (w : Work). w.experts) c.drop_point.ensures.rest))
 
 pub returns-else-holds-clause-rows : goal.returns-else-holds-clause-rows
 returns-else-holds-clause-rows c =

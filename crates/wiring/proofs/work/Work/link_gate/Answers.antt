@@ -1,4 +1,4 @@
-use Rattle.std.proofs.Common.{◌≡◌, ◌∙◌, ◌∷◌, inl, Some, [], false, Err, refl, sym, ap, subst}
+use Rattle.std.proofs.Common.{◌≡◌, ◌∙◌, ◌∷◌, inl, Some, [], false, Err, refl, sym, ap, subst, true}
 use Rattle.inc_value.specs.declared.node.Point.{Point}
 use Rattle.inc_terms.specs.Depend.{change}
 use Rattle.inc_terms.specs.Graph.{Row}
@@ -11,6 +11,7 @@ use Rattle.wiring.specs.declared.work.Work.{Work}
 use Rattle.wiring.proofs.Answering.{IsOwed, staged_owed, refusal_gates, gone_gates, link_stays, link_places, link_grows, gate_asked}
 use Rattle.wiring.proofs.Gating.{stage_rowed, is_gated_now, gate_lifts, gate_due, gate_rowed, rowed_target}
 use Rattle.wiring.proofs.Lifting.{DueAfter}
+use Rattle.wiring.proofs.Owing.{owes_bare}
 use Rattle.wiring.proofs.Raising.{staged_kept, staged_there}
 use Rattle.wiring.proofs.Deciding.{gated_not_full}
 use Rattle.wiring.proofs.work.Work.link_gate.Goals as goal
@@ -69,7 +70,7 @@ returns-in-Err c =
 pub returns-in-Ok-false : goal.returns-in-Ok-false
 returns-in-Ok-false c =
     gone_gates c.args.arena.now c.args.self.now (mid (goal.at.returns-in-Ok-false c).After-set_stage) c.args.p (change c.args.bind) (owed (goal.at.returns-in-Ok-false c).After-set_stage) (due (goal.at.returns-in-Ok-false c).After-set_stage) c.connect.new.self
-    (rw c.change.ensures at c.in-Ok-false.ensures) false c.in-Ok-false.field-0-test refl
+    (rw c.change.ensures at c.in-Ok-false.ensures) false (owes_bare c.args.self.now true c.args.p c.requires.bare) c.in-Ok-false.field-0-test refl
 
 pub passes_gate-requires : goal.passes_gate-requires
 passes_gate-requires c = record {
@@ -86,5 +87,6 @@ returns-in-Ok-true c =
     let stays = link_stays c.args.arena.now c.args.self.now (mid (goal.at.returns-in-Ok-true c).After-set_stage) c.args.p (change c.args.bind) (owed (goal.at.returns-in-Ok-true c).After-set_stage) (due (goal.at.returns-in-Ok-true c).After-set_stage) c.connect.new.self on t in
     let places = link_places c.args.arena.now c.args.self.now (mid (goal.at.returns-in-Ok-true c).After-set_stage) c.args.p (change c.args.bind) (owed (goal.at.returns-in-Ok-true c).After-set_stage) (due (goal.at.returns-in-Ok-true c).After-set_stage) c.connect.new.self on in
     let grows = link_grows c.args.arena.now c.args.self.now (mid (goal.at.returns-in-Ok-true c).After-set_stage) c.args.p (change c.args.bind) (owed (goal.at.returns-in-Ok-true c).After-set_stage) (due (goal.at.returns-in-Ok-true c).After-set_stage) c.connect.new.self on in
-    gate_asked _ c.args.arena.now c.args.self.now c.connect.new.self c.passes_gate.new.self c.args.p c.args.bind stays places grows
+    gate_asked _ c.args.arena.now c.args.self.now c.connect.new.self c.passes_gate.new.self c.args.p c.args.bind
+    (owes_bare c.args.self.now true c.args.p c.requires.bare) stays places grows
     (c.in-Ok-true.ensures.needed t).0 (ap stage_in (c.in-Ok-true.ensures.row t) ∙ gated (goal.at.returns-in-Ok-true c).After-set_stage) c.requires.row c.passes_gate.ensures

@@ -79,7 +79,7 @@ returns-then-is_some-clause-taken c =
     let s = subject c in
     let t = target c in
     one_taken c.args.arena.now c.args.self.now c.schedule.new.self c.drop_right.new.self c.args.node (r c) s.0 t.0 (live c) s.1 (own c) (attached c)
-    (unsettled c) t.1 (marked c) c.schedule.ensures.rest c.drop_right.ensures.detached c.requires.kept.step c.drop_right.ensures.step
+    (unsettled c) t.1 (marked c) c.schedule.ensures.rest c.drop_right.ensures.detached c.requires.kept.step c.drop_right.ensures.step c.requires.kept.experts
 
 pub returns-then-is_some-clause-spared : goal.returns-then-is_some-clause-spared
 returns-then-is_some-clause-spared c =

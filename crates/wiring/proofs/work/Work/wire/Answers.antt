@@ -12,7 +12,7 @@ wire_one-requires-clause-kept c = todo_kept c.args.arena.now c.loop-p.self c.pop
 pub returns-in-Err-clause-refused : goal.returns-in-Err-clause-refused
 returns-in-Err-clause-refused c =
     wiring_refused c.args.arena.now c.args.self.now c.loop-p.self c.pop.new.self c.in-Some.p c.loop-p.invariant
-    c.in-Some.ensures.items c.wire_one.new.self c.in-Err.refused c.in-Err.ensures.refused
+    c.in-Some.ensures.items c.wire_one.new.self c.in-Err.refused (c.is_needed.ensures.0 c.if-is_needed.true) c.in-Err.ensures.refused
 
 pub returns-in-Err-clause-listed : goal.returns-in-Err-clause-listed
 returns-in-Err-clause-listed c =
@@ -27,7 +27,8 @@ loop-p-smaller-in-Ok c =
 pub loop-p-preserved-in-Ok : goal.loop-p-preserved-in-Ok
 loop-p-preserved-in-Ok c =
     wiring_one c.args.arena.now c.args.self.now c.loop-p.self c.pop.new.self c.in-Some.p c.loop-p.invariant
-    c.in-Some.ensures.items c.wire_one.new.self c.in-Ok.ensures.wired c.wire_one.ensures.places c.wire_one.ensures.kept
+    c.in-Some.ensures.items c.wire_one.new.self (c.is_needed.ensures.0 c.if-is_needed.true) c.in-Ok.ensures.wired c.wire_one.ensures.places
+    c.wire_one.ensures.kept
 
 pub loop-p-preserved : goal.loop-p-preserved
 loop-p-preserved c =

@@ -1,4 +1,4 @@
-use Rattle.std.proofs.Common.{◌≡◌, ◌∷◌, inr, Some, [], true, false, Err, refl, sym, subst, ◌∙◌}
+use Rattle.std.proofs.Common.{◌≡◌, ◌∷◌, inr, Some, [], Err, refl, sym, subst, ◌∙◌}
 use Rattle.std.proofs.lemmas.Option.{none-some}
 use Rattle.inc_value.specs.declared.node.Point.{Point}
 use Rattle.inc_terms.specs.Depend.{change}
