@@ -3,6 +3,9 @@ pub mod Keeping
 pub mod Fitting
 pub mod Typing
 pub mod Alone
+pub mod Staying
+pub mod Sweeping
+pub mod Relisting
 pub mod Setting
 pub mod Unrooting
 pub mod Adding
@@ -10,3 +13,7 @@ pub mod Cutting
 pub mod Dropping
 pub mod Added
 pub mod Advancing
+pub mod Marking
+pub mod Linking
+pub mod Unlinking
+pub mod Listing

@@ -17,3 +17,9 @@ pub mod BuiltFor
 pub mod Alive
 pub mod Ended
 pub mod Telling
+pub mod Sweeps
+pub mod Freezing
+pub mod Frozen
+pub mod Rooting
+pub mod Fired
+pub mod Over

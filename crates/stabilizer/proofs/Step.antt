@@ -1,4 +1,5 @@
 -- Steps: what one settles of a main, what it leaves, and that steps end.
+pub mod Experts
 pub mod Carrying
 pub mod Mains
 pub mod Stepping

@@ -11,6 +11,7 @@ use Rattle.inc_value.specs.declared.ty.Ty.{Ty}
 use Rattle.node_arena.specs.Arena.{Changes, row_at, live}
 use Rattle.node_arena.specs.declared.arena.AddFault.{AddFault}
 use Rattle.node_arena.specs.Graph.{CallsFit}
+use Rattle.wiring.specs.Experts.{ExpertIsAdded}
 use Rattle.node_outcomes.specs.Meaning.{Meaning}
 use Rattle.wiring.specs.Places.{ChangesNode, for_parts}
 use Rattle.stabilizer.specs.Between.{KeepsWork}
@@ -38,6 +39,7 @@ pub record HasNode (old new : Parts) (id : NodeId) (row : Row) : Type 0 where
   pub roots : new.work.graph.roots ≡ old.work.graph.roots
   pub heap : KeepsRows old.work.graph.heap new.work.graph.heap
   pub right_sides : new.work.roots ≡ old.work.roots
+  pub experts : ExpertIsAdded row.def old.work.experts new.work.experts id
   pub ran : new.ran ≡ old.ran
   pub kept : PartsKept new
   pub ready : (M : Meaning) → CallsFit old.arena.given M.known M.ids row.def → IsReady M old → IsReady M new
@@ -70,6 +72,7 @@ pub record SaysAdded (old new : Parts) (def : Def) (ty : Ty) (result : Result No
   pub roots : new.work.graph.roots ≡ old.work.graph.roots
   pub heap : KeepsRows old.work.graph.heap new.work.graph.heap
   pub right_sides : new.work.roots ≡ old.work.roots
+  pub experts : IfOk result (λ (n : NodeId). ExpertIsAdded def old.work.experts new.work.experts n)
   pub ran : new.ran ≡ old.ran
   pub kept : PartsKept new
   pub ready : OnOk result ((M : Meaning) → CallsFit old.arena.given M.known M.ids def → IsReady M old → IsReady M new)

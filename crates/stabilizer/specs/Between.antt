@@ -1,5 +1,5 @@
 -- What stands between rounds, of the parts alone, and what calls made there leave.
-use Rattle.std.specs.Prelude.{◌≡◌, ◌⊎◌, ◌+◌, ◌++◌, ◌<◌, ◌≤◌, ℕ, false, List, [], ◌∷◌, Option, None, Some}
+use Rattle.std.specs.Prelude.{◌≡◌, ◌≢◌, ◌⊎◌, ◌↔◌, ◌+◌, ◌++◌, ◌<◌, ◌≤◌, ℕ, Bool, false, true, List, [], ◌∷◌, Option, None, Some}
 use Rattle.inc_value.specs.Choice.{Among}
 use Rattle.inc_value.specs.declared.node.NodeId.{NodeId}
 use Rattle.inc_value.specs.declared.node.Point.{Point}
@@ -13,13 +13,15 @@ use Rattle.inc_terms.specs.Plan.{plan}
 use Rattle.inc_terms.specs.Term.{Functions}
 use Rattle.point_map.specs.Rows.{at, Holds, KeepsRows}
 use Rattle.link_table.specs.Links.{times}
-use Rattle.necessary_graph.specs.Part.{Needed}
-use Rattle.necessary_graph.specs.Sweep.{IsUnrooted}
+use Rattle.necessary_graph.specs.Part.{Needed, NecessaryPart}
+use Rattle.necessary_graph.specs.Sweep.{IsUnlinked, IsUnrooted}
 use Rattle.necessity.specs.Need.{OneRootMore}
 use Rattle.node_arena.specs.Arena.{Arena, row_at, live, Changes, with_value}
 use Rattle.inc_terms.specs.Work.{taken_by}
+use Rattle.expert_nodes.specs.Experts.{ExpertChanges, KeepsExperts, expert_at, expert_of, is_stale_at, kids_at, marked as marked_so, taken_at, with_link, without_link}
+use Rattle.stabilize_round.specs.Freezing.{fires}
 use Rattle.stabilize_round.specs.State.{Call, count, all_retries}
-use Rattle.stabilize_round.specs.Invariant.{Recalls, ScopesRooted}
+use Rattle.stabilize_round.specs.Invariant.{IsUnmarked, Recalls, ScopesRooted}
 use Rattle.node_outcomes.specs.Computing.{KeepsAnswers}
 use Rattle.node_outcomes.specs.Meaning.{Meaning}
 use Rattle.wiring.specs.Graph.{graph_at, died_at, rowless}
@@ -29,9 +31,10 @@ use Rattle.stabilizer.specs.declared.parts.Parts.{Parts}
 use Rattle.map_nodes.specs.declared.cutoff.Cutoff.TheVariants.{Equal}
 use Rattle.stabilizer.specs.Look.{last_call, cutoff_at}
 use Rattle.stabilizer.specs.Round.{IsReady, AreRooted}
-use Rattle.node_outcomes.specs.Row.{settled_in, outcome_in}
+use Rattle.node_outcomes.specs.Row.{kept_in, settled_in, outcome_in}
+use Rattle.wiring.specs.Stands.{owes}
 use Rattle.wiring.specs.Places.{ChangesNode}
-use Rattle.wiring.specs.Wiring.{KeepsRound}
+use Rattle.wiring.specs.Wiring.{IsMarked, KeepsRound}
 use Rattle.node_outcomes.specs.declared.row.Progress.{Progress}
 use Rattle.node_outcomes.specs.declared.row.Stage.TheVariants.{Full}
 use Rattle.wiring.specs.declared.work.Work.{Work}
@@ -40,16 +43,27 @@ use Rattle.wiring.specs.declared.work.Work.{Work}
 abbrev pub out_of : Work → Point → Option Outcome
 out_of work p = outcome_in (at work.rows p)
 
--- a needed point of a live node has all its links, and is in the heap, or agrees with what it is linked to; a bind whose change has run is built for the
--- outcome; each scope is that of a bind with a root; nothing was settled, called or found final since the last round, and no node died
+-- a point's links, and those that it is owed, are what it reads
+abbrev pub HasItsLinks : Arena → Work → Point → Row → Type 0
+HasItsLinks arena work p r =
+    (q : Point) → times work.graph.links p q + count q (owes work true p) ≡ count q (plan (graph_at arena work) (out_of work) p r)
+
+-- a point agrees with what it is linked to, its function was last called on that, it isn't stale, and it is owed no links
+pub record IsCurrent (F : Functions) (arena : Arena) (work : Work) (p : Point) : Type 0 where
+  pub agrees : Agrees F (graph_at arena work) (out_of work) p
+  pub recalls : Recalls (graph_at arena work) (shown (graph_at arena work) (out_of work)) (last_call work) p
+  pub unmarked : IsUnmarked (is_stale_at work.experts) p
+  pub unowed : owes work true p ≡ []
+
+-- a needed point of a live node has all its links, but what an expert is owed, which is in the worklist then; and it is in the heap, or current; a bind whose
+-- change has run is built for the outcome; each scope is that of a bind with a root; no freeze that keeps no value was last found true; nothing was settled,
+-- called or found final since the last round, and no node died
 pub record IsBetween (F : Functions) (arena : Arena) (work : Work) : Type 0 where
   pub kept : IsKept arena work
   pub full : (p : Point) (k : Progress) → Needed work.graph p → at work.rows p ≡ Some k → k.stage ≡ Full
-  pub links : (p : Point) (r : Row) → Needed work.graph p → row_at arena p.node ≡ Some r
-      → (q : Point) → times work.graph.links p q ≡ count q (plan (graph_at arena work) (out_of work) p r)
-  pub fresh : (p : Point) (r : Row) → Needed work.graph p → row_at arena p.node ≡ Some r
-      → Holds work.graph.heap p ⊎ (Agrees F (graph_at arena work) (out_of work) p
-      × Recalls (graph_at arena work) (shown (graph_at arena work) (out_of work)) (last_call work) p)
+  pub links : (p : Point) (r : Row) → Needed work.graph p → row_at arena p.node ≡ Some r → HasItsLinks arena work p r
+  pub owing : (p : Point) → Needed work.graph p → (owes work true p ≡ [] → ⊥) → Among p work.todo.items
+  pub fresh : (p : Point) (r : Row) → Needed work.graph p → row_at arena p.node ≡ Some r → Holds work.graph.heap p ⊎ IsCurrent F arena work p
   pub built : (n : NodeId) (r : Row) (o : Outcome) → row_at arena n ≡ Some r → out_of work (change n) ≡ Some o → IsBuilt F (graph_at arena work) n r.def o
   pub inside : ScopesRooted (graph_at arena work)
   pub answers : KeepsAnswers F (graph_at arena work) work.rows
@@ -57,10 +71,10 @@ pub record IsBetween (F : Functions) (arena : Arena) (work : Work) : Type 0 wher
   pub deaths : (n : NodeId) → died_at work n ≡ None
   pub numbered : 0 < work.round
   pub retries : work.retries ≡ all_retries
-  pub todo : work.todo.items ≡ []
+  pub unfired : (n : NodeId) (r : Row) → row_at arena n ≡ Some r → fires r.def (kept_in (at work.rows (main n))) (last_call work n) ≡ None
   pub ran : work.ran.items ≡ []
 
--- of what is kept beside the nodes all stays
+-- of what is kept beside the nodes all stays, of experts what is seen of each
 pub record KeepsWork (old new : Work) : Type 0 where
   pub rows : KeepsRows old.rows new.rows
   pub points : KeepsRows old.graph.heights new.graph.heights
@@ -68,7 +82,8 @@ pub record KeepsWork (old new : Work) : Type 0 where
   pub roots : new.graph.roots ≡ old.graph.roots
   pub heap : KeepsRows old.graph.heap new.graph.heap
   pub todo : new.todo.items ≡ old.todo.items
-  pub round : KeepsRound old new
+  pub round : KeepsRound (record old { experts = new.experts }) new
+  pub experts : KeepsExperts old.experts new.experts
 
 -- the node stands in the scope with this row, or is a variable there, as it was
 pub record StandsAs (arena : Arena) (n b : NodeId) (was : Row) : Type 0 where
@@ -77,14 +92,28 @@ pub record StandsAs (arena : Arena) (n b : NodeId) (was : Row) : Type 0 where
   pub scope : row.scope ≡ Some b
   pub same : (row ≡ was) ⊎ ((v : Value) × (was.def ≡ Var v))
 
--- between rounds this may change: less may be needed, and what is so keeps its links, its row and its place in the heap; its node shows what it showed by
--- the clock, and stays, or is in the heap and shows another value, or is a variable with one; what was called or has run was so before; no row is settled that wasn't; live binds keep their
--- roots, and live nodes the outcomes of their changes; and the nodes in scopes stand there as they did, each as it is, but for variables
+-- the point keeps its links, and its node, if that is an expert, its list and its mark; if it was in the worklist, it is
+pub record KeepsList (old work : Work) (p : Point) : Type 0 where
+  pub links : (q : Point) → times work.graph.links p q ≡ times old.graph.links p q
+  pub expert : expert_at work.experts p.node ≡ expert_at old.experts p.node
+  pub listed : Among p old.todo.items → Among p work.todo.items
+
+-- the point is in the heap, as its list or its mark is another: it has its links, and is in the worklist where it is owed some, if it was so before
+pub record HasAnotherList (before arena : Arena) (old work : Work) (p : Point) : Type 0 where
+  pub heap : Holds work.graph.heap p
+  pub row : row_at arena p.node ≡ row_at before p.node
+  pub links : (r : Row) → row_at before p.node ≡ Some r → HasItsLinks before old p r → HasItsLinks arena work p r
+  pub owing : ((owes old true p ≡ [] → ⊥) → Among p old.todo.items) → (owes work true p ≡ [] → ⊥) → Among p work.todo.items
+
+-- between rounds this may change: less may be needed, and what is so keeps its row and its place in the heap, and its links and its list, or is in the heap
+-- and has another list; its node shows what it showed by the clock, and stays, or is in the heap and shows another value, or is a variable with one; what was
+-- called or has run was so before; no row is settled that wasn't; live binds keep their roots, and live nodes the outcomes of their changes; and the nodes in
+-- scopes stand there as they did, each as it is, but for variables
 pub record Stays (before arena : Arena) (old work : Work) : Type 0 where
   pub needed : (p : Point) → Needed work.graph p → Needed old.graph p
   pub clock : (p : Point) (r : Row) → Needed work.graph p → row_at arena p.node ≡ Some r
       → Holds work.graph.heap p ⊎ (clock_value arena.time r.def ≡ clock_value before.time r.def)
-  pub links : (p q : Point) → Needed work.graph p → times work.graph.links p q ≡ times old.graph.links p q
+  pub lists : (p : Point) → Needed work.graph p → KeepsList old work p ⊎ HasAnotherList before arena old work p
   pub heap : (p : Point) → Needed work.graph p → Holds old.graph.heap p → Holds work.graph.heap p
   pub rows : (p : Point) → Needed work.graph p → at work.rows p ≡ at old.rows p
   pub nodes : (p : Point) (r : Row) → Needed work.graph p → row_at arena p.node ≡ Some r → (row_at before p.node ≡ Some r)
@@ -103,7 +132,6 @@ pub record Stays (before arena : Arena) (old work : Work) : Type 0 where
   pub ran : work.ran.items ≡ old.ran.items
   pub retries : work.retries ≡ old.retries
   pub round : work.round ≡ old.round
-  pub todo : work.todo.items ≡ old.todo.items
 
 -- nodes whose ids were given since the count were dropped, none of them needed
 pub record HasDropped (old new : Parts) (count : ℕ) : Type 0 where
@@ -117,6 +145,7 @@ pub record HasDropped (old new : Parts) (count : ℕ) : Type 0 where
   pub roots : new.work.graph.roots ≡ old.work.graph.roots
   pub heap : new.work.graph.heap ≡ old.work.graph.heap
   pub right_sides : (n : NodeId) → n.gen_ < count → at new.work.roots (change n) ≡ at old.work.roots (change n)
+  pub experts : (n : NodeId) → n.gen_ < count → expert_at new.work.experts n ≡ expert_at old.work.experts n
   pub unscoped : (n b : NodeId) (r : Row) → row_at new.arena n ≡ Some r → r.scope ≡ Some b → (n.gen_ < count) × (b.gen_ < count)
   pub kept : PartsKept new
   pub ready : (M : Meaning) → IsReady M old → IsReady M new
@@ -132,7 +161,56 @@ pub record StaysButHeap (old new : Parts) : Type 0 where
   pub links : new.work.graph.links ≡ old.work.graph.links
   pub roots : new.work.graph.roots ≡ old.work.graph.roots
   pub right_sides : new.work.roots ≡ old.work.roots
+  pub experts : new.work.experts ≡ old.work.experts
   pub ran : new.ran ≡ old.ran
+  pub kept : PartsKept new
+  pub ready : (M : Meaning) → IsReady M old → IsReady M new
+
+-- a node was linked behind the others of an expert: where the expert is needed it is in the worklist and in the heap; a round may still begin
+pub record GainsLink (old new : Parts) (expert kid : NodeId) : Type 0 where
+  pub experts : ExpertChanges old.work.experts new.work.experts expert (Some (with_link kid (expert_of old.work.experts expert)))
+  pub marked : IsMarked old.work.graph new.work.graph (main expert)
+  pub listed : Needed old.work.graph (main expert) → Among (main expert) new.work.todo.items
+  pub still : (p : Point) → Among p old.work.todo.items → Among p new.work.todo.items
+  pub only : (p : Point) → Among p new.work.todo.items → Among p old.work.todo.items ⊎ (p ≡ main expert)
+  pub rest : new ≡ record old { work = record old.work { experts = new.work.experts; graph = new.work.graph; todo = new.work.todo } }
+  pub kept : PartsKept new
+  pub ready : (M : Meaning) → IsReady M old → IsReady M new
+
+-- nothing was linked, for want of memory, and all stays that is seen
+pub record GainsNothing (old new : Parts) : Type 0 where
+  pub experts : KeepsExperts old.work.experts new.work.experts
+  pub todo : new.work.todo.items ≡ old.work.todo.items
+  pub rest : new ≡ record old { work = record old.work { experts = new.work.experts; todo = new.work.todo } }
+  pub kept : PartsKept new
+  pub ready : (M : Meaning) → IsReady M old → IsReady M new
+
+-- the link of a needed point is off that had been taken up, and else none
+abbrev pub IsCut : Work → Work → Point → Point → Bool → Type 0
+IsCut old new p q taken =
+    ((taken ≡ true) × Needed old.graph p × IsUnlinked (rowless old) old.graph new.graph p q)
+    ⊎ ((new.graph ≡ old.graph) × ((taken ≡ false) ⊎ (Needed old.graph p → ⊥)))
+
+-- an expert lost the first link of a node. Where it is needed, and that had been taken up, what is no longer needed lost its links; and it is in the heap. A
+-- round may still begin
+pub record LosesLink (old new : Parts) (expert kid : NodeId) : Type 0 where
+  pub taken : Bool
+  pub was_taken : (taken ≡ true) ↔ Among kid (taken_at old.work.experts expert)
+  pub there : Among kid (kids_at old.work.experts expert)
+  pub experts : ExpertChanges old.work.experts new.work.experts expert (Some (without_link kid taken (expert_of old.work.experts expert)))
+  pub middle : NecessaryPart
+  pub unlinked : taken ≡ true → Needed old.work.graph (main expert) → IsUnlinked (rowless old.work) old.work.graph middle (main expert) (main kid)
+  pub untouched : (taken ≡ false) ⊎ (Needed old.work.graph (main expert) → ⊥) → middle ≡ old.work.graph
+  pub marked : IsMarked middle new.work.graph (main expert)
+  pub rest : new ≡ record old { work = record old.work { experts = new.work.experts; graph = new.work.graph } }
+  pub kept : PartsKept new
+  pub ready : (M : Meaning) → IsReady M old → IsReady M new
+
+-- an expert was made stale, and is in the heap where it is needed; a round may still begin
+pub record IsMadeStale (old new : Parts) (expert : NodeId) : Type 0 where
+  pub experts : ExpertChanges old.work.experts new.work.experts expert (Some (marked_so true (expert_of old.work.experts expert)))
+  pub marked : IsMarked old.work.graph new.work.graph (main expert)
+  pub rest : new ≡ record old { work = record old.work { experts = new.work.experts; graph = new.work.graph } }
   pub kept : PartsKept new
   pub ready : (M : Meaning) → IsReady M old → IsReady M new
 
@@ -140,10 +218,11 @@ pub record StaysButHeap (old new : Parts) : Type 0 where
 pub record LosesRoot (old new : Parts) (id : NodeId) : Type 0 where
   pub unrooted : IsUnrooted (rowless old.work) old.work.graph new.work.graph (main id)
   pub roots : OneRootMore new.work.graph.roots old.work.graph.roots (main id)
-  pub rooted : (before after : List NodeId) → AreRooted old.work (before ++ id ∷ after) → AreRooted new.work (before ++ after)
+  pub rooted : (since : ℕ) (before after : List NodeId) → AreRooted old.arena old.work since (before ++ id ∷ after) → AreRooted new.arena new.work since (before ++ after)
   pub arena : new.arena ≡ old.arena
   pub rows : new.work.rows ≡ old.work.rows
   pub right_sides : new.work.roots ≡ old.work.roots
+  pub experts : new.work.experts ≡ old.work.experts
   pub ran : new.ran ≡ old.ran
   pub kept : PartsKept new
   pub ready : (M : Meaning) → IsReady M old → IsReady M new
@@ -158,6 +237,7 @@ pub record LosesNode (old new : Parts) (id : NodeId) : Type 0 where
   pub roots : new.work.graph.roots ≡ old.work.graph.roots
   pub heap : new.work.graph.heap ≡ old.work.graph.heap
   pub right_sides : ChangesNode old.work.roots new.work.roots id (λ part. None)
+  pub experts : (n : NodeId) → n ≢ id → expert_at new.work.experts n ≡ expert_at old.work.experts n
   pub scopes : new.scopes ≡ old.scopes
   pub ran : new.ran ≡ old.ran
   pub kept : PartsKept new
@@ -178,6 +258,7 @@ pub record IsTakenBack (old new : Parts) (count : ℕ) : Type 0 where
   pub roots : new.work.graph.roots ≡ old.work.graph.roots
   pub heap : new.work.graph.heap ≡ old.work.graph.heap
   pub right_sides : (n : NodeId) → n.gen_ < count → at new.work.roots (change n) ≡ at old.work.roots (change n)
+  pub experts : (n : NodeId) → n.gen_ < count → expert_at new.work.experts n ≡ expert_at old.work.experts n
   pub ran : new.ran ≡ old.ran
   pub kept : PartsKept new
   pub ready : (M : Meaning) → IsReady M old → IsReady M new

@@ -1,5 +1,5 @@
 -- What building a right side adds.
-use Rattle.std.specs.Prelude.{◌≡◌, ◌≢◌, ◌⊎◌, ◌↔◌, ◌+◌, ◌-◌, ◌≤◌, ◌<◌, ◌^◌, ℕ, None, Some, [], is_some, IsSome}
+use Rattle.std.specs.Prelude.{◌≡◌, ◌≢◌, ◌⊎◌, ◌↔◌, ◌+◌, ◌-◌, ◌≤◌, ◌<◌, ◌^◌, ℕ, false, None, Some, [], is_some, IsSome}
 use Rattle.inc_value.specs.Choice.{Among}
 use Rattle.inc_value.specs.declared.node.NodeId.{NodeId}
 use Rattle.inc_value.specs.declared.node.Part.{Part}
@@ -11,7 +11,8 @@ use Rattle.map_nodes.specs.declared.cutoff.Cutoff.TheVariants.{Equal}
 use Rattle.necessary_graph.specs.Part.{Needed, IsInStep}
 use Rattle.node_arena.specs.Arena.{Arena, row_at, live, IsLive}
 use Rattle.node_arena.specs.Sound.{IsSoundArena}
-use Rattle.node_outcomes.specs.Computing.{has_part}
+use Rattle.expert_nodes.specs.Experts.{expert_at}
+use Rattle.node_outcomes.specs.Computing.{has_part, is_expert}
 use Rattle.node_outcomes.specs.declared.row.Progress.{Progress}
 use Rattle.node_outcomes.specs.declared.row.Stage.TheVariants.{Bare}
 use Rattle.point_map.specs.Rows.{at, Holds, KeepsRows}
@@ -25,7 +26,7 @@ use Rattle.stabilizer.specs.declared.parts.Parts.{Parts}
 
 -- what is kept of a point that is new
 abbrev pub new_row : Progress
-new_row = record { stage = Bare; settled = 0; outcome = None; last = None; cutoff = Equal }
+new_row = record { stage = Bare; settled = 0; outcome = None; last = None; cutoff = Equal; frozen = false }
 
 -- every id that was given keeps its row, or has none as before, and so do its points. Each further node stands in the bind's scope; nothing was done to its points yet. No link was
 -- made, and no root; the time stands
@@ -125,7 +126,7 @@ AdoptsBefore old new b count next = Adopts old new b count (IsNewBefore old.aren
 abbrev pub NoneSince : Arena → ℕ → Type 0
 NoneSince arena next = (n : NodeId) → IsLive arena n → n.gen_ < next
 
--- nodes can be adopted whose ids were given since the count: they have no points and stand in no scope
+-- nodes can be adopted whose ids were given since the count: they have no points, stand in no scope, and are no experts, nor was one created
 pub record MayAdopt (parts : Parts) (count : ℕ) : Type 0 where
   pub sound : IsSoundArena parts.arena
   pub step : IsInStep parts.work.graph
@@ -133,6 +134,8 @@ pub record MayAdopt (parts : Parts) (count : ℕ) : Type 0 where
   pub no_row : (p : Point) → count ≤ p.node.gen_ → at parts.work.rows p ≡ None
   pub no_point : (p : Point) → count ≤ p.node.gen_ → at parts.work.graph.heights p ≡ None
   pub apart : (n : NodeId) → count ≤ n.gen_ → IsApart parts.scopes n
+  pub plain : (n : NodeId) → count ≤ n.gen_ → is_expert (row_at parts.arena n) ≡ false
+  pub no_expert : (n : NodeId) → count ≤ n.gen_ → expert_at parts.work.experts n ≡ None
 
 -- a live node got its points, to which nothing was done yet
 pub record GetsPoints (arena : Arena) (old new : Work) (n : NodeId) : Type 0 where
@@ -157,8 +160,8 @@ pub record KeepsRest (arena : Arena) (old new : Work) : Type 0 where
 
 -- ---- nodes that are dropped again
 
--- the nodes whose ids were given since the count can be dropped: just those that stand in the bind's scope have points, and none of these is needed.
--- No node stands in the scope of one of them, and none waits to be given
+-- the nodes whose ids were given since the count can be dropped: just those that stand in the bind's scope have points, and none of these is needed; for
+-- none an expert was created. No node stands in the scope of one of them, and none waits to be given
 pub record MayDisown (parts : Parts) (b : NodeId) (count : ℕ) : Type 0 where
   pub sound : IsSoundArena parts.arena
   pub step : IsInStep parts.work.graph
@@ -166,10 +169,11 @@ pub record MayDisown (parts : Parts) (b : NodeId) (count : ℕ) : Type 0 where
   pub points : HavePoints parts.arena count (λ n. StandsIn parts.scopes n b) parts.work
   pub new : (n : NodeId) → StandsIn parts.scopes n b → IsNewBefore parts.arena count parts.arena.given n
   pub unneeded : (p : Point) → count ≤ p.node.gen_ → Needed parts.work.graph p → ⊥
+  pub experts : (n : NodeId) → count ≤ n.gen_ → expert_at parts.work.experts n ≡ None
   pub scopes : (n s : NodeId) → StandsIn parts.scopes n s → s.gen_ < count
   pub killed : parts.scopes.killed ≡ []
 
--- the nodes that stand in the bind's scope can leave it with their points: they are live, none of their points is needed, no node stands in
+-- the nodes that stand in the bind's scope can leave it with their points: they are live and no experts, none of their points is needed, no node stands in
 -- the scope of one of them, and none waits to be given
 pub record MayLeave (parts : Parts) (b : NodeId) : Type 0 where
   pub step : IsInStep parts.work.graph
@@ -177,6 +181,7 @@ pub record MayLeave (parts : Parts) (b : NodeId) : Type 0 where
   pub rows : (p : Point) → StandsIn parts.scopes p.node b → is_some (at parts.work.rows p) ≡ has_part (row_at parts.arena p.node) p.part
   pub there : (p : Point) → StandsIn parts.scopes p.node b → is_some (at parts.work.graph.heights p) ≡ is_some (at parts.work.rows p)
   pub unneeded : (p : Point) → StandsIn parts.scopes p.node b → Needed parts.work.graph p → ⊥
+  pub experts : (n : NodeId) → StandsIn parts.scopes n b → expert_at parts.work.experts n ≡ None
   pub nested : (n s : NodeId) → StandsIn parts.scopes n s → StandsIn parts.scopes s b → ⊥
   pub killed : parts.scopes.killed ≡ []
 

@@ -226,6 +226,7 @@ pub record HasDied (old new : Parts) (b : NodeId) : Type 0 where
   pub called : new.work.ran.items ≡ old.work.ran.items
   pub retries : new.work.retries ≡ old.work.retries
   pub round : new.work.round ≡ old.work.round
+  pub experts : new.work.experts ≡ old.work.experts
   pub ran : new.ran ≡ old.ran
 
 -- ---- step by step
@@ -278,3 +279,4 @@ pub record AreForgotten (before arena : Arena) (old new : Work) (nodes : List No
   pub ran : new.ran.items ≡ old.ran.items
   pub retries : new.retries ≡ old.retries
   pub round : new.round ≡ old.round
+  pub experts : new.experts ≡ old.experts

@@ -1,5 +1,5 @@
 -- What a step or a round lacked that was refused.
-use Rattle.std.specs.Prelude.{◌≡◌, ◌≢◌, ◌⊎◌, ℕ, ◌≤◌, List, [], length, Some, vec_capacity}
+use Rattle.std.specs.Prelude.{◌≡◌, ◌≢◌, ◌⊎◌, ℕ, ◌≤◌, List, [], length, None, Some, vec_capacity}
 use Rattle.inc_value.specs.Counts.{raised}
 use Rattle.inc_value.specs.Value.{type_of}
 use Rattle.inc_value.specs.declared.function.FnRef.{FnRef}
@@ -20,9 +20,11 @@ use Rattle.node_outcomes.specs.Row.{outcome_in}
 use Rattle.observers.specs.Observers.{AllLight}
 use Rattle.observers.specs.declared.observer.Observer.{Observer}
 use Rattle.stabilize_round.specs.Counts.{last_count}
+use Rattle.expert_nodes.specs.Experts.{is_stale_at}
+use Rattle.wiring.specs.Graph.{graph_at}
 use Rattle.wiring.specs.Stands.{Counts}
 use Rattle.wiring.specs.Turning.{IsAttached, IsWaiting}
-use Rattle.wiring.specs.Wiring.{PutsRoots, WaitsFor}
+use Rattle.wiring.specs.Wiring.{PutsRoots, WaitsFor, Wires}
 use Rattle.wiring.specs.declared.work.Work.{Work}
 use Rattle.stabilizer.specs.Rebuilding.{IsSeenOf, IsToBuild}
 use Rattle.stabilizer.specs.Round.{Settles}
@@ -32,7 +34,8 @@ use Rattle.stabilizer.specs.declared.parts.Parts.{Parts}
 -- why computing a main found no memory: a function found none, and was counted, or the node lacks room
 abbrev pub MainLacks : Arena → Work → NodeId → ℕ → ℕ → Type 0
 MainLacks arena work n old new =
-    (new ≡ raised old) ⊎ NodeLacksRoom arena work.round work.rows (vec_capacity work.ran) (length work.ran.items) n
+    (new ≡ raised old)
+    ⊎ NodeLacksRoom (graph_at arena work) (is_stale_at work.experts) work.round work.rows (vec_capacity work.ran) (length work.ran.items) n
 
 -- the subject of a live node of two points shows a text
 pub record SeesText (parts : Parts) (n : NodeId) : Type 0 where
@@ -89,11 +92,13 @@ pub data SettleOrTellLacks (M : Meaning) (old : Parts) (made : List Observer) (b
   in_step : SettleLacks M old before wants wants' → SettleOrTellLacks M old made before wants wants'
   in_telling : TellingLacks M old made before wants wants' → SettleOrTellLacks M old made before wants wants'
 
--- why a round was refused that tells these observers: it has the last number, it puts roots on, one of its steps was refused, or telling was
+-- why a round was refused that tells these observers: it has the last number, it puts on links to what was linked to experts, or roots; one of its steps was
+-- refused, or telling was
 pub data RoundLacks (M : Meaning) (old : Parts) (nodes : List NodeId) (made : List Observer) (before : Counts) (wants wants' : ℕ) : Type 0 where
   of_number : last_count ≤ old.work.round → RoundLacks M old nodes made before wants wants'
+  of_lists : old.work.todo.items ≢ [] → RoundLacks M old nodes made before wants wants'
   of_roots : nodes ≢ [] → RoundLacks M old nodes made before wants wants'
-  of_step : {rooted : Work} → PutsRoots old.arena old.work rooted → SettleLacks M (record old { work = rooted }) before wants wants'
+  of_step : {wired rooted : Work} → Wires old.arena old.work wired None → PutsRoots old.arena wired rooted → SettleLacks M (record old { work = rooted }) before wants wants'
       → RoundLacks M old nodes made before wants wants'
-  of_telling : {rooted : Work} → PutsRoots old.arena old.work rooted → TellingLacks M (record old { work = rooted }) made before wants wants'
+  of_telling : {wired rooted : Work} → Wires old.arena old.work wired None → PutsRoots old.arena wired rooted → TellingLacks M (record old { work = rooted }) made before wants wants'
       → RoundLacks M old nodes made before wants wants'

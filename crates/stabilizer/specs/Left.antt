@@ -23,17 +23,19 @@ use Rattle.stabilize_round.specs.Calling.{Reason, IsAnswer, cost_at, costs_of}
 use Rattle.stabilize_round.specs.Calls.{arguments_of}
 use Rattle.stabilize_round.specs.Counts.{RoseBy, RoseAtMost}
 use Rattle.stabilize_round.specs.Runs.{LeftDiffers, IsBuiltRight, BuildsFew}
+use Rattle.stabilize_round.specs.Ended.{Fires}
 use Rattle.stabilize_round.specs.State.{Call}
 use Rattle.stabilizer.specs.Look.{Look, IsLinked, IsNeeded, AreRooted}
 use Rattle.wiring.specs.Stands.{Counts}
 use Rattle.wiring.specs.declared.refused.Refused.{Refused}
 use Rattle.wiring.specs.declared.refused.Refused.TheVariants.{Height, Cycle, Full, Memory}
 
--- what stands beside a graph: what is needed is held for these observers, each node's last arguments are kept, and its cutoff
+-- what stands beside a graph: what is needed is held for these observers, each node's last arguments are kept, its cutoff, and whether it is stale
 pub record StoodBeside (before : Beside) (look : Look) (observers : List Observed) : Type 0 where
   pub held : (p : Point) → IsNeeded look p → Held before observers p
   pub last : (n : NodeId) → before.last n ≡ arguments_of (look.last n)
   pub cutoff : (n : NodeId) → before.cutoff n ≡ look.cutoff n
+  pub stale : (n : NodeId) → before.stale n ≡ look.marked n
 
 -- ---- over the graph that a round left, those who died in it, and the nodes that are observed
 
@@ -74,8 +76,8 @@ module _ (F : Functions) (G : Graph) (died : NodeId → Option NodeId) where
 
   -- ---- why a function is called
 
-  -- a node's function was due: the node is met, its children give these values, and either it wasn't called on these last before the round, or a child
-  -- was settled in it that tells even of an outcome that stays; none was made stale
+  -- a node's function was due: the node is met, its children give these values, and it wasn't called on these last before the round, or it was stale
+  -- then, or a child was settled in the round that tells even of an outcome that stays
   pub record WasDueIn (old new : Look) (observed : List NodeId) (n : NodeId) : Type 0 where
     pub row : Row
     pub kids : List NodeId
@@ -83,7 +85,7 @@ module _ (F : Functions) (G : Graph) (died : NodeId → Option NodeId) where
     pub is_row : G.row n ≡ Some row
     pub takes : taken_by G n row.def ≡ Some kids
     pub gives : GiveAll F G kids values
-    pub reason : Reason old.last old.cutoff new.settled (λ (m : NodeId). false) n kids values
+    pub reason : Reason old.last old.cutoff new.settled old.marked n kids values
     pub met : IsMetIn old observed (main n)
 
   -- ---- accepted
@@ -98,9 +100,10 @@ module _ (F : Functions) (G : Graph) (died : NodeId → Option NodeId) where
   -- what is needed, linked, shown and called is right behind an accepted round, with these nodes observed: need, links and last calls are those of the
   -- graph after it, in which nobody is known to have died. A bind whose change is needed is built for what its left gives. Of a node that lives its
   -- cutoff stays, and its last call where its function wasn't called, but for a node that takes no call: a fold of no nodes keeps that it was computed
-  -- on none
+  -- on none. What is needed isn't stale any more, and what was stale was called, where its children give values and it takes a call; of what wasn't settled
+  -- the marks stay. A freeze keeps what it kept, and one that kept none the value of its child on which its predicate is true
   pub record IsUpToDateIn (after : Graph) (old new : Look) (observed ran : List NodeId) : Type 0 where
-    pub roots : AreRooted new observed
+    pub roots : AreRooted new new.given observed
     pub needs : (p : Point) → IsNeeded new p ↔ Needed F after none_died observed p
     pub sees : (n : NodeId) → IsObservedIn observed (main n) → (o : Outcome) × (new.shown n ≡ Some o) × NodeGives F G n o
     pub chose : (n m : NodeId) (r : Row) → G.row n ≡ Some r → subject_of r.def ≡ Some m → IsObservedIn observed (change n)
@@ -116,6 +119,11 @@ module _ (F : Functions) (G : Graph) (died : NodeId → Option NodeId) where
     pub kept : (n : NodeId) (r : Row) → G.row n ≡ Some r → (Among n ran → ⊥)
         → (new.last n ≡ old.last n) ⊎ (WasCalledIn old new observed n × (cost_at G n ≡ 0))
     pub cutoff : (n : NodeId) (r : Row) → G.row n ≡ Some r → new.cutoff n ≡ old.cutoff n
+    pub unmarked : (n : NodeId) (r : Row) → G.row n ≡ Some r → IsObservedIn observed (main n) → new.marked n ≡ false
+    pub renewed : (n : NodeId) (r : Row) (kids : List NodeId) (values : List Value) → old.marked n ≡ true → IsObservedIn observed (main n)
+        → G.row n ≡ Some r → taken_by G n r.def ≡ Some kids → GiveAll F G kids values → 0 < cost_at G n → Among n ran
+    pub marks : (n : NodeId) → new.settled (main n) ≡ false → new.marked n ≡ old.marked n
+    pub froze : (n : NodeId) (v : Value) → (after.frozen n ≡ Some v) ↔ ((G.frozen n ≡ Some v) ⊎ Fires F G n v)
     pub once : NoRepeats ran
     pub called : (n : NodeId) → Among n ran → WasCalledIn old new observed n
     pub costs : (n : NodeId) → Among n ran → 0 < cost_at G n
@@ -152,7 +160,7 @@ module _ (F : Functions) (G : Graph) (died : NodeId → Option NodeId) where
   abbrev pub ShowsStillIn : Look → Look → NodeId → Type 0
   ShowsStillIn old new n = (new.shown n ≡ old.shown n) ⊎ ((o : Outcome) × (new.shown n ≡ Some o) × NodeGives F G n o)
 
-  -- at most the calls were made that it takes to compute each of some live maps and folds once, all of which were due
+  -- at most the calls were made that it takes to compute each of some live nodes once, all of which were due
   pub record HasCalledMetIn (old new : Look) (observed : List NodeId) (before after : ℕ) : Type 0 where
     pub nodes : List NodeId
     pub once : NoRepeats nodes

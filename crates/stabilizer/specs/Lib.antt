@@ -10,6 +10,7 @@ pub mod Left
 pub mod Round
 pub mod Between
 pub mod Weights
+pub mod Freezing
 pub mod Giving
 pub mod Adding
 pub mod Rooted

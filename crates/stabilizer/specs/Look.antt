@@ -1,11 +1,15 @@
 -- What can be looked at of a graph between two calls.
-use Rattle.std.specs.Prelude.{◌≡◌, ◌-◌, ◌<◌, ℕ, Bool, List, map, Option, None, Some}
+use Rattle.std.specs.Prelude.{◌≡◌, ◌-◌, ◌+◌, ◌<◌, ◌&&◌, ℕ, Bool, true, false, cond, nat_lt, List, map, Option, None, Some}
 use Rattle.inc_value.specs.declared.node.NodeId.{NodeId}
 use Rattle.inc_value.specs.declared.node.Point.{Point}
 use Rattle.inc_value.specs.declared.outcome.Outcome.{Outcome}
 use Rattle.inc_value.specs.Choice.{Reaches}
 use Rattle.inc_terms.specs.Depend.{main, change}
-use Rattle.inc_terms.specs.Graph.{Graph}
+use Rattle.inc_terms.specs.Graph.{Graph, Row, Def, Freeze}
+use Rattle.inc_value.specs.declared.node.Part.{Part}
+use Rattle.inc_value.specs.declared.node.Part.TheVariants.{Main, Change}
+use Rattle.inc_value.specs.declared.value.Value.{Value}
+use Rattle.expert_nodes.specs.Experts.{is_stale_at}
 use Rattle.link_table.specs.Links.{times}
 use Rattle.map_nodes.specs.declared.cutoff.Cutoff.{Cutoff}
 use Rattle.necessity.specs.Need.{root_times}
@@ -34,6 +38,27 @@ last_call work n = last_of (at work.rows (main n))
 abbrev pub cutoff_at : Work → NodeId → Cutoff
 cutoff_at work n = cutoff_in (at work.rows (main n))
 
+-- ---- where need begins by itself
+
+-- the point is a main
+abbrev pub is_main : Part → Bool
+is_main Main = true
+is_main Change = false
+
+-- the definition is a freeze's
+abbrev pub is_freeze : Def → Bool
+is_freeze (Freeze kid f) = true
+is_freeze def = false
+
+-- a live node is a freeze that keeps no value
+abbrev pub is_unfrozen : Option Row → Option Value → Bool
+is_unfrozen (Some r) None = is_freeze r.def
+is_unfrozen row value = false
+
+-- how often need begins at a point without an observer: once at the main of a freeze that keeps no value and was given before the count
+abbrev pub freeze_roots : Graph → ℕ → Point → ℕ
+freeze_roots G since p = cond (is_main p.part && nat_lt p.node.gen_ since && is_unfrozen (G.row p.node) (G.frozen p.node)) 1 0
+
 -- ---- a look
 
 pub record Look : Type 0 where
@@ -53,6 +78,8 @@ pub record Look : Type 0 where
   pub last : NodeId → Option Call
   -- which outcomes of a node are told to its readers
   pub cutoff : NodeId → Cutoff
+  -- whether a node was made stale and not computed since
+  pub marked : NodeId → Bool
   -- whether a point was settled by the last round, accepted or refused
   pub settled : Point → Bool
 
@@ -67,6 +94,7 @@ look_of number arena work = record {
   chosen = λ n. outcome_in (at work.rows (change n));
   last = last_call work;
   cutoff = cutoff_at work;
+  marked = is_stale_at work.experts;
   settled = λ p. settled_in number (at work.rows p);
 }
 
@@ -90,6 +118,6 @@ pub record IsNeeded (look : Look) (p : Point) : Type 0 where
   pub is_root : 0 < look.rooted root
   pub leads : Reaches (IsLinked look) root p
 
--- need begins at the mains of these nodes, as often at each as it is listed
-abbrev pub AreRooted : Look → List NodeId → Type 0
-AreRooted look nodes = (p : Point) → look.rooted p ≡ count p (map main nodes)
+-- need begins at the mains of these nodes, as often at each as it is listed, and at those of freezes that were given before the count
+abbrev pub AreRooted : Look → ℕ → List NodeId → Type 0
+AreRooted look since nodes = (p : Point) → look.rooted p ≡ count p (map main nodes) + freeze_roots look.graph since p

@@ -1,5 +1,5 @@
 -- What stands between rounds, and what a round leaves.
-use Rattle.std.specs.Prelude.{◌≡◌, ◌⊎◌, ◌+◌, ◌<◌, ◌≤◌, ℕ, List, [], map, Option, None, Some}
+use Rattle.std.specs.Prelude.{◌≡◌, ◌⊎◌, ◌+◌, ◌++◌, ◌<◌, ◌≤◌, ℕ, true, List, [], map, Option, None, Some}
 use Rattle.inc_value.specs.declared.node.NodeId.{NodeId}
 use Rattle.inc_value.specs.declared.node.Point.{Point}
 use Rattle.inc_value.specs.Choice.{Among}
@@ -8,9 +8,11 @@ use Rattle.inc_terms.specs.Graph.{Graph}
 use Rattle.inc_terms.specs.Need.{left_by_call}
 use Rattle.inc_terms.specs.Term.{Functions}
 use Rattle.inc_terms.specs.Within.{FunctionLaws}
+use Rattle.necessary_graph.specs.Part.{Needed}
 use Rattle.necessity.specs.Need.{Roots, root_times}
 use Rattle.node_arena.specs.Arena.{Arena}
 use Rattle.node_arena.specs.Graph.{AllCallFit}
+use Rattle.point_map.specs.Rows.{Holds}
 use Rattle.stabilize_round.specs.Laws.{GraphStays}
 use Rattle.stabilize_round.specs.Invariant.{Rooted, ScopesRooted}
 use Rattle.stabilize_round.specs.Runs.{BuildsFew}
@@ -19,18 +21,20 @@ use Rattle.stabilize_round.specs.State.{State, Start, count}
 use Rattle.stabilizer.specs.Building.{LeavesNoRoom, StopsBuilding}
 use Rattle.stabilizer.specs.Kept.{graph_in, PartsKept}
 use Rattle.stabilizer.specs.Left.{IsUpToDateIn, IsLawfulIn, HasCalledMetIn, ShowsStillIn, BuildsRightIn, RefusesBuild, LeavesNodes}
-use Rattle.stabilizer.specs.Look.{look_between, look_refused}
+use Rattle.stabilizer.specs.Look.{freeze_roots, look_between, look_refused}
 use Rattle.stabilizer.specs.declared.parts.Parts.{Parts}
 use Rattle.wiring.specs.declared.refused.Refused.{Refused}
 use Rattle.wiring.specs.declared.refused.Refused.TheVariants.{Full}
 use Rattle.node_outcomes.specs.Meaning.{Meaning}
 use Rattle.wiring.specs.Began.{IsRoundOf}
+use Rattle.wiring.specs.Graph.{graph_at}
 use Rattle.wiring.specs.Refusing.{TellsWhy}
-use Rattle.wiring.specs.Stands.{MatchesState, Counts, counts_of, PointInHand}
+use Rattle.wiring.specs.Stands.{MatchesState, Counts, counts_of, PointInHand, owes}
 use Rattle.wiring.specs.declared.work.Work.{Work}
 
 -- a round of these functions may begin: they promise what the laws of graphs ask, and those of nodes are known and list given nodes; the parts
--- stand for a state in which rounds begin, each scope is that of a bind with a root, and its number isn't that of what was never settled
+-- stand for a state in which rounds begin; a needed expert that is owed links is in the heap; each scope is that of a bind with a root; and its number isn't
+-- that of what was never settled
 pub record IsReady (M : Meaning) (parts : Parts) : Type 0 where
   pub kept : PartsKept parts
   pub laws : FunctionLaws M.functions M.known M.ids
@@ -39,14 +43,31 @@ pub record IsReady (M : Meaning) (parts : Parts) : Type 0 where
   pub state : State
   pub stands : MatchesState parts.arena parts.work (counts_of state) None state
   pub entry : Entry M.functions start state
+  pub linked : (p : Point) → Needed parts.work.graph p → Holds parts.work.graph.heap p ⊎ (owes parts.work true p ≡ [])
   pub inside : ScopesRooted (graph_in parts)
   pub numbered : 0 < parts.work.round
-  pub todo : parts.work.todo.items ≡ []
   pub ran : parts.work.ran.items ≡ []
 
--- the roots are the mains of these nodes, each as often as it is listed
-abbrev pub AreRooted : Work → List NodeId → Type 0
-AreRooted work nodes = (p : Point) → root_times work.graph.roots p ≡ count p (map main nodes)
+-- the roots are the mains of these nodes, each as often as it is listed, and those of freezes that were given before the count and keep no value
+abbrev pub AreRooted : Arena → Work → ℕ → List NodeId → Type 0
+AreRooted arena work since nodes = (p : Point) → root_times work.graph.roots p ≡ count p (map main nodes) + freeze_roots (graph_at arena work) since p
+
+-- these are the freezes that keep no value and were given since the count, each once
+abbrev pub AreNewFreezes : Arena → Work → ℕ → List NodeId → Type 0
+AreNewFreezes arena work since freezes =
+    (p : Point) → count p (map main freezes) + freeze_roots (graph_at arena work) since p ≡ freeze_roots (graph_at arena work) arena.given p
+
+-- the roots that a round puts on are mains of these nodes, and of the freezes that were given since the count; those that stood before it are mains of the
+-- observed ones, and of earlier freezes
+pub record BeginsAt (old : Parts) (since : ℕ) (roots nodes freezes observed : List NodeId) : Type 0 where
+  pub all : roots ≡ nodes ++ freezes
+  pub fresh : AreNewFreezes old.arena old.work since freezes
+  pub rooted : AreRooted old.arena old.work since observed
+
+-- so it is for some nodes, freezes and observers
+abbrev pub MayBegin : Parts → List NodeId → Type 0
+MayBegin old roots =
+    (since : ℕ) × (nodes : List NodeId) × (freezes : List NodeId) × (observed : List NodeId) × BeginsAt old since roots nodes freezes observed
 
 -- ---- what a round did to the parts, over the graph that it left and those who died in it
 
@@ -92,13 +113,13 @@ module _ (F : Functions) (old new : Parts) where
 
   -- the count of builds rose by at most one for each of some binds that were built, of which this one couldn't be, or none
   abbrev pub BuiltFew : Option NodeId → Counts → Counts → Type 0
-  BuiltFew unbuilt before after = BuildsFew F old.arena.given (graph_in old) (graph_in new) unbuilt before.builds after.builds
+  BuiltFew unbuilt before after = BuildsFew F old.arena.given (graph_in old) (left_by old new) unbuilt before.builds after.builds
 
 -- what a round leaves wherever it stops: of what was given all stays, but for what died, and of nodes what it may. Each live bind that is built has a
 -- root that reads back as its function's term at that, or none for Invalid; and where each scope was that of a bind with a root, each is
 pub record IsLeftBy (F : Functions) (old new : Parts) (before after : Counts) : Type 0 where
   pub rest : GraphStays old.arena.given new.arena.given (graph_in old) (left_by old new)
-  pub nodes : LeavesNodes F old.arena.given new.arena.given (graph_in old) (graph_in new) before after
+  pub nodes : LeavesNodes F old.arena.given new.arena.given (graph_in old) (left_by old new) before after
   pub rooted : Rooted F (graph_in new)
   pub inside : ScopesRooted (graph_in old) → ScopesRooted (graph_in new)
 

@@ -19,7 +19,7 @@ use Rattle.wiring.specs.declared.work.Work.{Work}
 pub record IsSettled (old new : Work) (n : NodeId) (o : Outcome) (last : Option Call) (calls : ℕ) : Type 0 where
   pub row : Progress
   pub was : at old.rows (main n) ≡ Some row
-  pub now : at new.rows (main n) ≡ Some (record { stage = row.stage; settled = old.round; outcome = Some o; last = last; cutoff = row.cutoff })
+  pub now : at new.rows (main n) ≡ Some (record { stage = row.stage; settled = old.round; outcome = Some o; last = last; cutoff = row.cutoff; frozen = row.frozen })
   pub others : (p : Point) → p ≢ main n → at new.rows p ≡ at old.rows p
   pub graph : KeepsGraph old.graph new.graph
   pub kept : (p : Point) → p ≢ main n → Holds old.graph.heap p → Holds new.graph.heap p

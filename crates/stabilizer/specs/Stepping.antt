@@ -20,6 +20,7 @@ use Rattle.stabilize_round.specs.Machine.{Moves, Stops}
 use Rattle.stabilize_round.specs.State.{State, Start, Call}
 use Rattle.inc_value.specs.Choice.{Reaches}
 use Rattle.stabilize_round.specs.Steps.{Step, Preparing}
+use Rattle.expert_nodes.specs.Experts.{SameExperts, Unmarks, is_stale_at}
 use Rattle.node_outcomes.specs.Computing.{IsComputed, HasCalledSome, seen}
 use Rattle.node_outcomes.specs.Meaning.{Meaning}
 use Rattle.wiring.specs.Began.{IsRoundOf}
@@ -52,7 +53,8 @@ pub record MainIsSettled (F : Functions) (arena : Arena) (old new : Work) (n : N
   pub outcome : Outcome
   pub last : Option Call
   pub called : Bool
-  pub computed : IsComputed F (graph_at arena old) old.round old.rows n outcome last called
+  pub computed : IsComputed F (graph_at arena old) (is_stale_at old.experts) old.round old.rows n outcome last called
+  pub marks : Unmarks old.experts new.experts n
   pub settled : IsSettled old new n outcome last (calls_of called (cost_at (graph_at arena old) n))
   pub count : RoseBy before.calls (calls_of called (cost_at (graph_at arena old) n)) after.calls
   pub rest : IsOfBuilds before after
@@ -60,6 +62,7 @@ pub record MainIsSettled (F : Functions) (arena : Arena) (old new : Work) (n : N
 -- without memory a main stays as it was; where its function was due, some of the calls that it takes may have been made
 pub record MainIsLeft (arena : Arena) (old new : Work) (n : NodeId) (before after : Counts) : Type 0 where
   pub rows : KeepsRows old.rows new.rows
+  pub experts : SameExperts old.experts new.experts
   pub graph : new.graph ≡ old.graph
   pub roots : new.roots ≡ old.roots
   pub deaths : new.deaths ≡ old.deaths
@@ -67,7 +70,7 @@ pub record MainIsLeft (arena : Arena) (old new : Work) (n : NodeId) (before afte
   pub ran : new.ran.items ≡ old.ran.items
   pub retries : new.retries ≡ old.retries
   pub round : new.round ≡ old.round
-  pub count : (after.calls ≡ before.calls) ⊎ HasCalledSome (graph_at arena old) n old.round old.rows before.calls after.calls
+  pub count : (after.calls ≡ before.calls) ⊎ HasCalledSome (graph_at arena old) (is_stale_at old.experts) n old.round old.rows before.calls after.calls
   pub rest : IsOfBuilds before after
 
 -- the points in the scope of a bind that wait for its change are in the worklist, and none else

@@ -1,8 +1,9 @@
 //! Right sides that are built, and dropped again where a build is refused.
-ghost use Rattle.std.specs.Prelude.{◌≡◌, ◌↔◌, ◌≤◌, ◌<◌, ◌+◌, ◌-◌, None, Some, IfOk, IfErr, OnOk, OnErr, ℕ};
+ghost use Rattle.std.specs.Prelude.{◌≡◌, ◌↔◌, ◌≤◌, ◌<◌, ◌+◌, ◌-◌, false, None, Some, IfOk, IfErr, OnOk, OnErr, ℕ};
 ghost use Rattle.inc_value.specs.declared.node.NodeId.{NodeId as ANode};
 ghost use Rattle.inc_value.specs.declared.node.Point.{Point as APoint};
 ghost use Rattle.inc_terms.specs.Depend.{change};
+ghost use Rattle.expert_nodes.specs.Experts.{expert_at};
 ghost use Rattle.point_map.specs.Rows.{at, KeepsRows};
 ghost use Rattle.scopes.specs.Scopes.{IsApart, Enters};
 ghost use Rattle.necessary_graph.specs.Part.{IsInStep};
@@ -10,6 +11,7 @@ ghost use Rattle.node_arena.specs.Arena.{row_at, live, IsLive};
 ghost use Rattle.node_arena.specs.Building.{building_in};
 ghost use Rattle.node_arena.specs.RightSide.{IsRoot};
 ghost use Rattle.node_arena.specs.Sound.{IsSoundArena};
+ghost use Rattle.node_outcomes.specs.Computing.{is_expert};
 ghost use Rattle.stabilizer.specs.Building.{StopsBuilding, AdoptsBefore, NoneSince, MayAdopt, GetsPoints, KeepsRest, MayDisown, MayLeave, HaveLeft};
 ghost use Rattle.stabilizer.specs.Building.{HasDisowned, DropsSince};
 ghost use Rattle.stabilizer.specs.Rooted.{MayBuildFor, WasBuilt, GetsRoot, GetsNoRoot};
@@ -127,6 +129,8 @@ impl Parts {
         requires no_row { (p : APoint) → p.node ≡ node → at self.old.work.rows p ≡ None }
         requires no_point { (p : APoint) → p.node ≡ node → at self.old.work.graph.heights p ≡ None }
         requires apart { IsApart self.old.scopes node }
+        requires plain { is_expert (row_at self.old.arena node) ≡ false }
+        requires no_expert { expert_at self.old.work.experts node ≡ None }
         ensures points { OnOk result (GetsPoints self.old.arena self.old.work self.new.work node) }
         ensures enters { OnOk result (Enters self.old.scopes self.new.scopes node bind) }
         ensures rest { KeepsRest self.old.arena self.old.work self.new.work }

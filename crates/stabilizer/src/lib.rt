@@ -8,6 +8,7 @@ mod parts;
 mod rebuild;
 mod stabilizer;
 
+pub use expert_nodes::{LinkFault, UnlinkFault};
 pub use parts::Parts;
 pub use stabilizer::Stabilizer;
 pub use timed_nodes::{AdvanceFault, AfterFault};

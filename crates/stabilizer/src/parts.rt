@@ -1,6 +1,8 @@
 //! The nodes of a graph with all that a stabilizer keeps of them.
-ghost use Rattle.std.specs.Prelude.{◌≡◌, ◌≢◌, ◌↔◌, ◌+◌, ◌<◌, ◌≤◌, ◌+ℤ◌, ◌<ℤ◌, pos, [], None, Some};
-ghost use Rattle.std.specs.Prelude.{IfOk, OnOk, OnErr, IsErr, IsErrOf, option_copied};
+ghost use Rattle.std.specs.Prelude.{◌≡◌, ◌≢◌, ◌⊎◌, ◌↔◌, ◌+◌, ◌-◌, ◌++◌, ◌<◌, ◌≤◌, ◌+ℤ◌, ◌<ℤ◌, pos, List, [], length, true, None, Some, slice_get, vec_len, vec_capacity};
+ghost use Rattle.std.specs.Prelude.{IfOk, IfSome, IsNone, OnOk, OnErr, IsErr, IsErrOf, option_copied};
+ghost use Rattle.inc_value.specs.Choice.{Among};
+ghost use Rattle.expert_nodes.specs.Experts.{IsCreated, kids_at};
 ghost use Rattle.inc_value.specs.declared.node.NodeId.{NodeId};
 ghost use Rattle.inc_value.specs.declared.node.Point.{Point};
 ghost use Rattle.inc_terms.specs.Clock.{IsTimed};
@@ -10,26 +12,31 @@ ghost use Rattle.inc_terms.specs.Graph.{Row as ARow};
 ghost use Rattle.inc_terms.specs.Within.{FunctionLaws, Given, ValueWithin};
 ghost use Rattle.point_map.specs.Rows.{at, Holds};
 ghost use Rattle.point_map.specs.Rows.{Changes as RowChanges};
-ghost use Rattle.link_table.specs.Links.{times};
+ghost use Rattle.link_table.specs.Links.{Reads, times};
 ghost use Rattle.necessity.specs.Need.{IsRoot};
 ghost use Rattle.necessary_graph.specs.Part.{web, Needed, IsInStep};
 ghost use Rattle.node_arena.specs.Arena.{row_at, live, IsLive, NamesGiven, IsFull, IsVariable, IsSet};
 ghost use Rattle.node_arena.specs.Typing.{Makes, FitsNode, IsAddable};
 ghost use Rattle.node_outcomes.specs.Meaning.{Meaning};
-ghost use Rattle.node_outcomes.specs.Row.{IsRewritten, outcome_in, with_cutoff};
+ghost use Rattle.node_outcomes.specs.Row.{IsRewritten, kept_in, outcome_in, with_cutoff, with_frozen};
 ghost use Rattle.stabilizer.specs.Adding.{HasNode, AddsNothing, SaysAdded};
 ghost use Rattle.stabilizer.specs.Between.{StaysButHeap, LosesRoot, LosesNode, IsTakenBack};
+ghost use Rattle.stabilizer.specs.Between.{GainsLink, GainsNothing, IsCut, IsMadeStale, LosesLink};
+ghost use Rattle.stabilizer.specs.Freezing.{CanFreeze, FreezesKeep, HasToFreeze, IsTakenOff, MayList};
+ghost use Rattle.stabilizer.specs.Look.{is_unfrozen};
 ghost use Rattle.stabilizer.specs.Clock.{AreMarked};
 ghost use Rattle.timed_nodes.specs.Timed.{IsMovedTo};
 ghost use Rattle.stabilizer.specs.Kept.{PartsKept};
 ghost use Rattle.wiring.specs.Places.{ChangesNode};
-ghost use Rattle.stabilizer.specs.Round.{IsReady, AreRooted};
+ghost use Rattle.wiring.specs.Wiring.{IsMarked};
+ghost use Rattle.stabilizer.specs.Round.{IsReady, AreNewFreezes, AreRooted};
 
+use expert_nodes::{LinkFault, UnlinkFault};
 use inc_terms::Def;
 use inc_value::{NodeId, Outcome, Point, Ty, Value};
 use map_nodes::Cutoff;
 use node_arena::{AddFault, Arena, Row, SetFault};
-use node_outcomes::set_cutoff;
+use node_outcomes::{fires, freeze, is_frozen, set_cutoff};
 use observers::Sight;
 use point_map::PointMap;
 use scopes::Scopes;
@@ -81,7 +88,7 @@ impl Parts {
         ensures live { live result.arena ≡ 0 }
         ensures given { result.arena.given ≡ 0 }
         ensures time { result.arena.time ≡ pos 0 }
-        ensures roots { AreRooted result.work [] }
+        ensures roots { AreRooted result.arena result.work 0 [] }
         ensures ran { result.ran.items ≡ [] }
         ensures rows { (a : Point) → at result.work.rows a ≡ None }
         ensures links { (a b : Point) → times result.work.graph.links a b ≡ 0 }
@@ -263,6 +270,142 @@ impl Parts {
         }
     }
 
+    /// Puts a node behind an expert's list. A refused call changes nothing.
+    pub fn link(&mut self, expert: NodeId, kid: NodeId) -> Result<(), LinkFault>
+        requires kept { PartsKept self.old }
+        requires given { Given self.old.arena.given kid }
+        requires fits { MayList self.old.arena expert kid }
+        ensures linked { OnOk result (GainsLink self.old self.new expert kid) }
+        ensures full { IsErrOf result LinkFault.LinksFull ↔ (4096 ≤ length (kids_at self.old.work.experts expert)) }
+        ensures barred { IsErrOf result LinkFault.LinksFull → self.new ≡ self.old }
+        ensures err { OnErr result (GainsNothing self.old self.new) }
+    {
+        if self.work.experts.is_full(expert) {
+            return Err(LinkFault::LinksFull);
+        }
+        let Ok(()) = self.work.todo.reserve(1) else {
+            return Err(LinkFault::Memory);
+        };
+        match self.work.experts.link(expert, kid) {
+            Ok(()) => {
+                grow(&mut self.work, Point::main(expert));
+                Ok(())
+            }
+            Err(fault) => Err(fault),
+        }
+    }
+
+    /// Takes the first occurrence of a node off an expert's list. A refused call changes nothing. This takes no memory.
+    pub fn unlink(&mut self, expert: NodeId, kid: NodeId) -> Result<(), UnlinkFault>
+        requires kept { PartsKept self.old }
+        requires ready { (M : Meaning) × IsReady M self.old }
+        requires created { IsCreated self.old.work.experts expert }
+        ensures unlinked { OnOk result (LosesLink self.old self.new expert kid) }
+        ensures absent { OnErr result (Among kid (kids_at self.old.work.experts expert) → ⊥) }
+        ensures err { OnErr result (self.new ≡ self.old) }
+    {
+        if !self.work.experts.is_linked(expert, kid) {
+            return Err(UnlinkFault::NotLinked);
+        }
+        match self.work.experts.unlink(expert, kid) {
+            Ok(taken_up) => {
+                let p = Point::main(expert);
+                cut(&mut self.work, p, Point::main(kid), taken_up);
+                self.work.schedule(p);
+                Ok(())
+            }
+            Err(fault) => Err(fault),
+        }
+    }
+
+    /// Marks an expert, which runs once more where it is needed. This takes no memory.
+    pub fn make_stale(&mut self, expert: NodeId)
+        requires kept { PartsKept self.old }
+        requires created { IsCreated self.old.work.experts expert }
+        ensures { IsMadeStale self.old self.new expert }
+    {
+        self.work.experts.make_stale(expert);
+        let main = Point::main(expert);
+        self.work.schedule(main);
+    }
+
+    /// Freezes whose predicates were found true in this round keep the values: they are roots no more, and read nothing.
+    /// This looks at the nodes whose functions were called in it alone, and takes no memory.
+    pub(crate) fn freeze_fired(&mut self)
+        requires step { IsInStep self.old.work.graph }
+        requires can { CanFreeze self.old.arena self.old.work.rows self.old.work.graph self.old.ran.items }
+        ensures keep { FreezesKeep self.old.arena self.old.work.rows self.new.work.rows self.old.work.graph self.new.work.graph }
+        ensures rest { self.new ≡ record self.old { work = record self.old.work { rows = self.new.work.rows; graph = self.new.work.graph } } }
+    {
+        for place in 0..self.ran.len() {
+            let node = self.ran[place];
+            if let Some(kid) = self.fired_kid(node) {
+                self.freeze(node, kid);
+            }
+        }
+    }
+
+    /// A freeze keeps the value of the child on which its predicate was called last.
+    fn freeze(&mut self, node: NodeId, kid: NodeId)
+        requires step { IsInStep self.old.work.graph }
+        requires row { Holds self.old.work.rows (main node) }
+        requires root { IsRoot (web self.old.work.graph) (main node) }
+        requires reads { Reads self.old.work.graph.links (main node) (main kid) }
+        ensures rows { IsRewritten self.old.work.rows self.new.work.rows (main node) with_frozen }
+        ensures off { IsTakenOff self.new.work.rows self.old.work.graph self.new.work.graph node kid }
+        ensures step { IsInStep self.new.work.graph }
+        ensures rest { self.new ≡ record self.old { work = record self.old.work { rows = self.new.work.rows; graph = self.new.work.graph } } }
+    {
+        let p = Point::main(node);
+        freeze(&mut self.work.rows, p);
+        self.work.root_off(p);
+        if self.work.graph.is_needed(p) {
+            self.work.unlink(p, Point::main(kid));
+        }
+    }
+
+    /// The child of a freeze that is to keep a value.
+    fn fired_kid(&self, node: NodeId) -> Option<NodeId>
+        ensures fires { IfSome result (λ kid. HasToFreeze self.now.arena self.now.work.rows node kid) }
+        ensures none { IsNone result → (kid : NodeId) → HasToFreeze self.now.arena self.now.work.rows node kid → ⊥ }
+    {
+        match &self.arena.get(node)?.def {
+            Def::Freeze { kid, .. } if fires(&self.work.rows, node) => Some(*kid),
+            _ => None,
+        }
+    }
+
+    /// Lists the freezes whose ids were given since the count and that keep no value behind the nodes.
+    pub fn freezes_since(&self, count: u64, nodes: &mut Vec<NodeId>) -> Result<(), AllocError>
+        requires kept { PartsKept self.now }
+        ensures { OnOk result ((freezes : List NodeId) × (nodes.new.items ≡ nodes.old.items ++ freezes)
+            × AreNewFreezes self.now.arena self.now.work count freezes) }
+    {
+        let mut next = count;
+        while let Some(id) = self.arena.first_since(next) {
+            if self.is_unfrozen(id) {
+                let Ok(()) = nodes.push(id) else {
+                    return Err(AllocError);
+                };
+            }
+            next = id.gen_ + 1;
+        }
+        Ok(())
+    }
+
+    /// Whether the node is a live freeze that keeps no value.
+    fn is_unfrozen(&self, node: NodeId) -> bool
+        ensures { result ≡ is_unfrozen (row_at self.now.arena node) (kept_in (at self.now.work.rows (main node))) }
+    {
+        match self.arena.get(node) {
+            Some(row) => match row.def {
+                Def::Freeze { .. } => !is_frozen(&self.work.rows, node),
+                _ => false,
+            },
+            None => false,
+        }
+    }
+
     /// Takes a root off a node, once. What is no longer needed then loses its links; its outcome and its last call
     /// stay. This takes no memory.
     pub fn unroot(&mut self, id: NodeId)
@@ -324,6 +467,63 @@ impl Parts {
         ensures { result.now ≡ self.now.ran.items }
     {
         &self.ran
+    }
+}
+
+/// The main of an expert whose list grew is due where it is needed, and is to be given its links.
+fn grow(work: &mut Work, p: Point)
+    requires room { vec_len work.old.todo < vec_capacity work.old.todo }
+    requires step { IsInStep work.old.graph }
+    ensures marked { IsMarked work.old.graph work.new.graph p }
+    ensures step { IsInStep work.new.graph }
+    ensures listed { Needed work.old.graph p → Among p work.new.todo.items }
+    ensures still { (q : Point) → Among q work.old.todo.items → Among q work.new.todo.items }
+    ensures only { (q : Point) → Among q work.new.todo.items → Among q work.old.todo.items ⊎ (q ≡ p) }
+    ensures rest { work.new ≡ record work.old { graph = work.new.graph; todo = work.new.todo } }
+{
+    work.schedule(p);
+    if work.graph.is_needed(p) {
+        list(&mut work.todo, p);
+    }
+}
+
+/// Puts a point behind the others, unless it is the last of them.
+fn list(points: &mut Vec<Point>, p: Point)
+    requires room { vec_len points.old < vec_capacity points.old }
+    ensures listed { Among p points.new.items }
+    ensures still { (q : Point) → Among q points.old.items → Among q points.new.items }
+    ensures only { (q : Point) → Among q points.new.items → Among q points.old.items ⊎ (q ≡ p) }
+{
+    if is_last(points, p) {
+        return;
+    }
+    points.push_reserved(p);
+}
+
+/// Whether a point is the last of them.
+fn is_last(points: &Vec<Point>, p: Point) -> bool
+    ensures { result ≡ true → slice_get points.now.items (length points.now.items - 1) ≡ Some p }
+{
+    match points.last() {
+        Some(last) => *last == p,
+        None => false,
+    }
+}
+
+/// The link of an expert's main to what it was unlinked from comes off, if that had been taken up. One that isn't needed has
+/// no links.
+fn cut(work: &mut Work, p: Point, kid: Point, taken_up: bool)
+    requires step { IsInStep work.old.graph }
+    requires reads { taken_up ≡ true → Needed work.old.graph p → Reads work.old.graph.links p kid }
+    ensures off { IsCut work.old work.new p kid taken_up }
+    ensures step { IsInStep work.new.graph }
+    ensures rest { work.new ≡ record work.old { graph = work.new.graph } }
+{
+    if !taken_up {
+        return;
+    }
+    if work.graph.is_needed(p) {
+        work.unlink(p, kid);
     }
 }
 

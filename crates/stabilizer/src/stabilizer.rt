@@ -21,7 +21,7 @@ ghost use Rattle.stabilizer.specs.Kept.{PartsKept, KeepsMeaning, StaysFlat, Want
 ghost use Rattle.stabilizer.specs.Lacking.{MainLacks, ChangeLacks, StepLacks, SettleLacks, SettleOrTellLacks, RoundLacks};
 ghost use Rattle.stabilizer.specs.Rebuilding.{BuildRefused};
 ghost use Rattle.stabilizer.specs.Round.{IsReady};
-ghost use Rattle.stabilizer.specs.Round.{IsInRound, RootsMore, OnlyRoots, Settles, SettleRefused};
+ghost use Rattle.stabilizer.specs.Round.{IsInRound, MayBegin, RootsMore, OnlyRoots, Settles, SettleRefused};
 ghost use Rattle.stabilizer.specs.Ended.{RoundEnds, RoundStops, RoundLeaves};
 ghost use Rattle.stabilizer.specs.Stepping.{MainIsSettled, MainIsLeft, IsUnbuiltBind, IsBuiltFor, IsTurnedAwake, IsAsleep, IsTurned, ChangeIsSettled, ChangeIsLeft};
 ghost use Rattle.stabilizer.specs.Stepping.{StepIsMade, NoneIsLeft, StepIsRefused};
@@ -82,8 +82,9 @@ impl Stabilizer {
         }
     }
 
-    /// A round: puts roots on at these nodes, brings all that is needed up to date, and tells observers of it. No time goes
-    /// into observers of nodes that weren't settled and didn't die.
+    /// A round: links experts to what their lists gained, puts roots on at these nodes, brings all that is needed up to date,
+    /// and tells observers of it. Then freezes keep the values on which their predicates were found true. No time goes into
+    /// observers of nodes that weren't settled and didn't die.
     pub fn run<F: Functions>(
         parts: &mut Parts,
         functions: &mut F,
@@ -94,6 +95,7 @@ impl Stabilizer {
         requires sound { F.is_sound functions.old }
         requires fit { SidesFit (F.known functions.old) (F.right functions.old) parts.old.arena }
         requires given { All (Given parts.old.arena.given) roots.now }
+        requires begins { MayBegin parts.old roots.now }
         requires looks { LookAtGiven parts.old observers.old.made }
         requires shown { ShowAsSeen parts.old observers.old.made }
         ensures ended { OnOk result (RoundEnds F.Functions functions.old functions.new parts.old parts.new roots.now) }
@@ -109,9 +111,11 @@ impl Stabilizer {
         let Some(next) = parts.work.round.checked_add(1) else {
             return Err(Refused::Memory);
         };
+        parts.work.wire(&parts.arena)?;
         put_roots(&mut parts.work, &parts.arena, roots)?;
         settle_and_tell(parts, functions, observers)?;
         mem::swap(&mut parts.ran, &mut parts.work.ran);
+        parts.freeze_fired();
         parts.work.end_round(next);
         Ok(())
     }
@@ -254,6 +258,7 @@ fn step_main<F: Functions>(
         &parts.arena,
         &mut parts.work.rows,
         &parts.work.roots,
+        &mut parts.work.experts,
         &mut parts.work.ran,
         parts.work.round,
         functions,

@@ -1,15 +1,18 @@
 -- A node is added, or its points added and dropped again.
-use Rattle.std.proofs.Common.{◌≡◌, ◌≢◌, ◌⊎◌, inl, inr, ℕ, ℤ, ◌+◌, ◌≤◌, true, Option, None, Some, refl, sym, ap, subst, ◌∙◌, arith}
+use Rattle.std.proofs.Common.{◌≡◌, ◌≢◌, ◌⊎◌, inl, inr, ℕ, ℤ, ◌+◌, ◌≤◌, true, false, List, [], ◌∷◌, Option, None, Some, refl, sym, ap, subst, ◌∙◌, arith}
 use Rattle.std.specs.Prelude.{is_some}
 use Rattle.std.proofs.lemmas.Option.{none-some}
 use Rattle.inc_value.specs.declared.node.NodeId.{NodeId}
 use Rattle.inc_value.specs.declared.node.Part.{Part}
 use Rattle.inc_value.specs.declared.node.Point.{Point}
 use Rattle.inc_value.specs.declared.outcome.Outcome.{Outcome}
-use Rattle.inc_value.specs.Choice.{Among}
+use Rattle.inc_value.specs.Choice.{Among, Every}
+use Rattle.inc_value.specs.declared.ty.Ty.{Ty}
 use Rattle.inc_terms.specs.Clock.{clock_value}
 use Rattle.inc_terms.specs.Depend.{main, change, subject_of}
-use Rattle.inc_terms.specs.Graph.{Row}
+use Rattle.inc_terms.specs.Graph as graph
+use Rattle.inc_terms.specs.Graph.{Def, Row}
+use Rattle.expert_nodes.specs.Experts.{Expert, ExpertChanges, ExpertPlace, expert_at, expert_in, kids_at, kids_of_expert}
 use Rattle.inc_terms.specs.Within.{Given}
 use Rattle.point_map.specs.Rows.{Rows, at, Holds}
 use Rattle.link_table.specs.Links.{Links, times, Reads}
@@ -17,7 +20,8 @@ use Rattle.necessary_graph.specs.Part.{Needed, IsInStep}
 use Rattle.node_lists.specs.Listed.{Listed}
 use Rattle.node_arena.specs.Arena as nodes
 use Rattle.node_arena.specs.Arena.{Arena, row_at}
-use Rattle.node_outcomes.specs.Computing.{has_part}
+use Rattle.node_arena.specs.Typing.{FoldTakes, Makes}
+use Rattle.node_outcomes.specs.Computing.{has_part, is_expert, is_expert_def}
 use Rattle.stabilize_round.proofs.Points.{node_or_other}
 use Rattle.stabilizer.specs.Between.{Stays, KeepsWork, out_of}
 use Rattle.stabilizer.specs.Kept.{PartsKept}
@@ -36,15 +40,16 @@ use Rattle.wiring.proofs.Agreeing.{same_some}
 use Rattle.wiring.proofs.Deciding.{need_same}
 use Rattle.wiring.proofs.Linking.{some_or_none}
 use Rattle.wiring.proofs.Placing.{unsettled, at_node, has_parts, one_for_all, came_and_went, pair_stays, pair_listed}
-use Rattle.stabilizer.proofs.Between.Typing.{KeepsTypes, typed_still, right_still}
+use Rattle.stabilizer.proofs.Between.Typing.{KeepsTypes, call_still, folds_still, listed_still, typed_still, right_still}
+use Rattle.wiring.specs.Experts.{ExpertIsAdded}
+use Rattle.wiring.proofs.Reading.{read_kept}
 use Rattle.wiring.proofs.Holding.{held_rows, built_same, right_as, died_same, ghost_same, root_same}
 use Rattle.wiring.specs.Graph.{held_at}
 use Rattle.node_arena.specs.Arena.{IsLive}
 use Rattle.node_outcomes.specs.Meaning.{Meaning}
-use Rattle.stabilizer.proofs.Between.Alone.{ready_stays}
+use Rattle.stabilizer.proofs.Between.Staying.{ready_stays}
 use Rattle.stabilizer.proofs.Between.Fitting.{added_fit}
 use Rattle.stabilizer.proofs.Between.Keeping.{carried, fit_still, parts_stay}
-use Rattle.stabilizer.proofs.Building.Adopting.{rounds_kept}
 use Rattle.timed_nodes.proofs.Watching.{clock_grown}
 use Rattle.timed_nodes.specs.Timed.{KeepsClock}
 
@@ -80,6 +85,58 @@ live_below arena work kept n live = elim (some_or_none (row_at arena n)) [
   | inr none ↦ absurd (let e = sym live ∙ ap is_some none in cc)
 ]
 
+-- ---- experts
+
+none_live : (arena : Arena) (n : NodeId) (x : Option Row) → row_at arena n ≡ x → is_expert x ≡ true → IsLive arena n
+none_live arena n None row e = absurd (cc)
+none_live arena n (Some r) row e = ap is_some row
+
+-- a new node is none yet
+pub no_expert : (arena : Arena) (work : Work) (id : NodeId) → IsKept arena work → id.gen_ ≡ arena.given → expert_at work.experts id ≡ None
+no_expert arena work id kept gen = none_where (expert_at work.experts id) (λ there.
+    let g = live_below arena work kept id (none_live arena id (row_at arena id) refl (sym (kept.experts id) ∙ there)) in omega (arith, g, gen))
+
+-- what is seen of experts once a node is added that is so defined: it was created if it is one, and reads nothing; others are as they were
+pub record AddsExpert (def : Def) (old new : List ExpertPlace) (n : NodeId) : Type 0 where
+  pub others : (m : NodeId) → m ≢ n → expert_at new m ≡ expert_at old m
+  pub there : is_some (expert_at new n) ≡ is_expert_def def
+  pub none : kids_at new n ≡ []
+
+plainly : (old new : List ExpertPlace) (n : NodeId) (def : Def) → expert_at old n ≡ None → new ≡ old → is_expert_def def ≡ false → AddsExpert def old new n
+plainly old new n def none same plain =
+    let gone : expert_at new n ≡ None = ap (λ (x : List ExpertPlace). expert_at x n) same ∙ none in record {
+      others = λ m ne. ap (λ (x : List ExpertPlace). expert_at x m) same;
+      there = ap is_some gone ∙ sym plain;
+      none = ap (λ (x : Option Expert). kids_of_expert (expert_in x)) gone;
+    }
+
+pub adds_expert : (def : Def) (old new : List ExpertPlace) (n : NodeId) → expert_at old n ≡ None → ExpertIsAdded def old new n
+    → AddsExpert def old new n
+adds_expert (graph.Expert f v ns) old new n none e = record {
+  others = e.others;
+  there = ap is_some e.changed;
+  none = ap (λ (x : Option Expert). kids_of_expert (expert_in x)) e.changed;
+}
+adds_expert (graph.Const v) old new n none e = plainly old new n (graph.Const v) none e refl
+adds_expert (graph.Var v) old new n none e = plainly old new n (graph.Var v) none e refl
+adds_expert (graph.Map f ns) old new n none e = plainly old new n (graph.Map f ns) none e refl
+adds_expert (graph.Fold f v ns) old new n none e = plainly old new n (graph.Fold f v ns) none e refl
+adds_expert (graph.If t a b) old new n none e = plainly old new n (graph.If t a b) none e refl
+adds_expert (graph.Join kid) old new n none e = plainly old new n (graph.Join kid) none e refl
+adds_expert (graph.Bind l f ns) old new n none e = plainly old new n (graph.Bind l f ns) none e refl
+adds_expert (graph.At t) old new n none e = plainly old new n (graph.At t) none e refl
+adds_expert (graph.Steps v steps) old new n none e = plainly old new n (graph.Steps v steps) none e refl
+adds_expert graph.Now old new n none e = plainly old new n graph.Now none e refl
+adds_expert (graph.Every base span) old new n none e = plainly old new n (graph.Every base span) none e refl
+adds_expert (graph.Freeze kid f) old new n none e = plainly old new n (graph.Freeze kid f) none e refl
+
+-- a function that folds some nodes folds none
+takes_none : (a : Arena) (t : Ty) (ns : List NodeId) (tys : List Ty) → FoldTakes a t ns tys → FoldTakes a t [] tys
+takes_none a t ns [] h = h
+takes_none a t ns (x ∷ []) h = h
+takes_none a t ns (x ∷ y ∷ []) h = (h.0, tt)
+takes_none a t ns (x ∷ y ∷ z ∷ tys) h = h
+
 module _ (before arena : Arena) (old work : Work) (id : NodeId) (row : Row) (heights : Part → ℕ) (kept : IsKept before old) (gen : id.gen_ ≡ before.given)
     (added : nodes.Changes before arena id (Some row)) (top : row.scope ≡ None) (sound : IsSoundArena arena)
     (given : arena.given ≡ before.given + 1)
@@ -88,8 +145,12 @@ module _ (before arena : Arena) (old work : Work) (id : NodeId) (row : Row) (hei
     (pairs : (n : NodeId) → IsLive before n ⊎ (n ≡ id) → Among n (pairs_with row.def old.pairs.nodes id) → Among n work.pairs.nodes)
     (scoped : work.scoped ≡ old.scoped)
     (links : work.graph.links ≡ old.graph.links) (roots : work.graph.roots ≡ old.graph.roots)
-    (heap : (p : Point) → at work.graph.heap p ≡ at old.graph.heap p) (step : IsInStep work.graph) (round : KeepsRound old work)
+    (heap : (p : Point) → at work.graph.heap p ≡ at old.graph.heap p) (step : IsInStep work.graph)
+    (round : KeepsRound (record old { experts = work.experts }) work) (experts : ExpertIsAdded row.def old.experts work.experts id)
     (todo : work.todo.items ≡ old.todo.items) where
+  expert : AddsExpert row.def old.experts work.experts id
+  expert = adds_expert row.def old.experts work.experts id (no_expert before old id kept gen) experts
+
   -- what was there stays
   row_stays : (p : Point) → Holds old.rows p → Holds work.rows p
   row_stays p h = ap is_some (rows.others p (other_node before old id kept gen p (kept.there p h))) ∙ h
@@ -206,7 +267,7 @@ module _ (before arena : Arena) (old work : Work) (id : NodeId) (row : Row) (hei
         kept.binds n r (row_was n r (shows_other (change n) _ (kept.roots n had).1) e) had;
     calls = λ n r k c e is last. elim (node_or_other n id) [
       | inl same ↦ absurd (none-some _ (ap (λ (x : Progress). x.last) (is_unsettled (main n) k same is) ∙ last))
-      | inr ne ↦ typed_still before arena more types c.result r.ty
+      | inr ne ↦ call_still before arena more types r.def r.ty c
           (kept.calls n r k c (row_was n r ne e) (sym (rows.others (main n) ne) ∙ is) last)
     ];
     rounds = λ p k e. elim (node_or_other p.node id) [
@@ -224,6 +285,31 @@ module _ (before arena : Arena) (old work : Work) (id : NodeId) (row : Row) (hei
       | inl b ↦ subst (λ (l : Listed). Among n l.nodes) (sym scoped) (kept.scoped n r (scoped_was n b.0 r e b.1) some)
       | inr none ↦ absurd (let f = sym some ∙ ap is_some none in cc)
     ];
+    experts = λ n. elim (node_or_other n id) [
+      | inl is ↦ subst (λ (x : NodeId). is_some (expert_at work.experts x) ≡ is_expert (row_at arena x)) (sym is)
+          (expert.there ∙ sym (ap is_expert added.changed))
+      | inr ne ↦ ap is_some (expert.others n ne) ∙ (kept.experts n ∙ sym (ap is_expert (added.others n ne)))
+    ];
+    listed = λ n. elim (node_or_other n id) [
+      | inl is ↦ subst (Every (Given arena.given)) (sym (ap (kids_at work.experts) is ∙ expert.none)) tt
+      | inr ne ↦ subst (λ (x : Option Expert). Every (Given arena.given) (kids_of_expert (expert_in x))) (sym (expert.others n ne))
+          (listed_still before arena more types (kids_at old.experts n) (kept.listed n))
+    ];
+    lists = λ n r f v ns e is. elim (node_or_other n id) [
+      | inl same ↦ subst (λ (kids : List NodeId). FoldTakes arena r.ty kids f.sig.takes) (sym (ap (kids_at work.experts) same ∙ expert.none))
+          (takes_none arena r.ty ns f.sig.takes (subst (λ (d : Def). Makes arena d r.ty) is (sound.types n r e)).takes)
+      | inr ne ↦ subst (λ (x : Option Expert). FoldTakes arena r.ty (kids_of_expert (expert_in x)) f.sig.takes) (sym (expert.others n ne))
+          (folds_still before arena more types r.ty (kids_at old.experts n) f.sig.takes (kept.listed n) (kept.lists n r f v ns (row_was n r ne e) is))
+    ];
+    tops = λ n r e is. elim (node_or_other n id) [
+      | inl same ↦ sym (ap (λ (x : Row). x.scope) (row_is n r same e)) ∙ top
+      | inr ne ↦ kept.tops n r (row_was n r ne e) is
+    ];
+    frozen = λ n k e on. elim (node_or_other n id) [
+      | inl same ↦ absurd (let f = ap (λ (x : Progress). x.frozen) (is_unsettled (main n) k same e) ∙ on in cc)
+      | inr ne ↦ let h = kept.frozen n k (sym (rows.others (main n) ne) ∙ e) on in
+          record { row = h.row; is_row = row_now n h.row h.is_row; is_freeze = h.is_freeze; value = h.value; last = h.last }
+    ];
   }
 
   need_before : (p : Point) → Needed work.graph p → Needed old.graph p
@@ -236,7 +322,11 @@ module _ (before arena : Arena) (old work : Work) (id : NodeId) (row : Row) (hei
   added_stays = record {
     needed = need_before;
     clock = λ p r need row. inr (ap (λ (t : ℤ). clock_value t r.def) added.time);
-    links = λ p q n. ap (λ (x : Links). times x p q) links;
+    lists = λ p n. inl (record {
+      links = λ q. ap (λ (x : Links). times x p q) links;
+      expert = expert.others p.node (needed_other p n);
+      listed = λ a. subst (Among p) (sym todo) a;
+    });
     heap = λ p n h. ap is_some (heap p) ∙ h;
     rows = λ p n. rows.others p (needed_other p n);
     nodes = λ p r need e. inl (row_was p.node r (needed_other p need) e);
@@ -260,7 +350,6 @@ module _ (before arena : Arena) (old work : Work) (id : NodeId) (row : Row) (hei
     ran = round.ran;
     retries = round.retries;
     round = round.round;
-    todo = todo;
   }
 
 -- ---- all stays
@@ -278,19 +367,24 @@ module _ (arena : Arena) (old work : Work) (kept : IsKept arena old) (same : Kee
     links = λ p q l. subst (λ (x : Links). Reads x p q) same.links l;
     heap = λ p h. kept.heap p (ap is_some (sym (same.heap p)) ∙ h);
     fit = fit_still arena old work kept same.rows same.round.round;
-    held = held_rows arena old work same.rows same.round.roots;
+    held = held_rows arena old work same.rows same.round.roots (read_kept old.experts work.experts same.experts).kids;
     chosen = λ n h. ap outcome_in (same.rows (change n));
     roots = same.round.roots;
     deaths = same.round.deaths;
     pairs = λ n r e a. pairs n (ap is_some e) a;
     scoped = λ n r e a. scoped n (ap is_some e) a;
+    experts = read_kept old.experts work.experts same.experts;
   })
 
 pub back_stays : (arena : Arena) (old work : Work) → KeepsWork old work → Stays arena arena old work
 back_stays arena old work same = record {
   needed = λ p n. need_same work.graph old.graph (sym same.links) (sym same.roots) p n;
   clock = λ p r need row. inr refl;
-  links = λ p q n. ap (λ (x : Links). times x p q) same.links;
+  lists = λ p n. inl (record {
+    links = λ q. ap (λ (x : Links). times x p q) same.links;
+    expert = same.experts p.node;
+    listed = λ a. subst (Among p) (sym same.todo) a;
+  });
   heap = λ p n h. ap is_some (same.heap p) ∙ h;
   rows = λ p n. same.rows p;
   nodes = λ p r need e. inl e;
@@ -305,7 +399,6 @@ back_stays arena old work same = record {
   ran = same.round.ran;
   retries = same.round.retries;
   round = same.round.round;
-  todo = same.todo;
 }
 
 -- ---- added and dropped again
@@ -313,19 +406,33 @@ back_stays arena old work same = record {
 module _ (arena : Arena) (old mid : Work) (id : NodeId) (rows : Part → Option Progress) (heights : Part → Option ℕ) (kept : IsKept arena old)
     (gen : id.gen_ ≡ arena.given) (added : ChangesNode old.rows mid.rows id rows) (points : ChangesNode old.graph.heights mid.graph.heights id heights)
     (links : mid.graph.links ≡ old.graph.links) (roots : mid.graph.roots ≡ old.graph.roots)
-    (heap : (p : Point) → at mid.graph.heap p ≡ at old.graph.heap p) (round : KeepsRound old mid) (todo : mid.todo.items ≡ old.todo.items) where
+    (heap : (p : Point) → at mid.graph.heap p ≡ at old.graph.heap p) (round : KeepsRound (record old { experts = mid.experts }) mid)
+    (experts : (n : NodeId) → n ≢ id → expert_at mid.experts n ≡ expert_at old.experts n) (todo : mid.todo.items ≡ old.todo.items) where
   pub dropped_again : (work : Work) → ChangesNode mid.rows work.rows id (λ part. None)
       → ChangesNode mid.graph.heights work.graph.heights id (λ part. None)
-      → work.graph.links ≡ mid.graph.links → work.graph.roots ≡ mid.graph.roots → work.graph.heap ≡ mid.graph.heap → KeepsRound mid work
+      → work.graph.links ≡ mid.graph.links → work.graph.roots ≡ mid.graph.roots → work.graph.heap ≡ mid.graph.heap
+      → KeepsRound (record mid { experts = work.experts }) work → ExpertChanges mid.experts work.experts id None
       → work.todo.items ≡ mid.todo.items → KeepsWork old work
-  dropped_again work rows' points' links' roots' heap' round' todo' = record {
+  dropped_again work rows' points' links' roots' heap' round' experts' todo' = record {
     rows = came_and_went old.rows mid.rows work.rows id rows (no_row arena old id kept gen) added rows';
     points = came_and_went old.graph.heights mid.graph.heights work.graph.heights id heights (absent arena old id kept gen) points points';
     links = links' ∙ links;
     roots = roots' ∙ roots;
     heap = λ p. ap (λ (h : Rows ℕ). at h p) heap' ∙ heap p;
     todo = todo' ∙ todo;
-    round = rounds_kept old mid work round round';
+    round = record {
+      roots = round'.roots ∙ round.roots;
+      deaths = round'.deaths ∙ round.deaths;
+      ran = round'.ran ∙ round.ran;
+      retries = round'.retries ∙ round.retries;
+      round = round'.round ∙ round.round;
+      experts = refl;
+    };
+    experts = λ n. elim (node_or_other n id) [
+      | inl is ↦ subst (λ (x : NodeId). expert_at work.experts x ≡ expert_at old.experts x) (sym is)
+          (experts'.changed ∙ sym (no_expert arena old id kept gen))
+      | inr ne ↦ experts'.others n ne ∙ experts n ne
+    ];
   }
 
 -- ---- the parts
@@ -359,16 +466,18 @@ module _ (old new : Parts) (id : NodeId) (row : Row) (heights : Part → ℕ) (k
     (pairs : (n : NodeId) → IsLive old.arena n ⊎ (n ≡ id) → Among n (pairs_with row.def old.work.pairs.nodes id) → Among n new.work.pairs.nodes)
     (scoped : new.work.scoped ≡ old.work.scoped)
     (links : new.work.graph.links ≡ old.work.graph.links) (roots : new.work.graph.roots ≡ old.work.graph.roots)
-    (heap : (p : Point) → at new.work.graph.heap p ≡ at old.work.graph.heap p) (step : IsInStep new.work.graph) (round : KeepsRound old.work new.work)
+    (heap : (p : Point) → at new.work.graph.heap p ≡ at old.work.graph.heap p) (step : IsInStep new.work.graph)
+    (round : KeepsRound (record old.work { experts = new.work.experts }) new.work)
+    (experts : ExpertIsAdded row.def old.work.experts new.work.experts id)
     (todo : new.work.todo.items ≡ old.work.todo.items) (scopes : new.scopes ≡ old.scopes) (dying : new.dying.items ≡ old.dying.items)
     (timed : new.timed ≡ old.timed) where
   node_stays : Stays old.arena new.arena old.work new.work
   node_stays = added_stays old.arena new.arena old.work new.work id row heights kept.work gen added top sound given rows points pairs scoped links roots
-      heap step round todo
+      heap step round experts todo
 
   pub added_parts : PartsKept new
   added_parts = parts_stay old new kept (added_kept old.arena new.arena old.work new.work id row heights kept.work gen added top sound given rows points
-      pairs scoped links roots heap step round todo) node_stays scopes dying
+      pairs scoped links roots heap step round experts todo) node_stays scopes dying
       (subst (KeepsClock new.arena) (sym timed) (clock_grown old.arena new.arena old.timed kept.clock (omega (arith, given)) added.time
       (λ n g. added.others n (λ is. let e = ap (λ (m : NodeId). m.gen_) is in absurd (omega (arith, e, gen, g))))))
 

@@ -22,7 +22,8 @@ use Rattle.necessary_graph.specs.Part.{NecessaryPart, Needed, IsInStep}
 use Rattle.node_arena.specs.Arena.{Arena, row_at}
 use Rattle.node_arena.specs.Graph.{AllCallFit, CallsFit}
 use Rattle.node_arena.specs.Sound.{IsSoundArena}
-use Rattle.node_outcomes.specs.Computing.{has_part}
+use Rattle.expert_nodes.specs.Experts.{kids_at}
+use Rattle.node_outcomes.specs.Computing.{has_part, is_expert}
 use Rattle.node_outcomes.specs.Meaning.{Meaning}
 use Rattle.stabilize_round.proofs.Points.{is_or_not}
 use Rattle.clock_nodes.specs.Clock.{watched, KeepsWatched, ListsStale}
@@ -39,10 +40,11 @@ use Rattle.stabilizer.specs.Kept.{PartsKept}
 use Rattle.stabilizer.specs.Round.{IsReady}
 use Rattle.stabilizer.specs.declared.parts.Parts.{Parts}
 use Rattle.timed_nodes.specs.Timed.{Timed}
-use Rattle.stabilizer.proofs.Between.Alone.{needed_row, ready_stays, main_is}
+use Rattle.stabilizer.proofs.Between.Alone.{needed_row, main_is}
+use Rattle.stabilizer.proofs.Between.Staying.{ready_stays}
 use Rattle.stabilizer.proofs.Between.Keeping.{parts_stay}
 use Rattle.timed_nodes.proofs.Watching.{clock_moved}
-use Rattle.stabilizer.proofs.Between.Typing.{KeepsTypes, typed_still, right_still}
+use Rattle.stabilizer.proofs.Between.Typing.{KeepsTypes, call_still, folds_still, listed_still, typed_still, right_still}
 
 -- ---- who shows another value
 
@@ -236,10 +238,17 @@ module _ (before arena : Arena) (old : Work) (g : NecessaryPart) (to : ℤ) (sta
         (right_as before arena old work n m r.def o (built_same before arena old work n (moved.rows n) refl refl) right));
     roots = kept.roots;
     binds = λ n r row h. kept.binds n r (was n r row) h;
-    calls = λ n r k c row e last. typed_still before arena more types c.result r.ty (kept.calls n r k c (was n r row) e last);
+    calls = λ n r k c row e last. call_still before arena more types r.def r.ty c (kept.calls n r k c (was n r row) e last);
     rounds = kept.rounds;
     pairs = λ n r row some. kept.pairs n r (was n r row) some;
     scoped = λ n r row some. kept.scoped n r (was n r row) some;
+    experts = λ n. kept.experts n ∙ sym (ap is_expert (moved.rows n));
+    listed = λ n. listed_still before arena more types (kids_at old.experts n) (kept.listed n);
+    lists = λ n r f v ns row is. folds_still before arena more types r.ty (kids_at old.experts n) f.sig.takes (kept.listed n)
+        (kept.lists n r f v ns (was n r row) is);
+    tops = λ n r row top. kept.tops n r (was n r row) top;
+    frozen = λ n k e on. let h = kept.frozen n k e on in
+        record { row = h.row; is_row = now n h.row h.is_row; is_freeze = h.is_freeze; value = h.value; last = h.last };
   }
 
   -- a change is of a node that doesn't read the clock
@@ -263,7 +272,7 @@ module _ (before arena : Arena) (old : Work) (g : NecessaryPart) (to : ℤ) (sta
   moved_stays = record {
     needed = need_before;
     clock = λ p r need row. shows_at p r need row p.part refl;
-    links = λ p q n. ap (λ (x : Links). times x p q) marked.graph.links;
+    lists = λ p n. inl (record { links = λ q. ap (λ (x : Links). times x p q) marked.graph.links; expert = refl; listed = λ a. a });
     heap = λ p n h. marked.kept p h;
     rows = λ p n. refl;
     nodes = λ p r need row. inl (was p.node r row);
@@ -278,7 +287,6 @@ module _ (before arena : Arena) (old : Work) (g : NecessaryPart) (to : ℤ) (sta
     ran = refl;
     retries = refl;
     round = refl;
-    todo = refl;
   }
 
 -- ---- the parts
@@ -325,9 +333,9 @@ module _ (old : Parts) (timed : Timed) (kept : PartsKept old) (clock : KeepsCloc
     state = ready.state;
     stands = ready.stands;
     entry = ready.entry;
+    linked = ready.linked;
     inside = ready.inside;
     numbered = ready.numbered;
-    todo = ready.todo;
     ran = ready.ran;
   }
 
@@ -340,6 +348,7 @@ module _ (old : Parts) (timed : Timed) (kept : PartsKept old) (clock : KeepsCloc
     links = refl;
     roots = refl;
     right_sides = refl;
+    experts = refl;
     ran = refl;
     kept = others_kept;
     ready = others_ready;
@@ -393,6 +402,7 @@ module _ (old new : Parts) (seen found : Timed) (arena : Arena) (to : ℤ) (kept
     links = marked.graph.links;
     roots = marked.graph.roots;
     right_sides = ap (λ (p : Parts). p.work.roots) rest;
+    experts = ap (λ (p : Parts). p.work.experts) rest;
     ran = ap (λ (p : Parts). p.ran) rest;
     kept = moved_parts old new to found.stale kept moved_new sound_new marked step shows_new lives_new clock_new rest_new;
     ready = moved_ready old new to found.stale kept moved_new sound_new marked step shows_new lives_new clock_new rest_new;

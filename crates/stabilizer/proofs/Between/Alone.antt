@@ -1,23 +1,22 @@
--- Between rounds the parts alone tell whether a round may begin, also without nodes, and what calls made there may change of them.
-use Rattle.std.proofs.Common.{◌≡◌, ◌⊎◌, inl, inr, ℕ, zero, suc, ◌<◌, ◌==◌, Bool, true, false, [], ◌++◌, Option, None, Some, refl, sym, ap, subst, List, ◌∙◌, arith}
+-- Between rounds the parts alone tell whether a round may begin, also without nodes.
+use Rattle.std.proofs.Common.{◌≡◌, ◌⊎◌, inl, inr, ℕ, zero, suc, ◌<◌, ◌+◌, Bool, true, false, [], ◌∷◌, Option, None, Some, refl, sym, ap, subst, List, ◌∙◌, arith}
 use Rattle.std.specs.Prelude.{is_some, IsSome, reverse, ◌↔◌}
-use Rattle.std.proofs.lemmas.Bool.Decides.{nat_tests}
+use Rattle.stabilize_round.proofs.Parts.{bool_cases}
 use Rattle.std.proofs.lemmas.Option.{none-some, same_Some}
-use Rattle.inc_value.specs.declared.function.FnRef.{FnRef}
 use Rattle.inc_value.specs.declared.node.NodeId.{NodeId}
 use Rattle.inc_value.specs.declared.node.Part.{Part}
 use Rattle.inc_value.specs.declared.node.Part.TheVariants.{Main, Change}
 use Rattle.inc_value.specs.declared.node.Point.{Point}
 use Rattle.inc_value.specs.declared.outcome.Outcome.{Outcome}
-use Rattle.inc_value.specs.Choice.{Among}
-use Rattle.inc_terms.specs.Clock.{clock_value}
+use Rattle.inc_value.specs.Choice.{Among, Every}
+use Rattle.inc_value.specs.declared.value.Value.{Value}
 use Rattle.inc_terms.specs.Depend.{main, change, subject_of, fixed_reads}
 use Rattle.inc_terms.specs.Graph as graph
-use Rattle.inc_terms.specs.Graph.{Graph, Row, Def, Bind}
+use Rattle.inc_terms.specs.Graph.{Graph, Row, Def, Bind, Freeze}
 use Rattle.inc_terms.specs.Local.{shown, shown_of, Agrees, IsBuilt, IsRooted}
 use Rattle.inc_terms.specs.Plan.{gate_of, plan}
 use Rattle.inc_terms.specs.Term.{Functions}
-use Rattle.inc_terms.specs.Within.{FunctionLaws}
+use Rattle.inc_terms.specs.Within.{FunctionLaws, Given}
 use Rattle.inc_terms.specs.Work.{taken_by}
 use Rattle.inc_terms.proofs.Plan.{among_left, among_right}
 use Rattle.inc_terms.proofs.Seeing.{looks}
@@ -30,34 +29,34 @@ use Rattle.necessary_graph.proofs.Reaching.{root_needed, read_needed}
 use Rattle.node_arena.specs.Arena.{Arena, row_at}
 use Rattle.node_arena.specs.Graph.{AllCallFit}
 use Rattle.node_outcomes.specs.Meaning.{Meaning}
-use Rattle.node_outcomes.specs.Choosing.{built_by}
-use Rattle.node_outcomes.specs.Computing.{has_part}
+use Rattle.node_outcomes.specs.Computing.{has_part, is_expert, is_expert_def}
 use Rattle.node_outcomes.proofs.Held.{built_live, built_parts}
-use Rattle.node_outcomes.specs.Row.{outcome_in, settled_in, stage_of, cutoff_in}
+use Rattle.node_outcomes.specs.Row as seen
+use Rattle.node_outcomes.specs.Row.{outcome_in, settled_in, stage_in, stage_of, cutoff_in, kept_by, kept_in}
 use Rattle.stabilize_round.specs.State as machine
 use Rattle.stabilize_round.specs.State.{State, Start, count, planned, plan_at, live_plan, all_retries}
-use Rattle.stabilize_round.proofs.Freezing.{other_rests}
-use Rattle.stabilize_round.specs.Invariant.{Recalls, Rooted, ScopesRooted}
+use Rattle.stabilize_round.specs.Freezing.{fires, row_fires}
+use Rattle.stabilize_round.specs.Invariant.{Recalls, Rooted}
 use Rattle.stabilize_round.specs.Machine.{Entry as Begins}
 use Rattle.stabilize_round.proofs.Points.{among_count}
-use Rattle.stabilizer.specs.Between.{IsBetween, Stays, out_of}
+use Rattle.stabilizer.specs.Between.{IsBetween, out_of}
+use Rattle.expert_nodes.specs.Experts.{ExpertPlace, expert_at, is_stale_at, kids_at}
 use Rattle.wiring.specs.Deciding.{is_needed}
-use Rattle.wiring.specs.Kept.{IsKept}
+use Rattle.wiring.specs.Kept.{IsFreeze, IsKept, IsTop}
 use Rattle.stabilizer.specs.Kept.{PartsKept, KeepsScopes}
 use Rattle.stabilizer.specs.Look.{last_of, last_call}
 use Rattle.stabilizer.specs.Round.{IsReady}
 use Rattle.stabilizer.specs.declared.parts.Parts.{Parts}
-use Rattle.wiring.specs.Stands.{MatchesState}
+use Rattle.wiring.specs.Stands.{MatchesState, owes}
 use Rattle.node_outcomes.specs.declared.row.Progress.{Progress}
 use Rattle.node_outcomes.specs.declared.row.Stage.{Stage}
 use Rattle.node_outcomes.specs.declared.row.Stage.TheVariants as code
 use Rattle.wiring.specs.declared.work.Work.{Work}
-use Rattle.wiring.proofs.Agreeing.{one_point_built, no_freeze, plan_same, var_plan, reads_change, agrees_still, recalls_still}
+use Rattle.wiring.proofs.Agreeing.{plan_same, same_some, reads_change, agrees_still, recalls_still}
+use Rattle.wiring.proofs.Owing.{owes_none, owes_partly, plain_fresh}
 use Rattle.wiring.proofs.Deciding.{decides_needed}
 use Rattle.wiring.proofs.Linking.{some_or_none}
-use Rattle.wiring.proofs.Holding.{died_same}
 use Rattle.wiring.specs.Graph.{held_at, graph_at, died_at}
-use Rattle.stabilizer.proofs.Building.ReadingBack.{IsVar, built_still}
 use Rattle.node_arena.specs.Sound.{IsSoundArena}
 use Rattle.scopes.specs.Scopes.{Scopes, member}
 
@@ -113,16 +112,91 @@ module _ (arena : Arena) (work : Work) (kept : IsKept arena work) where
   pub no_row_of_dead : (p : Point) → row_at arena p.node ≡ None → Holds work.rows p → ⊥
   no_row_of_dead p dead h = let r = node_of p h in none-some r.0 (sym dead ∙ r.1)
 
+  -- only an expert is owed links
+  pub owes_or_expert : (needed : Bool) (p : Point) → (owes work needed p ≡ []) ⊎ (is_expert (row_at arena p.node) ≡ true)
+  owes_or_expert needed p = elim (bool_cases (is_expert (row_at arena p.node))) [
+    | inl expert ↦ inr expert
+    | inr plain ↦ inl (owes_none work needed p (plain_fresh arena work.experts kept.experts p.node plain))
+  ]
+
+  plain_def : (def : Def) → IsSome (subject_of def) → is_expert_def def ≡ true → ⊥
+  plain_def (graph.Expert f v ns) some e = absurd (cc)
+  plain_def (graph.If t a b) some e = absurd (cc)
+  plain_def (graph.Join k) some e = absurd (cc)
+  plain_def (graph.Bind l f caps) some e = absurd (cc)
+  plain_def _ some e = absurd (cc)
+
+  -- a point of a node of two points is owed none
+  pub two_unowed : (needed : Bool) (p : Point) (r : Row) → row_at arena p.node ≡ Some r → IsSome (subject_of r.def) → owes work needed p ≡ []
+  two_unowed needed p r row some = elim (owes_or_expert needed p) [
+    | inl none ↦ none
+    | inr expert ↦ absurd (plain_def r.def some (sym (ap is_expert row) ∙ expert))
+  ]
+
+  pub var_unowed : (needed : Bool) (p : Point) (r : Row) (v : Value) → row_at arena p.node ≡ Some r → r.def ≡ graph.Var v → owes work needed p ≡ []
+  var_unowed needed p r v row is = elim (owes_or_expert needed p) [
+    | inl none ↦ none
+    | inr expert ↦ absurd (let e = sym (ap is_expert_def is) ∙ (sym (ap is_expert row) ∙ expert) in cc)
+  ]
+
+  is_top : (def : Def) → is_expert_def def ≡ true → IsTop def
+  is_top (graph.Expert f v ns) e = tt
+  is_top (graph.Freeze kid f) e = absurd (cc)
+  is_top _ e = absurd (cc)
+
+  of_row : (n : NodeId) (x : Option Row) → row_at arena n ≡ x → is_expert x ≡ true → (r : Row) × (row_at arena n ≡ Some r) × (r.scope ≡ None)
+  of_row n None row e = absurd (cc)
+  of_row n (Some r) row e = (r, row, kept.tops n r row (is_top r.def e))
+
+  expert_subject : (def : Def) → is_expert_def def ≡ true → subject_of def ≡ None
+  expert_subject (graph.Expert f v ns) e = refl
+  expert_subject _ e = absurd (cc)
+
+  -- who is owed some stands in no scope, and is of one point
+  pub owing_alone : (needed : Bool) (p : Point) → (owes work needed p ≡ [] → ⊥) → (r : Row) → row_at arena p.node ≡ Some r
+      → (r.scope ≡ None) × (subject_of r.def ≡ None)
+  owing_alone needed p some r row = elim (owes_or_expert needed p) [
+    | inl none ↦ absurd (some none)
+    | inr expert ↦
+        let is = sym (ap is_expert row) ∙ expert in
+        (kept.tops p.node r row (is_top r.def is), expert_subject r.def is)
+  ]
+
+  -- and is live
+  pub owing_top : (needed : Bool) (p : Point) → (owes work needed p ≡ [] → ⊥) → (r : Row) × (row_at arena p.node ≡ Some r) × (r.scope ≡ None)
+  owing_top needed p some = elim (owes_or_expert needed p) [
+    | inl none ↦ absurd (some none)
+    | inr expert ↦ of_row p.node (row_at arena p.node) refl expert
+  ]
+
+  no_change_of_freeze : (def : Def) → IsFreeze def → IsSome (subject_of def) → ⊥
+  no_change_of_freeze (graph.Freeze kid f) is some = absurd (cc)
+  no_change_of_freeze _ is some = is
+
+  -- a node of two points keeps no value of a freeze
+  pub two_unfrozen : (n : NodeId) (r : Row) → row_at arena n ≡ Some r → IsSome (subject_of r.def) → kept_in (at work.rows (main n)) ≡ None
+  two_unfrozen n r row some = by_kept (at work.rows (main n)) refl
+    where
+      by_flag : (k : Progress) → at work.rows (main n) ≡ Some k → (b : Bool) → k.frozen ≡ b → kept_by b k.last ≡ None
+      by_flag k is false off = refl
+      by_flag k is true on =
+          let h = kept.frozen n k is on in
+          absurd (no_change_of_freeze h.row.def h.is_freeze (ap (λ (x : Row). is_some (subject_of x.def)) (same_some (sym h.is_row ∙ row)) ∙ some))
+
+      by_kept : (x : Option Progress) → at work.rows (main n) ≡ x → kept_in x ≡ None
+      by_kept None is = refl
+      by_kept (Some k) is = by_flag k is k.frozen refl
+
 -- what is linked from a needed point is needed, and what it looks at is so
 module _ (work : Work) (p : Point) (need : Needed work.graph p) (G : Graph) (out : Point → Option Outcome) (r : Row)
     (links : (q : Point) → times work.graph.links p q ≡ count q (plan G out p r)) where
   planned_needed : (q : Point) → Among q (plan G out p r) → Needed work.graph q
   planned_needed q a = read_needed work.graph p q need (let l = links q in let c = among_count q (plan G out p r) a in omega (arith, l, c))
 
-  looked_needed : (q : Point) → Among q (looks G out p r) → Needed work.graph q
+  pub looked_needed : (q : Point) → Among q (looks G out p r) → Needed work.graph q
   looked_needed q a = planned_needed q (among_right q (gate_of r.scope) _ a)
 
-  change_needed : p.part ≡ Main → IsSome (subject_of r.def) → Needed work.graph (change p.node)
+  pub change_needed : p.part ≡ Main → IsSome (subject_of r.def) → Needed work.graph (change p.node)
   change_needed is some = looked_needed (change p.node) (among_left (change p.node) (fixed_reads G p.node r.def p.part) _
       (subst (λ (x : Part). Among (change p.node) (fixed_reads G p.node r.def x)) (sym is) (reads_change G p.node r.def some)))
 
@@ -168,7 +242,7 @@ module _ (M : Meaning) (parts : Parts) (ready : IsReady M parts) where
   own_now p r row is some = let k = own_row arena work kept p.node r row some in out_now (change p.node) k.0 k.1
 
   plan_now : (p : Point) (r : Row) → row_at arena p.node ≡ Some r → plan (graph_at arena work) (out_of work) p r ≡ plan (graph_at arena work) s.out p r
-  plan_now p r row = plan_same arena arena (held_at arena work) (held_at arena work) s.out (out_of work) p r refl (own_now p r row)
+  plan_now p r row = plan_same arena arena (held_at arena work) (held_at arena work) s.out (out_of work) p r refl refl refl (own_now p r row)
 
   planned_now : (p : Point) (r : Row) → Needed work.graph p → row_at arena p.node ≡ Some r → planned s p ≡ plan (graph_at arena work) s.out p r
   planned_now p r need row =
@@ -176,12 +250,22 @@ module _ (M : Meaning) (parts : Parts) (ready : IsReady M parts) where
       ∙ (ap (λ (x : machine.Stage). live_plan s.graph s.out p r x) (ready.entry.full p r (row_now p.node r row) ((ready.stands.needed p).1 need))
       ∙ ap (λ (G : Graph). plan G s.out p r) ready.stands.graph)
 
-  plain_links : (p q : Point) → s.needed p ≡ true → s.links p q ≡ count q (planned s p)
-  plain_links p q need = let e = ready.entry.links p q need in let o = ready.stands.owed p in let e' = rw o at e in omega arith
+  owed_now : (p : Point) → Needed work.graph p → s.owed p ≡ owes work true p
+  owed_now p need = ready.stands.owed p ∙ ap (λ (b : Bool). owes work b p) ((ready.stands.needed p).1 need)
 
-  links_now : (p : Point) (r : Row) → Needed work.graph p → row_at arena p.node ≡ Some r
+  all_now : (p : Point) (r : Row) → Needed work.graph p → row_at arena p.node ≡ Some r
+      → (q : Point) → times work.graph.links p q + count q (owes work true p) ≡ count q (plan (graph_at arena work) s.out p r)
+  all_now p r need row q =
+      let e = ready.entry.links p q ((ready.stands.needed p).1 need) in
+      let l = ready.stands.links p q in
+      let o = ap (count q) (owed_now p need) in
+      let g = ap (count q) (planned_now p r need row) in
+      omega (arith, e, l, o, g)
+
+  -- where it is owed none
+  links_now : (p : Point) (r : Row) → Needed work.graph p → row_at arena p.node ≡ Some r → owes work true p ≡ []
       → (q : Point) → times work.graph.links p q ≡ count q (plan (graph_at arena work) s.out p r)
-  links_now p r need row q = sym (ready.stands.links p q) ∙ (plain_links p q ((ready.stands.needed p).1 need) ∙ ap (count q) (planned_now p r need row))
+  links_now p r need row none q = let e = all_now p r need row q in let z = ap (count q) none in omega (arith, e, z)
 
   seen_now : (q : Point) → Needed work.graph q → shown (graph_at arena work) (out_of work) q ≡ shown (graph_at arena work) s.out q
   seen_now q need = elim (some_or_none (row_at arena q.node)) [
@@ -190,9 +274,9 @@ module _ (M : Meaning) (parts : Parts) (ready : IsReady M parts) where
     | inr none ↦ ap (λ (x : Option Row). shown_of x (out_of work q)) none ∙ sym (ap (λ (x : Option Row). shown_of x (s.out q)) none)
   ]
 
-  module _ (p : Point) (r : Row) (need : Needed work.graph p) (row : row_at arena p.node ≡ Some r) where
+  module _ (p : Point) (r : Row) (need : Needed work.graph p) (row : row_at arena p.node ≡ Some r) (none : owes work true p ≡ []) where
     looked_now : (q : Point) → Among q (looks (graph_at arena work) s.out p r) → shown (graph_at arena work) (out_of work) q ≡ shown (graph_at arena work) s.out q
-    looked_now q a = seen_now q (looked_needed work p need (graph_at arena work) s.out r (links_now p r need row) q a)
+    looked_now q a = seen_now q (looked_needed work p need (graph_at arena work) s.out r (links_now p r need row none) q a)
 
     here_now : out_of work p ≡ s.out p
     here_now = let k = needed_row arena work kept p r need row in out_now p k.0 k.1
@@ -201,24 +285,47 @@ module _ (M : Meaning) (parts : Parts) (ready : IsReady M parts) where
     last_now is = let k = row_of arena work kept p.node r row in ap last_of k.1 ∙ sym (ready.stands.last p.node k.0 k.1)
 
     agrees_now : Agrees F s.graph s.out p → Agrees F (graph_at arena work) (out_of work) p
-    agrees_now a = agrees_still F arena arena (held_at arena work) (held_at arena work) s.out (out_of work) p r row row here_now refl refl
+    agrees_now a = agrees_still F arena arena (held_at arena work) (held_at arena work) s.out (out_of work) p r row row here_now refl refl refl refl
         (λ o h. h) looked_now
         (subst (λ (G : Graph). Agrees F G s.out p) ready.stands.graph a)
 
     recalls_now : Recalls s.graph (shown s.graph s.out) s.last p → Recalls (graph_at arena work) (shown (graph_at arena work) (out_of work)) (last_call work) p
-    recalls_now a = recalls_still F arena arena (held_at arena work) (held_at arena work) s.out (out_of work) p r row row here_now refl refl
+    recalls_now a = recalls_still F arena arena (held_at arena work) (held_at arena work) s.out (out_of work) p r row row here_now refl refl refl refl
         (λ o h. h) looked_now s.last (last_call work) last_now
         (subst (λ (G : Graph). Recalls G (shown G s.out) s.last p) ready.stands.graph a)
+
+  owing_now : (p : Point) → Needed work.graph p → (owes work true p ≡ [] → ⊥) → Among p work.todo.items
+  owing_now p need some = elim (bool_cases (s.todo p)) [
+    | inl t ↦ elim (ready.stands.todo p t) [ inl among ↦ among | inr h ↦ absurd h ]
+    | inr f ↦ absurd (some (sym (owed_now p need) ∙ ready.entry.owed p f))
+  ]
+
+  unfired_now : (n : NodeId) (r : Row) → row_at arena n ≡ Some r → fires r.def (kept_in (at work.rows (main n))) (last_call work n) ≡ None
+  unfired_now n r row =
+      let k = row_of arena work kept n r row in
+      let last : last_call work n ≡ s.last n = ap last_of k.1 ∙ sym (ready.stands.last n k.0 k.1) in
+      ap (fires r.def (kept_in (at work.rows (main n)))) last
+      ∙ (sym (ap (λ (x : Option Row). row_fires x (kept_in (at work.rows (main n))) (s.last n)) row)
+      ∙ (sym (ap (λ (G : Graph). row_fires (G.row n) (G.frozen n) (s.last n)) ready.stands.graph) ∙ ready.entry.unfired n))
 
   pub ready_is_between : IsBetween F arena work
   ready_is_between = record {
     kept = kept;
     full = λ p k need e. let r = node_of arena work kept p (ap is_some e) in
         is_full k.stage (sym (ready.stands.stage p k e) ∙ ready.entry.full p r.0 (row_now p.node r.0 r.1) ((ready.stands.needed p).1 need));
-    links = λ p r need row q. links_now p r need row q ∙ sym (ap (count q) (plan_now p r row));
-    fresh = λ p r need row. elim (ready.entry.fresh p r (row_now p.node r row) ((ready.stands.needed p).1 need)) [
-      | inl h ↦ inl (sym (ready.stands.heap p) ∙ h)
-      | inr a ↦ inr (agrees_now p r need row a.0, recalls_now p r need row a.1)
+    links = λ p r need row q. all_now p r need row q ∙ sym (ap (count q) (plan_now p r row));
+    owing = owing_now;
+    fresh = λ p r need row. elim (ready.linked p need) [
+      | inl h ↦ inl h
+      | inr none ↦ elim (ready.entry.fresh p r (row_now p.node r row) ((ready.stands.needed p).1 need)) [
+        | inl h ↦ inl (sym (ready.stands.heap p) ∙ h)
+        | inr a ↦ inr (record {
+          agrees = agrees_now p r need row none a.0;
+          recalls = recalls_now p r need row none a.1;
+          unmarked = λ part. sym (ready.stands.stale p.node) ∙ a.2 part;
+          unowed = none;
+        })
+      ]
     ];
     answers = λ n r nodes k c row def e last. ready.entry.answers n r nodes c (row_now n r row)
         (subst (λ (G : Graph). taken_by G n r.def ≡ Some nodes) (sym ready.stands.graph) def) (ready.stands.last n k e ∙ last);
@@ -229,7 +336,7 @@ module _ (M : Meaning) (parts : Parts) (ready : IsReady M parts) where
     deaths = λ n. sym (ready.stands.died n) ∙ ready.entry.died n;
     numbered = ready.numbered;
     retries = sym ready.stands.retries ∙ ready.entry.retries;
-    todo = ready.todo;
+    unfired = unfired_now;
     ran = ready.ran;
   }
 
@@ -238,6 +345,15 @@ module _ (M : Meaning) (parts : Parts) (ready : IsReady M parts) where
 abbrev stage_or_full : Option Progress → machine.Stage
 stage_or_full None = machine.Full
 stage_or_full (Some k) = stage_of k.stage
+
+-- whether points are listed
+abbrev pub are_some : List Point → Bool
+are_some [] = false
+are_some (p ∷ ps) = true
+
+pub none_listed : (ps : List Point) → are_some ps ≡ false → ps ≡ []
+none_listed [] e = refl
+none_listed (p ∷ ps) e = absurd (cc)
 
 abbrev state_of : (Point → Bool) → Arena → Work → State
 state_of need arena work = record {
@@ -251,8 +367,8 @@ state_of need arena work = record {
   heap = λ p. is_some (at work.graph.heap p);
   settled = λ p. settled_in work.round (at work.rows p);
   stage = λ p. stage_or_full (at work.rows p);
-  owed = λ p. [];
-  todo = λ p. false;
+  owed = λ p. owes work (need p) p;
+  todo = λ p. are_some (owes work (need p) p);
   taken = None;
   retries = all_retries;
   died = λ n. None;
@@ -262,7 +378,7 @@ state_of need arena work = record {
   adds = 0;
   given = arena.given;
   cutoff = λ n. cutoff_in (at work.rows (main n));
-  stale = λ n. false;
+  stale = is_stale_at work.experts;
 }
 
 abbrev start_of : Meaning → (Point → Bool) → Work → Start
@@ -273,14 +389,14 @@ start_of M need work = record {
   known = M.known;
   ids = M.ids;
   cutoff = λ n. cutoff_in (at work.rows (main n));
-  stale = λ n. false;
+  stale = is_stale_at work.experts;
 }
 
 -- a bind that is built has a root that reads back, or none, where it is built for the outcome of its change
 pub between_rooted : (F : Functions) (arena : Arena) (work : Work) → IsBetween F arena work → Rooted F (graph_at arena work)
 between_rooted F arena work b n r l f captures w row def built =
     let parts = built_parts r.def (out_of work (change n)) (at work.roots (change n)) w
-    (sym (built_live work.rows work.roots n arena r row) ∙ built) in
+    (sym (built_live work.rows work.roots n arena work.experts r row) ∙ built) in
     let now : IsBuilt F (graph_at arena work) n (Bind l f captures) w.outcome =
     subst (λ (d : Def). IsBuilt F (graph_at arena work) n d w.outcome) def (b.built n r w.outcome row parts.0) in
     subst (IsRooted F (graph_at arena work) n f captures) (same_Some now.0 w (sym now.1 ∙ built)) now.3
@@ -303,13 +419,32 @@ module _ (M : Meaning) (arena : Arena) (work : Work) (b : IsBetween M.functions 
     | inr none ↦ ap stage_or_full none
   ]
 
-  links_then : (p q : Point) → Needed work.graph p → times work.graph.links p q ≡ count q (planned now p)
+  -- one of a dead node is owed none
+  unowed : (needed : Bool) (p : Point) → row_at arena p.node ≡ None → owes work needed p ≡ []
+  unowed needed p none = elim (owes_or_expert arena work b.kept needed p) [
+    | inl owed ↦ owed
+    | inr expert ↦ absurd (let e = sym (ap is_expert none) ∙ expert in cc)
+  ]
+
+  links_then : (p q : Point) → Needed work.graph p → times work.graph.links p q + count q (owes work (need p) p) ≡ count q (planned now p)
   links_then p q is = elim (some_or_none (row_at arena p.node)) [
-    | inl r ↦ b.links p r.0 is r.1 q ∙ sym (ap (count q)
+    | inl r ↦ ap (λ (x : Bool). times work.graph.links p q + count q (owes work x p)) ((exact p).1 is) ∙ (b.links p r.0 is r.1 q ∙ sym (ap (count q)
         (ap (λ (x : Option Row). plan_at now.graph now.out now.died p x (now.stage p)) r.1
-        ∙ ap (λ (x : machine.Stage). live_plan now.graph now.out p r.0 x) (stage_then p is)))
-    | inr none ↦ unlinked p q none ∙ sym (ap (count q) (ap (λ (x : Option Row). plan_at now.graph now.out now.died p x (now.stage p)) none
-        ∙ ap (λ (x : machine.Stage). plan_at now.graph now.out now.died p None x) (stage_then p is)))
+        ∙ ap (λ (x : machine.Stage). live_plan now.graph now.out p r.0 x) (stage_then p is))))
+    | inr none ↦
+        let planned : count q (planned now p) ≡ 0 =
+        ap (count q) (ap (λ (x : Option Row). plan_at now.graph now.out now.died p x (now.stage p)) none
+        ∙ ap (λ (x : machine.Stage). plan_at now.graph now.out now.died p None x) (stage_then p is)) in
+        let links = unlinked p q none in
+        let owed = ap (count q) (unowed (need p) p none) in
+        omega (arith, planned, links, owed)
+  ]
+
+  -- who is owed some is needed, and in the worklist
+  owing_then : (p : Point) → are_some (owes work (need p) p) ≡ true → (need p ≡ true) × (owes work true p ≡ [] → ⊥)
+  owing_then p t = elim (bool_cases (need p)) [
+    | inl yes_needed ↦ (yes_needed, λ none. let e = sym (ap (λ (x : Bool). are_some (owes work x p)) yes_needed ∙ ap are_some none) ∙ t in cc)
+    | inr not ↦ absurd (let e = sym (ap (λ (x : Bool). are_some (owes work x p)) not) ∙ t in cc)
   ]
 
   stands_then : MatchesState arena work (record { calls = 0; builds = 0; adds = 0 }) None now
@@ -327,13 +462,17 @@ module _ (M : Meaning) (arena : Arena) (work : Work) (b : IsBetween M.functions 
     settled = λ p. refl;
     stage = λ p k e. ap stage_or_full e;
     owed = λ p. refl;
-    todo = λ p t. absurd (let e = t in cc);
+    todo = λ p t. let o = owing_then p t in inl (b.owing p ((exact p).0 o.0) o.1);
     retries = sym b.retries;
     died = λ n. sym (b.deaths n);
     ran = sym (ap reverse b.ran);
     counts = refl;
     given = refl;
   }
+
+  unfired_then : (n : NodeId) (x : Option Row) → row_at arena n ≡ x → row_fires x (kept_in (at work.rows (main n))) (last_call work n) ≡ None
+  unfired_then n None row = refl
+  unfired_then n (Some r) row = b.unfired n r row
 
   entry_then : Begins M.functions (start_of M need work) now
   entry_then = record {
@@ -350,16 +489,16 @@ module _ (M : Meaning) (arena : Arena) (work : Work) (b : IsBetween M.functions 
       ];
     };
     alive = λ p t. node_of arena work b.kept p (b.kept.heap p t);
-    links = λ p q t. let e = links_then p q ((exact p).0 t) in omega arith;
+    links = λ p q t. links_then p q ((exact p).0 t);
     full = λ p r row t. stage_then p ((exact p).0 t);
     bare = λ p t e. absurd (let f : now.stage p ≡ machine.Full = stage_then p ((exact p).0 t) in let h = sym f ∙ e in cc);
     scoped = b.kept.scopes;
     rooted = between_rooted M.functions arena work b;
     built = b.built;
-    fresh = λ p r row t. elim (b.fresh p r ((exact p).0 t) row) [ inl h ↦ inl h | inr f ↦ inr (f.0, f.1, λ part. refl) ];
+    fresh = λ p r row t. elim (b.fresh p r ((exact p).0 t) row) [ inl h ↦ inl h | inr f ↦ inr (f.agrees, f.recalls, f.unmarked) ];
     settled = b.unsettled;
-    owed = λ p h. refl;
-    todo = λ p needed h. absurd (let e = h in cc);
+    owed = λ p h. none_listed (owes work (need p) p) h;
+    todo = λ p needed h. owing_top arena work b.kept true p (owing_then p h).1;
     retries = refl;
     ran = refl;
     taken = refl;
@@ -368,7 +507,7 @@ module _ (M : Meaning) (arena : Arena) (work : Work) (b : IsBetween M.functions 
     last = λ n. refl;
     cutoff = λ n. refl;
     stale = λ n. refl;
-    unfired = λ n. other_rests now n (λ r kid f row is. no_freeze arena n r kid f row is);
+    unfired = λ n. unfired_then n (row_at arena n) refl;
     calls = refl;
     answers = λ n r nodes c row def last.
         let k = row_of arena work b.kept n r row in
@@ -385,9 +524,12 @@ between_is_ready M parts kept laws fit b = record {
   state = state_of (is_needed parts.work.graph) parts.arena parts.work;
   stands = stands_then M parts.arena parts.work b (is_needed parts.work.graph) exact;
   entry = entry_then M parts.arena parts.work b (is_needed parts.work.graph) exact;
+  linked = λ p need. elim (some_or_none (row_at parts.arena p.node)) [
+    | inl r ↦ elim (b.fresh p r.0 need r.1) [ inl h ↦ inl h | inr f ↦ inr f.unowed ]
+    | inr none ↦ inr (unowed M parts.arena parts.work b (is_needed parts.work.graph) exact true p none)
+  ];
   inside = b.inside;
   numbered = b.numbered;
-  todo = b.todo;
   ran = b.ran;
 }
   where
@@ -398,192 +540,12 @@ between_is_ready M parts kept laws fit b = record {
 pub same_todo : (old new : Work) → new.todo ≡ old.todo → new.todo.items ≡ old.todo.items
 same_todo old new e = rw e refl
 
--- ---- from one time between rounds to another
-
-never_settled : (settled round : ℕ) → settled ≡ 0 → 0 < round → (settled == round) ≡ false
-never_settled settled round e h = grind (arith, nat_tests)
-
--- what has no subject isn't built
-no_subject_unbuilt : (def : Def) (o : Option Outcome) (root : Option NodeId) → subject_of def ≡ None → built_by def o root ≡ None
-no_subject_unbuilt (graph.Bind l f caps) o root e = absurd (none-some l (sym e))
-no_subject_unbuilt _ o root e = refl
-
--- what a bind is built for doesn't hang on its definition
-binds_alike : (l l' : NodeId) (f f' : FnRef) (ks ks' : List NodeId) (o : Option Outcome) (root : Option NodeId)
-    → built_by (Bind l f ks) o root ≡ built_by (Bind l' f' ks') o root
-binds_alike l l' f f' ks ks' None root = refl
-binds_alike l l' f f' ks ks' (Some o) root = refl
-
-module _ (F : Functions) (before arena : Arena) (old work : Work) (b : IsBetween F before old) (kept : IsKept arena work)
-    (stays : Stays before arena old work) where
-  abbrev G : Graph
-  G = graph_at before old
-
-  abbrev G' : Graph
-  G' = graph_at arena work
-
-  links_old : (p : Point) (r : Row) → Needed work.graph p → row_at before p.node ≡ Some r
-      → (q : Point) → times work.graph.links p q ≡ count q (plan G (out_of old) p r)
-  links_old p r need was q = stays.links p q need ∙ b.links p r (stays.needed p need) was q
-
-  out_still : (q : Point) → Needed work.graph q → out_of work q ≡ out_of old q
-  out_still q need = ap outcome_in (stays.rows q need)
-
-  -- a node that keeps its row, and its change's outcome where it has two points, is built as it was
-  module _ (n : NodeId) (r : Row) (row : row_at arena n ≡ Some r) (was : row_at before n ≡ Some r)
-      (out : IsSome (subject_of r.def) → out_of work (change n) ≡ out_of old (change n)) where
-    by_subject : (x : Option NodeId) → subject_of r.def ≡ x
-        → built_by r.def (out_of work (change n)) (at work.roots (change n)) ≡ built_by r.def (out_of old (change n)) (at old.roots (change n))
-    by_subject None e = no_subject_unbuilt r.def _ _ e ∙ sym (no_subject_unbuilt r.def _ _ e)
-    by_subject (Some m) e = ap (λ (o : Option Outcome). built_by r.def o (at work.roots (change n))) (out (ap is_some e))
-        ∙ ap (built_by r.def (out_of old (change n))) (stays.roots n r row)
-
-    built_as : (held_at arena work).built n ≡ (held_at before old).built n
-    built_as = built_live work.rows work.roots n arena r row
-        ∙ (by_subject (subject_of r.def) refl ∙ sym (built_live old.rows old.roots n before r was))
-
-  -- what stood in a scope does so, and nothing more
-  inside : (bind n : NodeId) (r : Row) → row_at before n ≡ Some r → r.scope ≡ Some bind → (row_at arena n ≡ Some r) ⊎ IsVar r.def
-  inside bind n r row scope = let now = stays.scoped n bind r row scope in elim now.same [ inl e ↦ inl (now.is_row ∙ ap Some e) | inr var ↦ inr var ]
-
-  is_built : (n : NodeId) (def : Def) (o : Outcome) → G'.built n ≡ G.built n → IsBuilt F G n def o → IsBuilt F G' n def o
-  is_built n def o same h = built_still G G' n (inside n) (λ m r row scope. stays.entered m n r row scope) F def o same h
-
-  module _ (p : Point) (r : Row) (need : Needed work.graph p) (was : row_at before p.node ≡ Some r) where
-    change_still : IsSome (subject_of r.def) → out_of work (change p.node) ≡ out_of old (change p.node)
-    change_still some = by_part p.part refl
-      where
-        by_part : (part : Part) → p.part ≡ part → out_of work (change p.node) ≡ out_of old (change p.node)
-        by_part Main is = out_still (change p.node) (change_needed work p need G (out_of old) r (links_old p r need was) is some)
-        by_part Change is = subst (λ (x : Point). out_of work x ≡ out_of old x) (change_is p is) (out_still p need)
-
-  links_still : (p : Point) (r : Row) → Needed work.graph p → row_at arena p.node ≡ Some r
-      → (q : Point) → times work.graph.links p q ≡ count q (plan G' (out_of work) p r)
-  links_still p r need row q = elim (stays.nodes p r need row) [
-    | inl was ↦ links_old p r need was q ∙ sym (ap (count q) (plan_same before arena (held_at before old) (held_at arena work)
-        (out_of old) (out_of work) p r (built_as p.node r row was (change_still p r need was)) (λ is some. change_still p r need was some)))
-    | inr h ↦ links_old p h.1 need h.4 q ∙ ap (count q) (var_plan G (out_of old) p h.1 h.3 h.5
-        ∙ (ap (λ (x : Row). gate_of x.scope ++ []) (sym h.6)
-        ∙ sym (var_plan G' (out_of work) p r h.2 (ap (λ (x : Row). x.def) h.6))))
-  ]
-
-  -- a needed point's node lives as it did
-  lives_still : (q : Point) → Needed work.graph q → is_some (row_at arena q.node) ≡ is_some (row_at before q.node)
-  lives_still q need = by_rows (row_at arena q.node) (row_at before q.node) refl refl
-    where
-      by_rows : (x y : Option Row) → row_at arena q.node ≡ x → row_at before q.node ≡ y → is_some x ≡ is_some y
-      by_rows None None e f = refl
-      by_rows (Some r) (Some m) e f = refl
-      by_rows (Some r) None e f =
-          let k = needed_row arena work kept q r need e in
-          absurd (no_row_of_dead before old b.kept q f (ap is_some (sym (stays.rows q need) ∙ k.1)))
-      by_rows None (Some r) e f =
-          let k = needed_row before old b.kept q r (stays.needed q need) f in
-          absurd (no_row_of_dead arena work kept q e (ap is_some (stays.rows q need ∙ k.1)))
-
-  shown_as : (x y : Option Row) (o : Option Outcome) → is_some x ≡ is_some y → shown_of x o ≡ shown_of y o
-  shown_as None None o e = refl
-  shown_as (Some r) (Some m) o e = refl
-  shown_as (Some r) None o e = absurd (cc)
-  shown_as None (Some r) o e = absurd (cc)
-
-  seen_still : (q : Point) → Needed work.graph q → shown G' (out_of work) q ≡ shown G (out_of old) q
-  seen_still q need = ap (shown_of (row_at arena q.node)) (out_still q need)
-      ∙ shown_as (row_at arena q.node) (row_at before q.node) (out_of old q) (lives_still q need)
-
-  module _ (p : Point) (r : Row) (need : Needed work.graph p) (row : row_at arena p.node ≡ Some r) (was : row_at before p.node ≡ Some r) where
-    looked_still : (q : Point) → Among q (looks G (out_of old) p r) → shown G' (out_of work) q ≡ shown G (out_of old) q
-    looked_still q a = seen_still q (looked_needed work p need G (out_of old) r (links_old p r need was) q a)
-
-    last_still : p.part ≡ Main → last_call work p.node ≡ last_call old p.node
-    last_still is = ap last_of (subst (λ (x : Point). at work.rows x ≡ at old.rows x) (main_is p is) (stays.rows p need))
-
-    same_built : G'.built p.node ≡ G.built p.node
-    same_built = built_as p.node r row was (change_still p r need was)
-
-    fresh_still : clock_value arena.time r.def ≡ clock_value before.time r.def → Agrees F G (out_of old) p × Recalls G (shown G (out_of old)) (last_call old) p
-        → Agrees F G' (out_of work) p × Recalls G' (shown G' (out_of work)) (last_call work) p
-    fresh_still clock f = (
-      agrees_still F before arena (held_at before old) (held_at arena work) (out_of old) (out_of work) p r was row (out_still p need) clock
-          same_built (λ o h. is_built p.node r.def o same_built h) looked_still f.0,
-      recalls_still F before arena (held_at before old) (held_at arena work) (out_of old) (out_of work) p r was row (out_still p need) clock
-          same_built (λ o h. is_built p.node r.def o same_built h) looked_still (last_call old) (last_call work) last_still f.1,
-    )
-
-  -- a bind whose change has run is built for that outcome still
-  runs_still : (n : NodeId) (r : Row) (o : Outcome) → row_at arena n ≡ Some r → out_of work (change n) ≡ Some o → IsBuilt F G' n r.def o
-  runs_still n r o row e = with_subject (subject_of r.def) refl
-    where
-      with_subject : (x : Option NodeId) → subject_of r.def ≡ x → IsBuilt F G' n r.def o
-      with_subject None none = one_point_built F G' n r.def o none
-      with_subject (Some m) some =
-          let was = stays.runs n m r o row some e in
-          is_built n r.def o (built_as n r row was.0 (λ is. e ∙ sym was.1)) (b.built n r o was.0 was.1)
-
-  unsettled_still : (p : Point) → settled_in work.round (at work.rows p) ≡ false
-  unsettled_still p = elim (some_or_none (at work.rows p)) [
-    | inr none ↦ ap (settled_in work.round) none
-    | inl k ↦ ap (settled_in work.round) k.1 ∙ elim (stays.unsettled p k.0 k.1) [
-      | inl same ↦ ap (λ (n : ℕ). k.0.settled == n) stays.round ∙ (sym (ap (settled_in old.round) same) ∙ b.unsettled p)
-      | inr never ↦ never_settled k.0.settled work.round never (let r = stays.round in let n = b.numbered in omega (arith, r, n))
-    ]
-  ]
-
-  -- a bind that lived and lives is built as it was
-  bind_as : (c : NodeId) (s s' : Row) (l l' : NodeId) (f f' : FnRef) (ks ks' : List NodeId) → row_at before c ≡ Some s → s.def ≡ Bind l f ks
-      → row_at arena c ≡ Some s' → s'.def ≡ Bind l' f' ks' → G'.built c ≡ G.built c
-  bind_as c s s' l l' f f' ks ks' was is row is' =
-      built_live work.rows work.roots c arena s' row
-      ∙ (ap (λ (d : Def). built_by d (out_of work (change c)) (at work.roots (change c))) is'
-      ∙ (binds_alike l' l f' f ks' ks (out_of work (change c)) (at work.roots (change c))
-      ∙ (ap (λ (o : Option Outcome). built_by (Bind l f ks) o (at work.roots (change c))) (stays.outcomes c s s' was row)
-      ∙ (ap (built_by (Bind l f ks) (out_of old (change c))) (stays.roots c s' row)
-      ∙ (sym (ap (λ (d : Def). built_by d (out_of old (change c)) (at old.roots (change c))) is)
-      ∙ sym (built_live old.rows old.roots c before s was))))))
-
-  -- scopes are those of binds with roots still
-  scopes_still : ScopesRooted G'
-  scopes_still n r c row scope =
-      let e = stays.entered n c r row scope in
-      let w = b.inside n e.0 c e.1 e.2 in
-      let s = b.kept.scopes n e.0 c e.1 e.2 in
-      let s' = kept.scopes n r c row scope in
-      (w.0, bind_as c s.0 s'.0 s.1 s'.1 s.2 s'.2 s.3 s'.3 s.4 s.5 s'.4 s'.5 ∙ w.1, w.2)
-
-  pub between_stays : IsBetween F arena work
-  between_stays = record {
-    kept = kept;
-    full = λ p k need e. b.full p k (stays.needed p need) (sym (stays.rows p need) ∙ e);
-    links = links_still;
-    fresh = λ p r need row. elim (stays.nodes p r need row) [
-      | inr h ↦ inl h.0
-      | inl same ↦ elim (b.fresh p r (stays.needed p need) same) [
-        | inl h ↦ inl (stays.heap p need h)
-        | inr f ↦ elim (stays.clock p r need row) [ inl h ↦ inl h | inr clock ↦ inr (fresh_still p r need row same clock f) ]
-      ]
-    ];
-    inside = scopes_still;
-    built = runs_still;
-    answers = λ n r nodes k c row def e last. let w = stays.calls n r nodes k c row def e last in
-        b.answers n r nodes k c w.0 def w.1 last;
-    unsettled = unsettled_still;
-    deaths = λ n. died_same old work stays.deaths n ∙ b.deaths n;
-    numbered = let r = stays.round in let n = b.numbered in omega (arith, r, n);
-    retries = stays.retries ∙ b.retries;
-    todo = stays.todo ∙ b.todo;
-    ran = stays.ran ∙ b.ran;
-  }
-
--- a round may begin after a call that leaves so much
-pub ready_stays : (M : Meaning) (old new : Parts) → IsReady M old → AllCallFit M.known M.ids new.arena → PartsKept new
-    → Stays old.arena new.arena old.work new.work → IsReady M new
-ready_stays M old new ready fit kept stays = between_is_ready M new kept ready.laws fit
-    (between_stays M.functions old.arena new.arena old.work new.work (ready_is_between M old ready) kept.work stays)
+-- ---- no nodes
 
 module _ (arena : Arena) (work : Work) (sound : IsSoundArena arena) (step : IsInStep work.graph) (nodes : (n : NodeId) → row_at arena n ≡ None)
     (rows : (p : Point) → at work.rows p ≡ None) (points : (p : Point) → at work.graph.heights p ≡ None)
     (links : (p q : Point) → times work.graph.links p q ≡ 0) (heap : (p : Point) → at work.graph.heap p ≡ None)
-    (rights : (p : Point) → at work.roots p ≡ None) (undied : (n : NodeId) → died_at work n ≡ None) where
+    (rights : (p : Point) → at work.roots p ≡ None) (unlisted : work.experts ≡ []) (undied : (n : NodeId) → died_at work n ≡ None) where
   holds_none : {R : Type 0} {P : Type 0} (m : Rows R) (p : Point) → at m p ≡ None → Holds m p → P
   holds_none m p none h = absurd (let e = sym h ∙ ap is_some none in cc)
 
@@ -611,14 +573,20 @@ module _ (arena : Arena) (work : Work) (sound : IsSoundArena arena) (step : IsIn
     rounds = λ p k e. absurd (none-some k (sym (rows p) ∙ e));
     pairs = λ n r e some. absurd (none-some r (sym (nodes n) ∙ e));
     scoped = λ n r e some. absurd (none-some r (sym (nodes n) ∙ e));
+    experts = λ n. ap (λ (x : List ExpertPlace). is_some (expert_at x n)) unlisted ∙ sym (ap is_expert (nodes n));
+    listed = λ n. subst (λ (x : List ExpertPlace). Every (Given arena.given) (kids_at x n)) (sym unlisted) tt;
+    lists = λ n r f v ns e is. absurd (none-some r (sym (nodes n) ∙ e));
+    tops = λ n r e top. absurd (none-some r (sym (nodes n) ∙ e));
+    frozen = λ n k e on. absurd (none-some k (sym (rows (main n)) ∙ e));
   }
 
-  module _ (todo : work.todo.items ≡ []) (ran : work.ran.items ≡ []) (retries : work.retries ≡ all_retries) (round : work.round ≡ 1) where
+  module _ (ran : work.ran.items ≡ []) (retries : work.retries ≡ all_retries) (round : work.round ≡ 1) where
     pub empty_between : (F : Functions) → IsBetween F arena work
     empty_between F = record {
       kept = empty_kept;
       full = λ p k need e. absurd (none-some k (sym (rows p) ∙ e));
       links = λ p r need e q. absurd (none-some r (sym (nodes p.node) ∙ e));
+      owing = λ p need some. absurd (some (owes_partly work true p (ap (λ (x : Option Progress). seen.is_full (stage_in x)) (rows p))));
       fresh = λ p r need e. absurd (none-some r (sym (nodes p.node) ∙ e));
       built = λ n r o e is. absurd (none-some r (sym (nodes n) ∙ e));
       inside = λ n r b e scope. absurd (none-some r (sym (nodes n) ∙ e));
@@ -627,7 +595,7 @@ module _ (arena : Arena) (work : Work) (sound : IsSoundArena arena) (step : IsIn
       deaths = undied;
       numbered = omega (arith, round);
       retries = retries;
-      todo = todo;
+      unfired = λ n r e. absurd (none-some r (sym (nodes n) ∙ e));
       ran = ran;
     }
 

@@ -1,5 +1,5 @@
 -- A node's cutoff is set.
-use Rattle.std.proofs.Common.{◌≡◌, inl, inr, ℕ, Option, None, Some, refl, sym, ap, subst, ◌∙◌}
+use Rattle.std.proofs.Common.{◌≡◌, ◌⊎◌, inl, inr, ◌&&◌, ℕ, Bool, true, cond, [], map, Option, None, Some, refl, sym, ap, subst, ◌∙◌}
 use Rattle.std.specs.Prelude.{option_map}
 use Rattle.std.proofs.lemmas.Option.{none-some}
 use Rattle.inc_value.specs.declared.node.NodeId.{NodeId}
@@ -9,7 +9,9 @@ use Rattle.inc_terms.specs.Depend.{main}
 use Rattle.inc_terms.specs.Graph.{Def}
 use Rattle.node_outcomes.specs.Meaning.{Meaning}
 use Rattle.map_nodes.specs.declared.cutoff.Cutoff.{Cutoff}
-use Rattle.point_map.specs.Rows.{Rows, at}
+use Rattle.expert_nodes.specs.Experts.{fresh_at}
+use Rattle.point_map.specs.Rows.{Rows, at, Holds}
+use Rattle.necessary_graph.specs.Part.{Needed}
 use Rattle.node_arena.specs.Arena.{Arena}
 use Rattle.stabilize_round.specs.Invariant.{ScopesRooted}
 use Rattle.stabilize_round.specs.Machine.{Entry}
@@ -21,8 +23,9 @@ use Rattle.stabilizer.specs.Kept.{PartsKept, graph_in}
 use Rattle.stabilizer.specs.Look.{cutoff_at}
 use Rattle.stabilizer.specs.Round.{IsReady}
 use Rattle.stabilizer.specs.declared.parts.Parts.{Parts}
-use Rattle.node_outcomes.specs.Row.{IsRewritten, with_cutoff, settled_in, stage_of, cutoff_in}
-use Rattle.wiring.specs.Stands.{MatchesState, counts_of}
+use Rattle.node_outcomes.specs.Row.{IsRewritten, is_full, with_cutoff, settled_in, stage_in, stage_of, cutoff_in}
+use Rattle.node_outcomes.specs.declared.row.Stage.{Stage}
+use Rattle.wiring.specs.Stands.{MatchesState, counts_of, owes}
 use Rattle.node_outcomes.specs.declared.row.Progress.{Progress}
 use Rattle.wiring.specs.declared.work.Work.{Work}
 use Rattle.stabilizer.proofs.Between.Keeping.{kept_rewritten}
@@ -54,8 +57,29 @@ module _ (arena : Arena) (old : Work) (rows : Rows Progress) (id : NodeId) (c : 
   new = record old { rows = rows }
 
   cut_kept : IsKept arena new
-  cut_kept = kept_rewritten arena old new (main id) (with_cutoff c) kept w (λ k. refl) refl
-      (λ k is fit. record { outcome = fit.outcome; right = fit.right; call = fit.call; settled = fit.settled })
+  cut_kept = kept_rewritten arena old new (main id) (with_cutoff c) kept w (λ k. refl) (λ k. refl) refl
+      (λ k is fit. record {
+        outcome = fit.outcome;
+        right = fit.right;
+        call = fit.call;
+        settled = fit.settled;
+        fired = λ part on. let h = fit.fired part on in
+            record { row = h.row; is_row = h.is_row; is_freeze = h.is_freeze; value = h.value; last = h.last };
+      })
+
+  stage_same : (x : Option Progress) → stage_in (option_map (with_cutoff c) x) ≡ stage_in x
+  stage_same None = refl
+  stage_same (Some k) = refl
+
+  stage_was : (p : Point) → stage_in (at rows p) ≡ stage_in (at old.rows p)
+  stage_was p = elim (same_or_other (main id) p) [
+    | inl same ↦ subst (λ (x : Point). stage_in (at rows x) ≡ stage_in (at old.rows x)) same (ap stage_in w.changed ∙ stage_same (at old.rows (main id)))
+    | inr ne ↦ ap stage_in (w.others p (λ h. ne (sym h)))
+  ]
+
+  -- as much is owed
+  owes_was : (needed : Bool) (p : Point) → owes new needed p ≡ owes old needed p
+  owes_was needed p = ap (λ (x : Option Stage). cond (needed && is_full x) (map main (fresh_at old.experts p.node)) []) (stage_was p)
 
   row_was : (p : Point) (k : Progress) → at rows p ≡ Some k → WasCut old.rows p k
   row_was p k e = elim (same_or_other (main id) p) [
@@ -105,7 +129,7 @@ module _ (old new : Parts) (id : NodeId) (c : Cutoff) (kept : PartsKept old) (w 
 
     stands : MatchesState arena work (counts_of state) None state
     stands = record {
-      graph = ready.stands.graph ∙ sym (graph_rewritten arena old.work work (main id) (with_cutoff c) w (λ k is. refl) refl);
+      graph = ready.stands.graph ∙ sym (graph_rewritten arena old.work work (main id) (with_cutoff c) w (λ k is. refl) (λ k. refl) refl (λ n. refl));
       out = λ p k e. let b = was p k e in ready.stands.out p b.row b.was ∙ sym b.outcome;
       last = λ n k e. let b = was (main n) k e in ready.stands.last n b.row b.was ∙ sym b.last;
       cutoff = λ n k e. ap cutoff_in e;
@@ -117,7 +141,7 @@ module _ (old new : Parts) (id : NodeId) (c : Cutoff) (kept : PartsKept old) (w 
       heap = ready.stands.heap;
       settled = λ p. ready.stands.settled p ∙ sym (settled_as arena old.work new.work.rows id c kept.work w p);
       stage = λ p k e. let b = was p k e in ready.stands.stage p b.row b.was ∙ ap stage_of (sym b.stage);
-      owed = ready.stands.owed;
+      owed = λ p. ready.stands.owed p ∙ sym (owes_was arena old.work new.work.rows id c kept.work w (ready.state.needed p) p);
       todo = ready.stands.todo;
       retries = ready.stands.retries;
       died = ready.stands.died;
@@ -135,8 +159,13 @@ module _ (old new : Parts) (id : NodeId) (c : Cutoff) (kept : PartsKept old) (w 
     parts_ready : IsReady M parts
     parts_ready =
         let inside : ScopesRooted (graph_in parts) =
-        subst ScopesRooted (sym (graph_rewritten arena old.work work (main id) (with_cutoff c) w (λ k is. refl) refl)) ready.inside in
-        search (parts_kept, stands, entry, inside, ready)
+        subst ScopesRooted (sym (graph_rewritten arena old.work work (main id) (with_cutoff c) w (λ k is. refl) (λ k. refl) refl (λ n. refl)))
+        ready.inside in
+        let linked : (p : Point) → Needed work.graph p → Holds work.graph.heap p ⊎ (owes work true p ≡ []) = (λ p need. elim (ready.linked p need) [
+          | inl h ↦ inl h
+          | inr none ↦ inr (owes_was arena old.work new.work.rows id c kept.work w true p ∙ none)
+        ]) in
+        search (parts_kept, stands, entry, linked, inside, ready)
 
     pub cut_ready : IsReady M new
     cut_ready = subst (IsReady M) (sym rest) parts_ready

@@ -6,16 +6,19 @@ use Rattle.std.proofs.lemmas.Option.{none-some}
 use Rattle.inc_value.specs.declared.node.NodeId.{NodeId}
 use Rattle.inc_value.specs.declared.node.Part.TheVariants.{Main}
 use Rattle.inc_value.specs.declared.node.Point.{Point}
-use Rattle.inc_value.specs.Choice.{Among}
+use Rattle.inc_value.specs.Choice.{Among, Every}
 use Rattle.inc_terms.specs.Clock.{clock_value}
 use Rattle.inc_terms.specs.Depend.{main, change}
 use Rattle.inc_terms.specs.Graph.{Row}
+use Rattle.inc_terms.specs.Within.{Given}
+use Rattle.expert_nodes.specs.Experts.{Expert, ExpertChanges, expert_at, expert_in, kids_at, kids_of_expert}
 use Rattle.point_map.specs.Rows.{Rows, at, Holds}
 use Rattle.link_table.specs.Links.{Links, times, Reads}
 use Rattle.necessary_graph.specs.Part.{Needed, IsInStep}
 use Rattle.node_arena.specs.Arena as nodes
 use Rattle.node_arena.specs.Arena.{Arena, row_at, IsLive}
-use Rattle.node_outcomes.specs.Computing.{has_part}
+use Rattle.node_arena.specs.Typing.{FoldTakes}
+use Rattle.node_outcomes.specs.Computing.{has_part, is_expert}
 use Rattle.node_outcomes.specs.Row.{cutoff_in, outcome_in}
 use Rattle.stabilize_round.proofs.Points.{node_or_other}
 use Rattle.stabilizer.specs.Between.{Stays, HasDropped, IsTakenBack}
@@ -32,14 +35,15 @@ use Rattle.node_outcomes.specs.declared.row.Progress.{Progress}
 use Rattle.wiring.specs.declared.work.Work.{Work}
 use Rattle.node_lists.specs.Listed.{Listed}
 use Rattle.node_outcomes.specs.Choosing.{built_in}
-use Rattle.stabilizer.proofs.Between.Alone.{ready_stays}
+use Rattle.stabilizer.proofs.Between.Staying.{ready_stays}
 use Rattle.stabilizer.proofs.Between.Fitting.{dropped_fit}
 use Rattle.timed_nodes.specs.Timed.{KeepsClock}
 use Rattle.stabilizer.proofs.Between.Keeping.{carried, fit_still, parts_stay}
 use Rattle.wiring.proofs.Deciding.{need_same}
 use Rattle.wiring.proofs.Linking.{some_or_none}
 use Rattle.wiring.proofs.Placing.{at_node}
-use Rattle.stabilizer.proofs.Between.Typing.{KeepsTypes, typed_still, right_still}
+use Rattle.stabilizer.proofs.Between.Typing.{KeepsTypes, call_still, folds_still, listed_still, typed_still, right_still}
+use Rattle.wiring.proofs.Reading.{read_still}
 use Rattle.wiring.proofs.Holding.{right_as, died_same, ghost_same}
 use Rattle.wiring.specs.Graph.{held_at}
 
@@ -51,7 +55,8 @@ module _ (before arena : Arena) (old work : Work) (id : NodeId) (kept : IsKept b
     (rights : ChangesNode old.roots work.roots id (λ part. None))
     (links : work.graph.links ≡ old.graph.links) (roots : work.graph.roots ≡ old.graph.roots) (heap : work.graph.heap ≡ old.graph.heap)
     (step : IsInStep work.graph) (sound : IsSoundArena arena)
-    (rest : work ≡ record old { graph = work.graph; rows = work.rows; roots = work.roots }) where
+    (experts : ExpertChanges old.experts work.experts id None)
+    (rest : work ≡ record old { graph = work.graph; rows = work.rows; roots = work.roots; experts = work.experts }) where
   deaths : work.deaths ≡ old.deaths
   deaths = ap (λ (x : Work). x.deaths) rest
 
@@ -163,11 +168,30 @@ module _ (before arena : Arena) (old work : Work) (id : NodeId) (kept : IsKept b
     roots = λ n h. let ne = root_left (change n) h in let v = kept.roots n (ap is_some (sym (rights.others (change n) ne)) ∙ h) in
         (v.0, ap outcome_in (rows.others (change n) ne) ∙ v.1);
     binds = λ n r e h. kept.binds n r (was_row n r e) (ap is_some (sym (rights.others (change n) (root_left (change n) h))) ∙ h);
-    calls = λ n r k c e is last. typed_still before arena more types c.result r.ty
+    calls = λ n r k c e is last. call_still before arena more types r.def r.ty c
         (kept.calls n r k c (was_row n r e) (was_kept (main n) k (node_left n r e) is) last);
     rounds = λ p k e. rw round (kept.rounds p k (was_kept p k (row_left p (ap is_some e)) e));
     pairs = λ n r e some. subst (λ (l : Listed). Among n l.nodes) (sym (ap (λ (x : Work). x.pairs) rest)) (kept.pairs n r (was_row n r e) some);
     scoped = λ n r e some. subst (λ (l : Listed). Among n l.nodes) (sym (ap (λ (x : Work). x.scoped) rest)) (kept.scoped n r (was_row n r e) some);
+    experts = λ n. elim (node_or_other n id) [
+      | inl is ↦ subst (λ (x : NodeId). is_some (expert_at work.experts x) ≡ is_expert (row_at arena x)) (sym is)
+          (ap is_some experts.changed ∙ sym (ap is_expert dropped.changed))
+      | inr ne ↦ ap is_some (experts.others n ne) ∙ (kept.experts n ∙ sym (ap is_expert (dropped.others n ne)))
+    ];
+    listed = λ n. elim (node_or_other n id) [
+      | inl is ↦ subst (λ (x : Option Expert). Every (Given arena.given) (kids_of_expert (expert_in x)))
+          (sym (ap (expert_at work.experts) is ∙ experts.changed)) tt
+      | inr ne ↦ subst (λ (x : Option Expert). Every (Given arena.given) (kids_of_expert (expert_in x))) (sym (experts.others n ne))
+          (listed_still before arena more types (kids_at old.experts n) (kept.listed n))
+    ];
+    lists = λ n r f v ns e is. subst (λ (x : Option Expert). FoldTakes arena r.ty (kids_of_expert (expert_in x)) f.sig.takes)
+        (sym (experts.others n (node_left n r e)))
+        (folds_still before arena more types r.ty (kids_at old.experts n) f.sig.takes (kept.listed n) (kept.lists n r f v ns (was_row n r e) is));
+    tops = λ n r e top. kept.tops n r (was_row n r e) top;
+    frozen = λ n k e on.
+        let ne = row_left (main n) (ap is_some e) in
+        let h = kept.frozen n k (was_kept (main n) k ne e) on in
+        record { row = h.row; is_row = row_now n h.row ne h.is_row; is_freeze = h.is_freeze; value = h.value; last = h.last };
   }
     where
       more : before.given ≤ arena.given
@@ -177,7 +201,11 @@ module _ (before arena : Arena) (old work : Work) (id : NodeId) (kept : IsKept b
   dropped_stays = record {
     needed = need_before;
     clock = λ p r need row. inr (ap (λ (t : ℤ). clock_value t r.def) dropped.time);
-    links = λ p q n. ap (λ (x : Links). times x p q) links;
+    lists = λ p n. inl (record {
+      links = λ q. ap (λ (x : Links). times x p q) links;
+      expert = experts.others p.node (needed_other p (need_before p n));
+      listed = λ a. subst (Among p) (sym (ap (λ (x : Work). x.todo.items) rest)) a;
+    });
     heap = λ p n h. ap is_some (same_heap p) ∙ h;
     rows = λ p n. rows.others p (needed_other p (need_before p n));
     nodes = λ p r need e. inl (was_row p.node r e);
@@ -192,7 +220,6 @@ module _ (before arena : Arena) (old work : Work) (id : NodeId) (kept : IsKept b
     ran = ap (λ (x : Work). x.ran.items) rest;
     retries = ap (λ (x : Work). x.retries) rest;
     round = round;
-    todo = ap (λ (x : Work). x.todo.items) rest;
   }
 
 -- so parts are kept, and a round may begin with them
@@ -204,16 +231,17 @@ module _ (old new : Parts) (id : NodeId) (kept : PartsKept old) (unneeded : (p :
     (rights : ChangesNode old.work.roots new.work.roots id (λ part. None))
     (links : new.work.graph.links ≡ old.work.graph.links) (roots : new.work.graph.roots ≡ old.work.graph.roots)
     (heap : new.work.graph.heap ≡ old.work.graph.heap) (step : IsInStep new.work.graph) (sound : IsSoundArena new.arena)
-    (rest : new.work ≡ record old.work { graph = new.work.graph; rows = new.work.rows; roots = new.work.roots })
+    (experts : ExpertChanges old.work.experts new.work.experts id None)
+    (rest : new.work ≡ record old.work { graph = new.work.graph; rows = new.work.rows; roots = new.work.roots; experts = new.work.experts })
     (scopes : new.scopes ≡ old.scopes) (dying : new.dying.items ≡ old.dying.items) (clock : KeepsClock new.arena new.timed) where
   stays : Stays old.arena new.arena old.work new.work
   stays = dropped_stays old.arena new.arena old.work new.work id kept.work unneeded unscoped dropped given rows points rights links roots heap step
-      sound rest
+      sound experts rest
 
   pub dropped_parts : PartsKept new
   dropped_parts = parts_stay old new kept
       (dropped_kept old.arena new.arena old.work new.work id kept.work unneeded unscoped dropped given rows points rights links roots heap step
-      sound rest) stays scopes dying clock
+      sound experts rest) stays scopes dying clock
 
   pub dropped_ready : (M : Meaning) → IsReady M old → IsReady M new
   dropped_ready M ready = ready_stays M old new ready (dropped_fit M old.arena new.arena id ready.fit dropped given) dropped_parts stays
@@ -224,7 +252,8 @@ module _ (old mid new : Parts) (count : ℕ) (id : NodeId) (so_far : HasDropped 
     (dropped : nodes.Changes mid.arena new.arena id None) (given : new.arena.given ≡ mid.arena.given)
     (rows : ChangesNode mid.work.rows new.work.rows id (λ part. None)) (links : new.work.graph.links ≡ mid.work.graph.links)
     (roots : new.work.graph.roots ≡ mid.work.graph.roots) (heap : new.work.graph.heap ≡ mid.work.graph.heap)
-    (rights : ChangesNode mid.work.roots new.work.roots id (λ part. None)) (kept : PartsKept new)
+    (rights : ChangesNode mid.work.roots new.work.roots id (λ part. None))
+    (experts : (n : NodeId) → n ≢ id → expert_at new.work.experts n ≡ expert_at mid.work.experts n) (kept : PartsKept new)
     (ready : (M : Meaning) → IsReady M mid → IsReady M new) where
   younger : (n : NodeId) → n.gen_ < count → n ≢ id
   younger n h is = let e = ap (λ (x : NodeId). x.gen_) is in absurd (omega (arith, e, h, since))
@@ -251,6 +280,7 @@ module _ (old mid new : Parts) (count : ℕ) (id : NodeId) (so_far : HasDropped 
     roots = roots ∙ so_far.roots;
     heap = heap ∙ so_far.heap;
     right_sides = λ n h. rights.others (change n) (younger n h) ∙ so_far.right_sides n h;
+    experts = λ n h. experts n (younger n h) ∙ so_far.experts n h;
     unscoped = λ n b r e scope. so_far.unscoped n b r (left n r e) scope;
     kept = kept;
     ready = λ M r. ready M (so_far.ready M r);
@@ -329,13 +359,14 @@ module _ (old left : Parts) (count : ℕ) (so : HasDropped old left count) (ran 
     deaths = refl;
     pairs = pairs;
     scoped = scoped;
+    experts = read_still left.work.experts;
   })
 
   forgotten_stays : Stays left.arena left.arena left.work work
   forgotten_stays = record {
     needed = λ p n. n;
     clock = λ p r need row. inr refl;
-    links = λ p q n. refl;
+    lists = λ p n. inl (record { links = λ q. refl; expert = refl; listed = λ a. a });
     heap = λ p n h. h;
     rows = λ p n. refl;
     nodes = λ p r need e. inl e;
@@ -350,7 +381,6 @@ module _ (old left : Parts) (count : ℕ) (so : HasDropped old left count) (ran 
     ran = refl;
     retries = refl;
     round = refl;
-    todo = refl;
   }
 
   parts_kept : PartsKept parts

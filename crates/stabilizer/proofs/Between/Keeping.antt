@@ -1,8 +1,8 @@
 -- What the parts keep between calls, carried over calls that leave the nodes.
-use Rattle.std.proofs.Common.{◌≡◌, ◌⊎◌, inl, inr, ℕ, ◌≤◌, true, Option, None, Some, refl, sym, ap, subst, ◌∙◌}
+use Rattle.std.proofs.Common.{◌≡◌, ◌⊎◌, inl, inr, ℕ, ◌≤◌, true, List, Option, None, Some, refl, sym, ap, subst, ◌∙◌}
 use Rattle.std.specs.Prelude.{is_some, option_map}
 use Rattle.std.proofs.lemmas.Option.{none-some}
-use Rattle.inc_value.specs.Choice.{Among}
+use Rattle.inc_value.specs.Choice.{Among, Every}
 use Rattle.inc_value.specs.declared.node.NodeId.{NodeId}
 use Rattle.inc_value.specs.declared.node.Part.{Part}
 use Rattle.inc_value.specs.declared.node.Part.TheVariants.{Main, Change}
@@ -13,20 +13,22 @@ use Rattle.inc_value.specs.declared.value.Value.{Value}
 use Rattle.inc_terms.specs.Depend.{main, change, right_of}
 use Rattle.inc_terms.specs.Graph.{Row}
 use Rattle.inc_terms.specs.Within.{Given}
+use Rattle.expert_nodes.specs.Experts.{kids_at}
 use Rattle.point_map.specs.Rows.{Rows, at, Holds}
 use Rattle.link_table.specs.Links.{Links, Reads}
 use Rattle.necessary_graph.specs.Part.{NecessaryPart, Needed, IsInStep}
 use Rattle.node_arena.specs.Arena.{Arena, row_at}
 use Rattle.node_arena.specs.Graph.{Holdings, graph_of}
-use Rattle.node_arena.specs.Typing.{Fits}
-use Rattle.node_outcomes.specs.Computing.{IsOfType}
-use Rattle.node_outcomes.specs.Row.{IsRewritten, outcome_in}
+use Rattle.node_arena.specs.Typing.{Fits, FoldTakes}
+use Rattle.node_outcomes.specs.Computing.{CallFits, IsOfType}
+use Rattle.node_outcomes.specs.Row.{IsRewritten, kept_in, outcome_in}
 use Rattle.node_outcomes.specs.declared.row.Progress.{Progress}
 use Rattle.scopes.specs.Scopes.{Scopes}
 use Rattle.stabilize_round.specs.State.{Call}
 use Rattle.stabilize_round.proofs.Points.{same_or_other}
 use Rattle.wiring.specs.Graph.{held_at}
-use Rattle.wiring.specs.Kept.{IsKept}
+use Rattle.wiring.specs.Experts.{ReadSame}
+use Rattle.wiring.specs.Kept.{HasFired, IsKept}
 use Rattle.wiring.specs.Wiring.{KeepsGraph, KeepsLists}
 use Rattle.wiring.specs.declared.work.Work.{Work}
 use Rattle.wiring.proofs.Deciding.{need_same}
@@ -35,17 +37,20 @@ use Rattle.stabilizer.specs.Between.{Stays}
 use Rattle.timed_nodes.specs.Timed.{KeepsClock}
 use Rattle.stabilizer.specs.Kept.{KeepsScopes, PartsKept}
 use Rattle.stabilizer.specs.declared.parts.Parts.{Parts}
+use Rattle.wiring.proofs.Reading.{read_as}
 use Rattle.wiring.proofs.Staying.{rewritten_there}
 
 -- ---- rows
 
--- a row of a point has its node's types, what a change chose by what is held fits, and it was settled in no later round
+-- a row of a point has its node's types, what a change chose by what is held fits, it was settled in no later round, and it keeps the value of a freeze
+-- only where its node is one
 pub record FitsPoint (arena : Arena) (held : Holdings) (round : ℕ) (p : Point) (k : Progress) : Type 0 where
   pub outcome : (r : Row) (v : Value) → p.part ≡ Main → row_at arena p.node ≡ Some r → k.outcome ≡ Some (Val v) → IsOfType arena v r.ty
   pub right : (r : Row) (m : NodeId) (o : Outcome) → p.part ≡ Change → row_at arena p.node ≡ Some r → k.outcome ≡ Some o
       → right_of (graph_of arena held) p.node r.def o ≡ Some m → Given arena.given m × Fits arena m r.ty
-  pub call : (r : Row) (c : Call) → p.part ≡ Main → row_at arena p.node ≡ Some r → k.last ≡ Some c → IsOfType arena c.result r.ty
+  pub call : (r : Row) (c : Call) → p.part ≡ Main → row_at arena p.node ≡ Some r → k.last ≡ Some c → CallFits arena r.def r.ty c
   pub settled : k.settled ≤ round
+  pub fired : p.part ≡ Main → k.frozen ≡ true → HasFired arena p.node k
 
 -- so does each row
 abbrev pub AllFit : Arena → Holdings → Work → Type 0
@@ -61,6 +66,7 @@ all_fit arena work kept p k e = record {
   right = λ r m o part row out right. kept.rights p.node m r k o row (subst (λ (x : Point). at work.rows x ≡ Some k) (point_is p Change part) e) out right;
   call = λ r c part row l. kept.calls p.node r k c row (subst (λ (x : Point). at work.rows x ≡ Some k) (point_is p Main part) e) l;
   settled = kept.rounds p k e;
+  fired = λ part on. kept.frozen p.node k (subst (λ (x : Point). at work.rows x ≡ Some k) (point_is p Main part) e) on;
 }
 
 -- rows and round stay
@@ -102,8 +108,8 @@ rewritten_out old new p f w keeps q = elim (same_or_other p q) [
 -- ---- all of it
 
 -- what is to be shown of a call that leaves the nodes: rows stay where they are, and their points; no other point is there that wasn't, and
--- each without a row that is there is needed; links come off alone; what is in the heap had a row; rows fit, as much is held, and what has a root keeps its outcome;
--- no root, death or node of a list of live ones goes
+-- each without a row that is there is needed; links come off alone; what is in the heap had a row; rows fit, as much is held, and what has a root keeps its
+-- outcome; no root, death or node of a list of live ones goes; and experts read what they read
 pub record Carries (arena : Arena) (old new : Work) : Type 0 where
   pub step : IsInStep new.graph
   pub same : (p : Point) → is_some (at new.rows p) ≡ is_some (at old.rows p)
@@ -119,6 +125,7 @@ pub record Carries (arena : Arena) (old new : Work) : Type 0 where
   pub deaths : new.deaths ≡ old.deaths
   pub pairs : (n : NodeId) (r : Row) → row_at arena n ≡ Some r → Among n old.pairs.nodes → Among n new.pairs.nodes
   pub scoped : (n : NodeId) (r : Row) → row_at arena n ≡ Some r → Among n old.scoped.nodes → Among n new.scoped.nodes
+  pub experts : ReadSame old.experts new.experts
 
 holds_or_none : {A : Type 0} (x : Option A) → (is_some x ≡ true) ⊎ (x ≡ None)
 holds_or_none None = inr refl
@@ -159,6 +166,12 @@ module _ (arena : Arena) (old new : Work) (kept : IsKept arena old) (c : Carries
     rounds = λ p k e. (c.fit p k e).settled;
     pairs = λ n r row some. c.pairs n r row (kept.pairs n r row some);
     scoped = λ n r row some. c.scoped n r row (kept.scoped n r row some);
+    experts = λ n. c.experts.there n ∙ kept.experts n;
+    listed = λ n. subst (Every (Given arena.given)) (sym (c.experts.kids n)) (kept.listed n);
+    lists = λ n r f v ns row is. subst (λ (kids : List NodeId). FoldTakes arena r.ty kids f.sig.takes) (sym (c.experts.kids n))
+        (kept.lists n r f v ns row is);
+    tops = kept.tops;
+    frozen = λ n k e on. (c.fit (main n) k e).fired refl on;
   }
 
 -- ---- links, roots and heights stay
@@ -167,7 +180,7 @@ module _ (arena : Arena) (old new : Work) (kept : IsKept arena old) (graph : Kee
     (heap : (p : Point) → Holds new.graph.heap p → Holds old.rows p) (same : (p : Point) → is_some (at new.rows p) ≡ is_some (at old.rows p))
     (fit : AllFit arena (held_at arena old) new) (held : held_at arena new ≡ held_at arena old)
     (chosen : (n : NodeId) → Holds old.roots (change n) → outcome_in (at new.rows (change n)) ≡ outcome_in (at old.rows (change n)))
-    (roots : new.roots ≡ old.roots) (deaths : new.deaths ≡ old.deaths) (lists : KeepsLists old new) where
+    (roots : new.roots ≡ old.roots) (deaths : new.deaths ≡ old.deaths) (lists : KeepsLists old new) (experts : ReadSame old.experts new.experts) where
   pub kept_in_graph : IsKept arena new
   kept_in_graph = carried arena old new kept (record {
     step = step;
@@ -184,14 +197,15 @@ module _ (arena : Arena) (old new : Work) (kept : IsKept arena old) (graph : Kee
     deaths = deaths;
     pairs = λ n r row a. pairs_same old new lists n a;
     scoped = λ n r row a. scoped_same old new lists n a;
+    experts = experts;
   })
 
--- a row is rewritten, which keeps its outcome, and all else stays
+-- a row is rewritten, which keeps its outcome and what a freeze keeps, and all else stays
 pub kept_rewritten : (arena : Arena) (old new : Work) (p : Point) (f : Progress → Progress) → IsKept arena old → IsRewritten old.rows new.rows p f
-    → ((k : Progress) → (f k).outcome ≡ k.outcome) → new ≡ record old { rows = new.rows }
+    → ((k : Progress) → (f k).outcome ≡ k.outcome) → ((k : Progress) → kept_in (Some (f k)) ≡ kept_in (Some k)) → new ≡ record old { rows = new.rows }
     → ((k : Progress) → at old.rows p ≡ Some k → FitsPoint arena (held_at arena old) old.round p k → FitsPoint arena (held_at arena old) old.round p (f k))
     → IsKept arena new
-kept_rewritten arena old new p f kept w keeps rest changed = kept_in_graph arena old new kept
+kept_rewritten arena old new p f kept w keeps still rest changed = kept_in_graph arena old new kept
     (record {
       links = ap (λ (x : Work). x.graph.links) rest;
       roots = ap (λ (x : Work). x.graph.roots) rest;
@@ -201,11 +215,13 @@ kept_rewritten arena old new p f kept w keeps rest changed = kept_in_graph arena
     (λ q h. kept.heap q (subst (λ (g : NecessaryPart). Holds g.heap q) (ap (λ (x : Work). x.graph) rest) h))
     (rewritten_there old.rows new.rows p f w)
     (rewritten_fit arena (held_at arena old) old new p f w (ap (λ (x : Work). x.round) rest) (all_fit arena old kept) changed)
-    (held_rewritten arena old new p f w (λ k is. keeps k) (ap (λ (x : Work). x.roots) rest))
+    (held_rewritten arena old new p f w (λ k is. keeps k) still (ap (λ (x : Work). x.roots) rest)
+    (λ n. ap (λ (x : Work). kids_at x.experts n) rest))
     (λ n h. rewritten_out old.rows new.rows p f w keeps (change n))
     (ap (λ (x : Work). x.roots) rest)
     (ap (λ (x : Work). x.deaths) rest)
     (record { pairs = ap (λ (x : Work). x.pairs) rest; scoped = ap (λ (x : Work). x.scoped) rest })
+    (read_as old.experts new.experts (ap (λ (x : Work). x.experts) rest))
 
 -- ---- scopes
 

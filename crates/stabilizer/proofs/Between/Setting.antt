@@ -2,6 +2,8 @@
 use Rattle.std.proofs.Common.{ℤ, ◌≡◌, ◌⊎◌, inl, inr, ◌≤◌, false, List, Option, Some, refl, sym, ap, subst, ◌∙◌, arith, None}
 use Rattle.std.specs.Prelude.{is_some, IsSome}
 use Rattle.std.proofs.lemmas.Option.{none-some}
+use Rattle.inc_value.specs.Choice.{Among, Every}
+use Rattle.expert_nodes.specs.Experts.{ExpertPlace, expert_at, kids_at}
 use Rattle.inc_value.specs.declared.function.FnRef.{FnRef}
 use Rattle.inc_value.specs.declared.node.NodeId.{NodeId}
 use Rattle.inc_value.specs.declared.node.Part.{Part}
@@ -24,12 +26,13 @@ use Rattle.link_table.specs.Links.{Links, times, Reads}
 use Rattle.necessary_graph.specs.Part.{Needed, IsInStep}
 use Rattle.node_arena.specs.Arena.{Arena, row_at, IsSet, IsVariable, with_value}
 use Rattle.node_arena.specs.Sound.{IsSoundArena}
-use Rattle.node_arena.specs.Typing.{Fits}
-use Rattle.node_outcomes.specs.Computing.{has_part, IsOfType}
+use Rattle.node_arena.specs.Typing.{Fits, FoldTakes}
+use Rattle.node_outcomes.specs.Computing.{CallFits, has_part, is_expert, is_expert_def, IsOfType}
+use Rattle.stabilize_round.specs.State.{Call}
 use Rattle.stabilize_round.proofs.Points.{node_or_other}
 use Rattle.stabilizer.specs.Between.{Stays, StandsAs}
 use Rattle.wiring.specs.Wiring.{IsMarked, KeepsLists, KeepsRound}
-use Rattle.wiring.specs.Kept.{IsKept, IsDead, IsBind}
+use Rattle.wiring.specs.Kept.{IsKept, IsDead, IsBind, IsFreeze, IsTop}
 use Rattle.inc_terms.specs.Work.{taken_by}
 use Rattle.node_outcomes.specs.Row.{outcome_in}
 use Rattle.node_outcomes.specs.declared.row.Progress.{Progress}
@@ -38,14 +41,15 @@ use Rattle.wiring.proofs.Agreeing.{code_row}
 use Rattle.stabilizer.specs.Kept.{PartsKept}
 use Rattle.stabilizer.specs.Round.{IsReady}
 use Rattle.stabilizer.specs.declared.parts.Parts.{Parts}
-use Rattle.stabilizer.proofs.Between.Alone.{needed_row, ready_stays}
+use Rattle.stabilizer.proofs.Between.Alone.{needed_row}
+use Rattle.stabilizer.proofs.Between.Staying.{ready_stays}
 use Rattle.wiring.proofs.Agreeing.{same_some}
 use Rattle.stabilizer.proofs.Between.Fitting.{set_fit}
 use Rattle.stabilizer.proofs.Between.Keeping.{parts_stay}
 use Rattle.timed_nodes.proofs.Watching.{clock_set}
 use Rattle.node_outcomes.specs.Meaning.{Meaning}
 use Rattle.wiring.proofs.Deciding.{need_same}
-use Rattle.stabilizer.proofs.Between.Typing.{KeepsTypes, typed_still, right_still}
+use Rattle.stabilizer.proofs.Between.Typing.{KeepsTypes, call_still, folds_still, listed_still, typed_still, right_still}
 use Rattle.wiring.proofs.Holding.{built_same, right_as, died_same, links_same, root_same, pairs_same, scoped_same}
 use Rattle.wiring.specs.Graph.{held_at, graph_at}
 use Rattle.node_outcomes.specs.Choosing.{built_by}
@@ -119,7 +123,7 @@ module _ (before arena : Arena) (old work : Work) (id : NodeId) (v : Value) (kep
 
   -- a variable isn't built, whatever its value, and other nodes are built as they were
   var_unbuilt : (a : Arena) (x : Work) (r : Row) (w : Value) → row_at a id ≡ Some r → r.def ≡ Var w → (held_at a x).built id ≡ None
-  var_unbuilt a x r w row is = built_live x.rows x.roots id a r row
+  var_unbuilt a x r w row is = built_live x.rows x.roots id a x.experts r row
       ∙ ap (λ (d : Def). built_by d (outcome_in (at x.rows (change id))) (at x.roots (change id))) is
 
   built_as : (n : NodeId) → (held_at arena work).built n ≡ (held_at before old).built n
@@ -170,6 +174,40 @@ module _ (before arena : Arena) (old work : Work) (id : NodeId) (v : Value) (kep
         let e : graph.Var variable.0 ≡ graph.Bind l f caps = sym variable.1 ∙ (ap (λ (x : Row). x.def) one ∙ is) in cc)
   ]
 
+  -- nor is a freeze
+  freeze_stays : (n : NodeId) (r : Row) → row_at before n ≡ Some r → IsFreeze r.def → row_at arena n ≡ Some r
+  freeze_stays n r row is = elim (node_or_other n id) [
+    | inr ne ↦ set.changes.others n ne ∙ row
+    | inl same ↦ absurd (
+        let variable = is_variable before id set.row set.there not_other in
+        let one : set.row ≡ r = same_some (sym set.there ∙ (ap (row_at before) (sym same) ∙ row)) in
+        subst IsFreeze (sym (ap (λ (x : Row). x.def) one) ∙ variable.1) is)
+  ]
+
+  -- nor an expert
+  expert_as : (n : NodeId) → is_expert (row_at arena n) ≡ is_expert (row_at before n)
+  expert_as n = elim (node_or_other n id) [
+    | inr ne ↦ ap is_expert (set.changes.others n ne)
+    | inl is ↦ subst (λ (x : NodeId). is_expert (row_at arena x) ≡ is_expert (row_at before x)) (sym is)
+        (let variable = is_variable before id set.row set.there not_other in
+        ap is_expert set.changes.changed ∙ sym (ap is_expert set.there ∙ ap is_expert_def variable.1))
+  ]
+
+  -- last calls fit
+  call_now : (n : NodeId) (r : Row) (l : Call) (w : Before before id n v r) → CallFits arena w.was.def w.was.ty l → CallFits arena r.def r.ty l
+  call_now n r l w fits = elim w.same [
+    | inl same ↦ subst (λ (x : Row). CallFits arena x.def x.ty l) same fits
+    | inr h ↦ subst (λ (x : Row). CallFits arena x.def x.ty l) (sym h.is_now) (subst (λ (d : Def). CallFits arena d w.was.ty l) h.is_was fits)
+  ]
+
+  takes_was : (n : NodeId) (r : Row) (f : FnRef) (first : Value) (ns : List NodeId) (w : Before before id n v r) → r.def ≡ graph.Expert f first ns
+      → FoldTakes before r.ty (kids_at old.experts n) f.sig.takes
+  takes_was n r f first ns w is = elim w.same [
+    | inl same ↦ subst (λ (t : Ty). FoldTakes before t (kids_at old.experts n) f.sig.takes) w.type
+        (kept.lists n w.was f first ns w.is_was (ap (λ (x : Row). x.def) same ∙ is))
+    | inr h ↦ absurd (let e : graph.Var v ≡ graph.Expert f first ns = sym (ap (λ (x : Row). x.def) h.is_now) ∙ is in cc)
+  ]
+
   same_heights : (p : Point) → at work.graph.heights p ≡ at old.graph.heights p
   same_heights p = ap (λ (m : Rows _). at m p) marked.graph.heights
 
@@ -211,12 +249,22 @@ module _ (before arena : Arena) (old work : Work) (id : NodeId) (v : Value) (kep
           | inl same ↦ subst (λ (x : Row). IsBind x.def) same b
           | inr x ↦ absurd (let e = sym x.is_was ∙ b.3 in cc)
         ];
-    calls = λ n r k l e is last. let w = row_was n r e in
-        subst (IsOfType arena l.result) w.type
-        (typed_still before arena more types l.result w.was.ty (kept.calls n w.was k l w.is_was (sym (same_rows (main n)) ∙ is) last));
+    calls = λ n r k l e is last. call_now n r l (row_was n r e) (let w = row_was n r e in
+        call_still before arena more types w.was.def w.was.ty l (kept.calls n w.was k l w.is_was (sym (same_rows (main n)) ∙ is) last));
     rounds = λ p k e. rw round.round (kept.rounds p k (sym (same_rows p) ∙ e));
     pairs = λ n r e some. let w = row_was n r e in pairs_same old work lists n (kept.pairs n w.was w.is_was (subject_was n r w some));
     scoped = λ n r e some. let w = row_was n r e in scoped_same old work lists n (kept.scoped n w.was w.is_was (ap is_some w.scope ∙ some));
+    experts = λ n. ap (λ (x : List ExpertPlace). is_some (expert_at x n)) round.experts ∙ (kept.experts n ∙ sym (expert_as n));
+    listed = λ n. subst (λ (x : List ExpertPlace). Every (Given arena.given) (kids_at x n)) (sym round.experts)
+        (listed_still before arena more types (kids_at old.experts n) (kept.listed n));
+    lists = λ n r f w ns e is. subst (λ (x : List ExpertPlace). FoldTakes arena r.ty (kids_at x n) f.sig.takes) (sym round.experts)
+        (folds_still before arena more types r.ty (kids_at old.experts n) f.sig.takes (kept.listed n) (takes_was n r f w ns (row_was n r e) is));
+    tops = λ n r e top. let w = row_was n r e in elim w.same [
+      | inl same ↦ sym w.scope ∙ kept.tops n w.was w.is_was (subst (λ (x : Row). IsTop x.def) (sym same) top)
+      | inr h ↦ absurd (subst (λ (x : Row). IsTop x.def) h.is_now top)
+    ];
+    frozen = λ n k e on. let h = kept.frozen n k (sym (same_rows (main n)) ∙ e) on in
+        record { row = h.row; is_row = freeze_stays n h.row h.is_row h.is_freeze; is_freeze = h.is_freeze; value = h.value; last = h.last };
   }
 
   need_before : (p : Point) → Needed work.graph p → Needed old.graph p
@@ -256,7 +304,11 @@ module _ (before arena : Arena) (old work : Work) (id : NodeId) (v : Value) (kep
   set_stays = record {
     needed = need_before;
     clock = λ p r need row. inr (ap (λ (t : ℤ). clock_value t r.def) set.changes.time);
-    links = λ p q n. ap (λ (x : Links). times x p q) marked.graph.links;
+    lists = λ p n. inl (record {
+      links = λ q. ap (λ (x : Links). times x p q) marked.graph.links;
+      expert = ap (λ (x : List ExpertPlace). expert_at x p.node) round.experts;
+      listed = λ a. subst (Among p) (sym todo) a;
+    });
     heap = λ p n h. elim (point_cases p (main id)) [
       | inl is ↦ subst (λ (x : Point). Holds work.graph.heap x) (sym is) (marked.told (need_before (main id) (subst (λ (x : Point). Needed work.graph x) is n)))
       | inr ne ↦ ap is_some (marked.others p ne) ∙ h
@@ -283,7 +335,6 @@ module _ (before arena : Arena) (old work : Work) (id : NodeId) (v : Value) (kep
     ran = round.ran;
     retries = round.retries;
     round = round.round;
-    todo = todo;
   }
 
 -- parts are kept, and a round may begin with them
@@ -298,7 +349,7 @@ module _ (old new : Parts) (id : NodeId) (v : Value) (kept : PartsKept old) (set
   parts = record old { arena = new.arena; work = work }
 
   round_stays : KeepsRound old.work work
-  round_stays = record { roots = refl; deaths = refl; ran = refl; retries = refl; round = refl }
+  round_stays = record { roots = refl; deaths = refl; ran = refl; retries = refl; round = refl; experts = refl }
 
   lists_stay : KeepsLists old.work work
   lists_stay = record { pairs = refl; scoped = refl }

@@ -1,15 +1,13 @@
 -- A root is taken off.
-use Rattle.std.proofs.Common.{◌≡◌, inl, inr, ◌<◌, ◌+◌, ◌++◌, not, List, [], ◌∷◌, map, Option, None, refl, sym, ap, subst, ◌∙◌, arith}
-use Rattle.std.specs.Prelude.{is_some}
+use Rattle.std.proofs.Common.{◌≡◌, inl, inr, ℕ, ◌<◌, ◌≤◌, ◌+◌, ◌++◌, List, [], ◌∷◌, map, refl, sym, subst, ◌∙◌, arith}
 use Rattle.inc_value.specs.declared.node.NodeId.{NodeId}
 use Rattle.inc_value.specs.declared.node.Point.{Point}
 use Rattle.inc_terms.specs.Depend.{main}
-use Rattle.point_map.specs.Rows.{at, Holds}
 use Rattle.point_map.proofs.Places.{point_cases}
+use Rattle.link_table.specs.Links.{times}
 use Rattle.necessity.specs.Need.{root_times, OneRootMore}
-use Rattle.necessary_graph.specs.Part.{NecessaryPart, Needed, IsInStep}
+use Rattle.necessary_graph.specs.Part.{NecessaryPart, IsInStep}
 use Rattle.necessary_graph.specs.Sweep.{IsUnrooted}
-use Rattle.necessary_graph.proofs.Reaching.{needed_more}
 use Rattle.node_arena.specs.Arena.{Arena}
 use Rattle.stabilize_round.specs.State.{one, count}
 use Rattle.stabilize_round.proofs.Points.{one_same, one_other}
@@ -18,13 +16,13 @@ use Rattle.wiring.specs.Kept.{IsKept}
 use Rattle.stabilizer.specs.Kept.{PartsKept}
 use Rattle.stabilizer.specs.Round.{AreRooted, IsReady}
 use Rattle.stabilizer.specs.declared.parts.Parts.{Parts}
-use Rattle.stabilizer.proofs.Between.Alone.{ready_stays}
-use Rattle.stabilizer.proofs.Between.Keeping.{carried, fit_still, parts_stay}
+use Rattle.stabilizer.proofs.Between.Staying.{ready_stays}
+use Rattle.stabilizer.proofs.Between.Keeping.{parts_stay}
+use Rattle.stabilizer.proofs.Between.Sweeping.{need_before, stays_in, swept_kept}
 use Rattle.node_outcomes.specs.Meaning.{Meaning}
-use Rattle.node_outcomes.specs.declared.row.Progress.{Progress}
-use Rattle.wiring.specs.Graph.{rowless}
+use Rattle.stabilizer.specs.Look.{freeze_roots}
+use Rattle.wiring.specs.Graph.{graph_at, rowless}
 use Rattle.wiring.specs.declared.work.Work.{Work}
-use Rattle.wiring.proofs.Linking.{some_or_none}
 
 -- one node less is listed
 count_without : (p : Point) (id : NodeId) (before after : List NodeId)
@@ -42,9 +40,10 @@ module _ (old : Work) (g : NecessaryPart) (id : NodeId) (off : IsUnrooted (rowle
     others = λ a ne. off.off.others a ne ∙ sym (off.sweep.roots a);
   }
 
-  pub still_rooted : (before after : List NodeId) → AreRooted old (before ++ id ∷ after) → AreRooted work (before ++ after)
-  still_rooted before after all p = elim (point_cases p (main id)) [
-    | inl is ↦ subst (λ (x : Point). root_times g.roots x ≡ count x (map main (before ++ after))) (sym is)
+  pub still_rooted : (arena : Arena) (since : ℕ) (before after : List NodeId) → AreRooted arena old since (before ++ id ∷ after)
+      → AreRooted arena work since (before ++ after)
+  still_rooted arena since before after all p = elim (point_cases p (main id)) [
+    | inl is ↦ subst (λ (x : Point). root_times g.roots x ≡ count x (map main (before ++ after)) + freeze_roots (graph_at arena old) since x) (sym is)
         (let a = all (main id) in let r = root_less.raised in let k = count_without (main id) id before after in let o = one_same (main id) in
         omega (arith, a, r, k, o))
     | inr ne ↦
@@ -52,67 +51,25 @@ module _ (old : Work) (g : NecessaryPart) (id : NodeId) (off : IsUnrooted (rowle
         omega (arith, a, r, k, o)
   ]
 
-  was_in : (p : Point) → Holds g.heap p → Holds old.graph.heap p
-  was_in p h = elim (some_or_none (at g.heap p)) [
-    | inl k ↦ ap is_some (off.sweep.heap p k.0 k.1).0
-    | inr none ↦ absurd (let e = sym h ∙ ap is_some none in cc)
-  ]
+  links_before : (p q : Point) → times old.graph.links p q ≤ times old.graph.links p q
+  links_before p q = omega arith
 
-  need_before : (p : Point) → Needed g p → Needed old.graph p
-  need_before p n = needed_more g old.graph root_before (λ a b l. let f = off.sweep.fewer a b in omega (arith, f, l)) p n
-    where
-      root_before : (a : Point) → 0 < root_times g.roots a → 0 < root_times old.graph.roots a
-      root_before a r = elim (point_cases a (main id)) [
-        | inl is ↦ subst (λ (x : Point). 0 < root_times old.graph.roots x) (sym is) (let k = root_less.raised in omega (arith, k))
-        | inr ne ↦ let k = root_less.others a ne in omega (arith, k, r)
-      ]
-
-  -- a point with a row is no leaf, and stays there
-  row_there : (p : Point) → Holds old.rows p → Holds old.graph.heights p → Holds g.heights p
-  row_there p row h = elim (off.drops.heights p) [
-    | inl same ↦ ap is_some same ∙ h
-    | inr dropped ↦ absurd (let e = sym dropped.is_leaf ∙ ap not row in cc)
-  ]
-
-  -- no point comes
-  was_there : (p : Point) → Holds g.heights p → Holds old.graph.heights p
-  was_there p h = elim (off.drops.heights p) [
-    | inl same ↦ ap is_some (sym same) ∙ h
-    | inr dropped ↦ absurd (let e = sym h ∙ ap is_some dropped.gone in cc)
-  ]
-
-  -- a leaf that is there still is needed still
-  leaf_needed : (p : Point) → Holds g.heights p → at old.rows p ≡ None → Needed old.graph p → Needed g p
-  leaf_needed p h none need = elim (off.drops.leaves p (ap (λ (x : Option Progress). not (is_some x)) none) need) [
-    | inl now ↦ now
-    | inr gone ↦ absurd (let e = sym h ∙ ap is_some gone in cc)
+  root_before : (a : Point) → 0 < root_times off.roots a → 0 < root_times old.graph.roots a
+  root_before a r = elim (point_cases a (main id)) [
+    | inl is ↦ subst (λ (x : Point). 0 < root_times old.graph.roots x) (sym is) (let k = off.off.raised in omega (arith, k))
+    | inr ne ↦ let k = off.off.others a ne in omega (arith, k, r)
   ]
 
   module _ (arena : Arena) (kept : IsKept arena old) (step : IsInStep g) where
     pub unrooted_kept : IsKept arena work
-    unrooted_kept = carried arena old work kept (record {
-      step = step;
-      same = λ p. refl;
-      there = row_there;
-      opened = was_there;
-      leaves = leaf_needed;
-      links = λ p q l. let f = off.sweep.fewer p q in omega (arith, f, l);
-      heap = λ p h. kept.heap p (was_in p h);
-      fit = fit_still arena old work kept (λ p. refl) refl;
-      held = refl;
-      chosen = λ p h. refl;
-      roots = refl;
-      deaths = refl;
-      pairs = λ n r row a. a;
-      scoped = λ n r row a. a;
-    })
+    unrooted_kept = swept_kept old (record old.graph { roots = off.roots }) g off.sweep off.drops links_before root_before (λ p. refl) arena kept step
 
     pub unrooted_stays : Stays arena arena old work
     unrooted_stays = record {
-      needed = need_before;
+      needed = need_before old (record old.graph { roots = off.roots }) g off.sweep off.drops links_before root_before (λ p. refl);
       clock = λ p r need row. inr refl;
-      links = λ p q n. off.sweep.kept p q ((off.sweep.reached p).0 n);
-      heap = λ p n h. ap is_some (off.sweep.heap_kept p ((off.sweep.reached p).0 n)) ∙ h;
+      lists = λ p n. inl (record { links = λ q. off.sweep.kept p q ((off.sweep.reached p).0 n); expert = refl; listed = λ a. a });
+      heap = stays_in old (record old.graph { roots = off.roots }) g off.sweep off.drops links_before root_before (λ p. refl);
       rows = λ p n. refl;
       nodes = λ n r need e. inl e;
       calls = λ n r nodes k c row def e last. (row, e);
@@ -126,7 +83,6 @@ module _ (old : Work) (g : NecessaryPart) (id : NodeId) (off : IsUnrooted (rowle
       ran = refl;
       retries = refl;
       round = refl;
-      todo = refl;
     }
 
 -- parts are kept, and a round may begin with them

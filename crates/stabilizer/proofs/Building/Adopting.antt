@@ -1,5 +1,5 @@
 -- Nodes that were added to a bind's scope get their points, and enter it.
-use Rattle.std.proofs.Common.{◌≡◌, ◌≢◌, ◌⊎◌, inl, inr, ℕ, ◌<◌, ◌≤◌, ◌+◌, Option, None, Some, refl, sym, ap, subst, ◌∙◌, arith}
+use Rattle.std.proofs.Common.{◌≡◌, ◌≢◌, ◌⊎◌, inl, inr, ℕ, ◌<◌, ◌≤◌, ◌+◌, false, List, Option, None, Some, refl, sym, ap, subst, ◌∙◌, arith}
 use Rattle.std.specs.Prelude.{is_some, IsSome}
 use Rattle.std.proofs.lemmas.Bool.{cases_lt}
 use Rattle.std.proofs.lemmas.Option.{none-some, same_Some}
@@ -8,14 +8,17 @@ use Rattle.inc_value.specs.declared.node.NodeId.{NodeId}
 use Rattle.inc_value.specs.declared.node.Part.{Part}
 use Rattle.inc_value.specs.declared.node.Point.{Point}
 use Rattle.inc_terms.specs.Depend.{subject_of}
-use Rattle.inc_terms.specs.Graph.{Row}
+use Rattle.inc_terms.specs.Graph as graph
+use Rattle.inc_terms.specs.Graph.{Row, Def}
+use Rattle.expert_nodes.specs.Experts.{ExpertPlace, expert_at}
 use Rattle.necessary_graph.specs.Part.{IsInStep}
 use Rattle.node_arena.specs.Arena.{Arena, row_at, IsLive}
 use Rattle.node_arena.specs.Sound.{IsSoundArena, IsFirstSince}
-use Rattle.node_outcomes.specs.Computing.{has_part}
+use Rattle.node_outcomes.specs.Computing.{has_part, is_expert, is_expert_def}
 use Rattle.point_map.specs.Rows.{Rows, at, KeepsRows}
 use Rattle.scopes.specs.Scopes.{Scopes, IsApart, Enters}
 use Rattle.stabilize_round.proofs.Points.{node_or_other}
+use Rattle.wiring.specs.Experts.{ExpertIsAdded}
 use Rattle.wiring.specs.Wiring.{KeepsRound}
 use Rattle.wiring.specs.declared.work.Work.{Work}
 use Rattle.wiring.specs.Places.{ChangesNode, for_parts, pairs_with}
@@ -32,10 +35,15 @@ rounds_kept old mid new s t = record {
   ran = t.ran ∙ s.ran;
   retries = t.retries ∙ s.retries;
   round = t.round ∙ s.round;
+  experts = t.experts ∙ s.experts;
 }
 
 pub round_same : (work : Work) → KeepsRound work work
-round_same work = record { roots = refl; deaths = refl; ran = refl; retries = refl; round = refl }
+round_same work = record { roots = refl; deaths = refl; ran = refl; retries = refl; round = refl; experts = refl }
+
+-- and through one that may change experts, but doesn't
+pub round_whole : (old new : Work) → KeepsRound (record old { experts = new.experts }) new → new.experts ≡ old.experts → KeepsRound old new
+round_whole old new s same = record { roots = s.roots; deaths = s.deaths; ran = s.ran; retries = s.retries; round = s.round; experts = same }
 
 -- none is new before the count
 none_new : (a : Arena) (count : ℕ) (n : NodeId) → IsNewBefore a count count n → ⊥
@@ -250,6 +258,13 @@ module _ (old mid : Parts) (b node : NodeId) (count next : ℕ) (may : MayAdopt 
   next_apart = apart_yet old.arena node count next may.sound low first old.scopes mid.scopes mid.scopes b so.scopes
       (may.apart node (new_since old.arena node count next may.sound low first))
 
+  pub next_plain : is_expert (row_at mid.arena node) ≡ false
+  next_plain = ap (λ (a : Arena). is_expert (row_at a node)) so.arena
+      ∙ may.plain node (new_since old.arena node count next may.sound low first)
+
+  pub next_no_expert : expert_at mid.work.experts node ≡ None
+  next_no_expert = ap (λ (e : List ExpertPlace). expert_at e node) so.work.older.round.experts ∙ may.no_expert node (new_since old.arena node count next may.sound low first)
+
   -- its id was given
   pub next_given : node.gen_ + 1 ≤ old.arena.given
   next_given = let g = may.sound.given node first.live in omega (arith, g)
@@ -286,6 +301,22 @@ module _ (old mid : Parts) (b node : NodeId) (count next : ℕ) (may : MayAdopt 
 
 -- ---- one node
 
+-- with what is no expert none is created
+pub added_plain : (def : Def) (old new : List ExpertPlace) (n : NodeId) → is_expert_def def ≡ false → ExpertIsAdded def old new n → new ≡ old
+added_plain (graph.Expert f v ns) old new n plain added = absurd (cc)
+added_plain (graph.Const v) old new n plain added = added
+added_plain (graph.Var v) old new n plain added = added
+added_plain (graph.Map f ns) old new n plain added = added
+added_plain (graph.Fold f v ns) old new n plain added = added
+added_plain (graph.If t x y) old new n plain added = added
+added_plain (graph.Join kid) old new n plain added = added
+added_plain (graph.Bind l f captures) old new n plain added = added
+added_plain (graph.At t) old new n plain added = added
+added_plain (graph.Steps v steps) old new n plain added = added
+added_plain graph.Now old new n plain added = added
+added_plain (graph.Every base span) old new n plain added = added
+added_plain (graph.Freeze kid f) old new n plain added = added
+
 module _ (a : Arena) (old mid : Work) (node : NodeId) (row : Row) (is_row : row_at a node ≡ Some row)
     (rows : ChangesNode old.rows mid.rows node (for_parts row.def (λ part. new_row)))
     (heights : Part → ℕ) (points : ChangesNode old.graph.heights mid.graph.heights node (for_parts row.def heights))
@@ -293,7 +324,13 @@ module _ (a : Arena) (old mid : Work) (node : NodeId) (row : Row) (is_row : row_
     (in_scope : Among node mid.scoped.nodes)
     (scoped : (n : NodeId) → IsLive a n → Among n old.scoped.nodes → Among n mid.scoped.nodes)
     (links : mid.graph.links ≡ old.graph.links) (roots : mid.graph.roots ≡ old.graph.roots) (heap : KeepsRows old.graph.heap mid.graph.heap)
-    (step : IsInStep mid.graph) (todo : mid.todo ≡ old.todo) (round : KeepsRound old mid) where
+    (step : IsInStep mid.graph) (todo : mid.todo ≡ old.todo) (round : KeepsRound (record old { experts = mid.experts }) mid)
+    (experts : ExpertIsAdded row.def old.experts mid.experts node)
+    (plain : is_expert (row_at a node) ≡ false) where
+  -- no expert was created
+  gets_no_expert : mid.experts ≡ old.experts
+  gets_no_expert = added_plain row.def old.experts mid.experts node (sym (ap is_expert is_row) ∙ plain) experts
+
   pub gets_points : GetsPoints a old mid node
   gets_points = record {
     row = row;
@@ -312,7 +349,7 @@ module _ (a : Arena) (old mid : Work) (node : NodeId) (row : Row) (is_row : row_
     roots = roots;
     heap = heap;
     todo = rw todo refl;
-    round = round;
+    round = round_whole old mid round gets_no_expert;
     pairs = λ n live x. pairs n (inl live) (pair_stays (subject_of row.def) old.pairs.nodes node n x);
     scoped = scoped;
   }
@@ -323,7 +360,9 @@ module _ (a : Arena) (old mid : Work) (node : NodeId) (row : Row) (is_row : row_
     module _ (new : Work) (gone : ChangesNode mid.rows new.rows node (λ part. None))
         (dropped : ChangesNode mid.graph.heights new.graph.heights node (λ part. None)) (same_links : new.graph.links ≡ mid.graph.links)
         (same_roots : new.graph.roots ≡ mid.graph.roots) (same_heap : new.graph.heap ≡ mid.graph.heap) (new_step : IsInStep new.graph)
-        (same : new ≡ record mid { graph = new.graph; rows = new.rows }) (same_todo : new.todo ≡ mid.todo) (same_round : KeepsRound mid new) where
+        (same : new ≡ record mid { graph = new.graph; rows = new.rows; experts = new.experts }) (same_todo : new.todo ≡ mid.todo)
+        (same_round : KeepsRound (record mid { experts = new.experts }) new) (same_experts : expert_at mid.experts node ≡ None → new.experts ≡ mid.experts)
+        (absent : expert_at old.experts node ≡ None) where
       pub back_rest : KeepsRest a old new
       back_rest = record {
         step = new_step;
@@ -331,7 +370,8 @@ module _ (a : Arena) (old mid : Work) (node : NodeId) (row : Row) (is_row : row_
         roots = same_roots ∙ roots;
         heap = λ p. ap (λ (m : Rows ℕ). at m p) same_heap ∙ heap p;
         todo = rw (same_todo, todo) refl;
-        round = rounds_kept old mid new round same_round;
+        round = rounds_kept old mid new (round_whole old mid round gets_no_expert) (round_whole mid new same_round
+            (same_experts (ap (λ (e : List ExpertPlace). expert_at e node) gets_no_expert ∙ absent)));
         pairs = λ n live x. subst (λ (w : Work). Among n w.pairs.nodes) (sym same) (gets_rest.pairs n live x);
         scoped = λ n live x. subst (λ (w : Work). Among n w.scoped.nodes) (sym same) (scoped n live x);
       }

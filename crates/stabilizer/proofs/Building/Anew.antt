@@ -35,10 +35,12 @@ use Rattle.stabilize_round.specs.State as machine
 use Rattle.stabilize_round.specs.State.{State, Start, at_point}
 use Rattle.stabilize_round.proofs.Low.{among_gate, plan_links}
 use Rattle.stabilize_round.proofs.Machine.{move_keeps}
+use Rattle.stabilize_round.proofs.Main.{main_change}
 use Rattle.stabilize_round.proofs.Points.{same_or_other, at_same, at_other}
 use Rattle.stabilize_round.proofs.Ready.{ready}
 use Rattle.node_outcomes.specs.Choosing.{built_by, built_in}
-use Rattle.node_outcomes.specs.Row.{IsRewritten, with_outcome, outcome_in}
+use Rattle.expert_nodes.specs.Experts.{ExpertPlace, kids_at}
+use Rattle.node_outcomes.specs.Row.{IsRewritten, kept_in, with_outcome, outcome_in}
 use Rattle.node_outcomes.specs.declared.row.Progress.{Progress}
 use Rattle.wiring.specs.Graph.{held_at, graph_at}
 use Rattle.wiring.specs.Stands.{MatchesState, Counts, hand}
@@ -61,6 +63,7 @@ pub record IsRebuilt (old new : Work) (n : NodeId) (now : Outcome) (root : Optio
   pub ran : new.ran.items ≡ old.ran.items
   pub retries : new.retries ≡ old.retries
   pub round : new.round ≡ old.round
+  pub experts : new.experts ≡ old.experts
 
 abbrev pub nowhere : Point → Bool
 nowhere p = false
@@ -110,12 +113,12 @@ module _ (s : State) (arena : Arena) (old new : Work) (counts : Counts) (st : Ma
   next = changed (record s { graph = graph_at arena new }) n given todo'
 
   -- the parts stand for it, with the main in hand
-  pub run_stands : MatchesState arena new counts (Some (hand (main n) [])) next
-  run_stands =
+  pub run_stands : s.owed (main n) ≡ [] → MatchesState arena new counts (Some (hand (main n) [])) next
+  run_stands idle =
       let settles : LeavesSettled old new n given =
       let others : (a : Point) → a ≢ change n → is_some (at new.graph.heap a) ≡ is_some (at old.graph.heap a) = (λ a ne. ap is_some (run.heap.others a ne)) in
       assumption (others, run) in
-      settled_stands s arena old new counts st n given there settles (graph_at arena new) refl todo' (λ a t. elim (same_or_other (main n) a) [
+      settled_stands s arena old new counts st n given idle there settles (graph_at arena new) refl todo' (λ a t. elim (same_or_other (main n) a) [
         | inl h ↦ inr (sym h)
         | inr ne ↦ absurd (let f = at_other (main n) (s.needed (main n) && is_static (s.stage (main n))) nowhere a ne in cc)
       ])
@@ -176,6 +179,13 @@ module _ (F : Functions) (z : Start) (t : State) (b : NodeId) (now : Outcome) (c
   pub others : (c : NodeId) → (c ≡ b → ⊥) → held.built c ≡ (held_at grown.arena grown.work).built c
   others c ne = built_alike grown.arena grown.work new b now root run c ne
 
+  -- freezes keep what they kept, and experts list what they listed
+  pub keeps_frozen : (n : NodeId) → held.frozen n ≡ kept_in (at grown.work.rows (main n))
+  keeps_frozen n = ap kept_in (run.rows.others (main n) (main_change n b))
+
+  pub keeps_lists : (n : NodeId) → held.lists n ≡ kids_at grown.work.experts n
+  keeps_lists n = ap (λ (e : List ExpertPlace). kids_at e n) run.experts
+
   -- its root was given
   pub root_given : (w : Built) (m : NodeId) → held.built b ≡ Some w → w.root ≡ Some m → Given grown.arena.given m
   root_given w m is of =
@@ -183,12 +193,12 @@ module _ (F : Functions) (z : Start) (t : State) (b : NodeId) (now : Outcome) (c
       has_root.given m (ap (λ (x : Built). x.root) same ∙ of)
 
   -- so it is a rebuild of the machine
-  abbrev pub rebuilt : Rebuild F z t b now (made F z t b now cut died grown counts a held others root_given after adds)
-  rebuilt = anew F z t b now cut died grown counts a held others root_given after adds
+  abbrev pub rebuilt : Rebuild F z t b now (made F z t b now cut died grown counts a held others keeps_frozen keeps_lists root_given after adds)
+  rebuilt = anew F z t b now cut died grown counts a held others keeps_frozen keeps_lists root_given after adds
 
   -- the state after it
   abbrev pub prepared : State
-  prepared = remade t (made F z t b now cut died grown counts a held others root_given after adds)
+  prepared = remade t (made F z t b now cut died grown counts a held others keeps_frozen keeps_lists root_given after adds)
 
   -- its root reads back as its term
   pub built_anew : IsBuiltAnew F (graph_of grown.arena held) b a.due.function a.due.captures now
@@ -206,7 +216,7 @@ module _ (F : Functions) (z : Start) (t : State) (b : NodeId) (now : Outcome) (c
 
   pub result : IsBuiltAnew F (graph_of grown.arena held) b rebuilt.due.function rebuilt.due.captures now
   result = subst (λ (d : IsDue F t.graph b now). IsBuiltAnew F (graph_of grown.arena held) b d.function d.captures now)
-      (sym (anew_due F z t b now cut died grown counts a held others root_given after adds)) built_anew
+      (sym (anew_due F z t b now cut died grown counts a held others keeps_frozen keeps_lists root_given after adds)) built_anew
 
   -- the move
   abbrev pub rebuilds : Move F z t prepared
@@ -334,8 +344,8 @@ module _ (F : Functions) (z : Start) (t : State) (b : NodeId) (now : Outcome) (c
     holds = move_keeps F z prepared turned settles inv;
     taken = refl;
     scope = scope_stands;
-    stands = run_stands low grown.arena grown.work new after low_stands b now root there run;
+    stands = run_stands low grown.arena grown.work new after low_stands b now root there run (a.holds.rows.owed (main b) (a.quiet (main b)));
     only = λ w. let k = only_main low grown.arena grown.work new after low_stands b now root there run (main b) w in (k.1, k.2);
     wakes = λ need stage. main_woken low grown.arena grown.work new after low_stands b now root there run need stage;
-    unlinked = λ p w need. inr (inr (only_main low grown.arena grown.work new after low_stands b now root there run p w).0);
+    unlinked = λ p w need. inr (inr (inl (only_main low grown.arena grown.work new after low_stands b now root there run p w).0));
   }

@@ -1,6 +1,6 @@
 -- A bind's right side is built, or all that was added for it is dropped again.
 use Rattle.std.proofs.Math.Path.{fun_ext}
-use Rattle.std.proofs.Common.{◌≡◌, ◌⊎◌, inl, inr, ℕ, ◌<◌, ◌≤◌, ◌+◌, ◌-◌, Bool, List, None, Some, refl, sym, ap, subst, ◌∙◌, arith}
+use Rattle.std.proofs.Common.{◌≡◌, ◌⊎◌, inl, inr, ℕ, ◌<◌, ◌≤◌, ◌+◌, ◌-◌, Bool, false, List, Option, None, Some, refl, sym, ap, subst, ◌∙◌, arith}
 use Rattle.std.specs.Prelude.{is_some, IsTrue, ◌↔◌}
 use Rattle.std.proofs.lemmas.Bool.{cases_lt}
 use Rattle.std.proofs.lemmas.Option.{none-some}
@@ -9,12 +9,14 @@ use Rattle.inc_value.specs.declared.function.FnRef.{FnRef}
 use Rattle.inc_value.specs.declared.node.NodeId.{NodeId}
 use Rattle.inc_value.specs.declared.node.Point.{Point}
 use Rattle.inc_value.specs.declared.value.Value.{Value}
-use Rattle.inc_terms.specs.Graph.{Row}
+use Rattle.inc_terms.specs.Graph as graph
+use Rattle.inc_terms.specs.Graph.{Row, Def}
+use Rattle.expert_nodes.specs.Experts.{ExpertPlace, expert_at}
 use Rattle.inc_value.specs.declared.function.FnKind.TheVariants.{Rhs}
 use Rattle.inc_terms.specs.Within.{Given, KnownAs}
 use Rattle.necessary_graph.specs.Part.{IsInStep}
 use Rattle.node_arena.specs.Arena.{Arena, row_at, live, IsLive, IsFull}
-use Rattle.node_arena.specs.Building.{building_in, Grows}
+use Rattle.node_arena.specs.Building.{building_in, Grows, Use, Weighs}
 use Rattle.node_arena.specs.Meanings.{SameKnown}
 use Rattle.node_arena.specs.RightSide.{RightSide, IsEmpty, SidesHold, SameMeaning, SameSides, AreFit, Tally, one_built}
 use Rattle.node_arena.specs.RightSideLaws.{AllFit, IsFitIn}
@@ -24,10 +26,10 @@ use Rattle.node_arena.specs.declared.stored.BuildFault.{BuildFault}
 use Rattle.node_arena.specs.declared.stored.BuildFault.TheVariants as fault
 use Rattle.node_arena.proofs.Graph.{calls_more}
 use Rattle.node_arena.proofs.RightSides.{fit_lasts, building_fits, new_in_scope}
-use Rattle.node_outcomes.specs.Computing.{has_part}
+use Rattle.node_outcomes.specs.Computing.{has_part, is_expert}
 use Rattle.point_map.specs.Rows.{at}
 use Rattle.scopes.specs.Scopes.{Scopes, StandsIn, IsApart}
-use Rattle.wiring.specs.Kept.{IsKept}
+use Rattle.wiring.specs.Kept.{IsKept, IsTop}
 use Rattle.wiring.specs.declared.refused.Refused.{Refused}
 use Rattle.wiring.specs.declared.refused.Refused.TheVariants.{Full, Memory}
 use Rattle.wiring.specs.declared.work.Work.{Work}
@@ -44,6 +46,7 @@ use Rattle.stabilizer.specs.declared.parts.Parts.{Parts}
 use Rattle.timed_nodes.specs.Timed.{Timed}
 use Rattle.timed_nodes.proofs.Watching.{clock_grown}
 use Rattle.stabilizer.proofs.Step.Giving.{built_gives}
+use Rattle.stabilizer.proofs.Step.Experts.{no_expert, not_created}
 use Rattle.stabilizer.proofs.Building.Adopting.{rounds_kept, adopts_none}
 use Rattle.stabilizer.proofs.Building.Weighing.{sides_last, scopes_built}
 use Rattle.stabilizer.proofs.Building.Growing.{holds_none, none_holds, grown_kept, grown_scopes}
@@ -72,6 +75,12 @@ fit_built known later right made b a built f hold is names sides ids work kept l
   scopes = subst (λ (s : FnRef → RightSide). ScopesFit s built) (sym (fun_ext sides))
       (scopes_built known right hold f is b a built kept.sound live empty (λ n c r row scope. ap is_some (kept.scopes n r c row scope).4) own grows fit.scopes);
 }
+
+-- what counts as a node of a scope is no freeze and no expert
+weighs_plain : (uses : List Use) (def : Def) (w : ℕ) → Weighs uses def w → IsTop def → ⊥
+weighs_plain uses (graph.Freeze kid f) w h top = h
+weighs_plain uses (graph.Expert f v ns) w h top = h
+weighs_plain uses _ w h top = top
 
 -- a fault of the builder's stops the build as it says
 pub stops_by : (before : ℕ) (arena : Arena) (f : BuildFault) (e : Refused) → ((e ≡ Full) ↔ (f ≡ fault.Full)) → ((e ≡ Memory) ↔ (f ≡ fault.Memory))
@@ -105,6 +114,26 @@ module _ (old mid : Parts) (b : NodeId) (side : RightSide) (kept : PartsKept old
   new_scope n r e since = new_in_scope side.uses (building_in b old.arena) (building_in b mid.arena) side.size kept.work.sound sound grows n r e
       (λ g. absurd (omega (arith, g, since)))
 
+  -- what is new is no freeze and no expert
+  new_plain : (n : NodeId) (r : Row) → row_at mid.arena n ≡ Some r → old.arena.given ≤ n.gen_ → IsTop r.def → ⊥
+  new_plain n r e since top = elim (grows.built n r e) [
+    | inl was ↦ let g = kept.work.sound.given n (ap is_some was) in omega (arith, g, since)
+    | inr h ↦ weighs_plain side.uses r.def h.weighed.weight h.weight top
+  ]
+
+  plain_row : (n : NodeId) → old.arena.given ≤ n.gen_ → is_expert (row_at mid.arena n) ≡ false
+  plain_row n since = by (row_at mid.arena n) refl
+    where
+      by : (x : Option Row) → row_at mid.arena n ≡ x → is_expert x ≡ false
+      by None e = refl
+      by (Some r) e = no_expert r.def (new_plain n r e since)
+
+  no_old_node : (n : NodeId) → old.arena.given ≤ n.gen_ → row_at old.arena n ≡ None
+  no_old_node n since = holds_none (row_at old.arena n) (λ h. (let g = kept.work.sound.given n h in absurd (omega (arith, g, since))))
+
+  no_old_expert : (n : NodeId) → old.arena.given ≤ n.gen_ → expert_at old.work.experts n ≡ None
+  no_old_expert n since = not_created old.arena old.work kept.work n (ap is_expert (no_old_node n since))
+
   none_in : (n : NodeId) → StandsIn old.scopes n b → ⊥
   none_in n h = let r = (kept.scopes.stands n b).0 h in empty n r.0 r.1 r.2
 
@@ -122,6 +151,8 @@ module _ (old mid : Parts) (b : NodeId) (side : RightSide) (kept : PartsKept old
     no_row = λ p s. ap (λ (w : Work). at w.rows p) work ∙ no_old_row p s;
     no_point = λ p s. ap (λ (w : Work). at w.graph.heights p) work ∙ no_old_point p s;
     apart = λ n s. subst (λ (x : Scopes). IsApart x n) (sym scopes) (was_apart n s);
+    plain = plain_row;
+    no_expert = λ n s. ap (λ (w : Work). expert_at w.experts n) work ∙ no_old_expert n s;
   }
 
   module _ (new : Parts) (next : ℕ) (so : AdoptsBefore mid new b old.arena.given next) where
@@ -142,11 +173,11 @@ module _ (old mid : Parts) (b : NodeId) (side : RightSide) (kept : PartsKept old
 
       work_kept : IsKept mid.arena new.work
       work_kept = grown_kept old.arena mid.arena old.work new.work b These kept.work bind grows.later sound (λ n g. grows.keeps n g)
-          (λ n r e s. (new_scope n r e s).0) adopted is_new (λ n t. t.live) (λ n t. t.since)
+          (λ n r e s. (new_scope n r e s).0) adopted is_new (λ n t. t.live) (λ n t. t.since) new_plain
 
       scopes_kept : KeepsScopes mid.arena new.scopes
       scopes_kept = grown_scopes old.arena mid.arena old.work new.work b These kept.work bind grows.later sound (λ n g. grows.keeps n g)
-          (λ n r e s. (new_scope n r e s).0) adopted is_new (λ n t. t.live) (λ n t. t.since) old.scopes new.scopes kept.scopes entered
+          (λ n r e s. (new_scope n r e s).0) adopted is_new (λ n t. t.live) (λ n t. t.since) new_plain old.scopes new.scopes kept.scopes entered
 
       pub built_kept : PartsKept new
       built_kept = record {
@@ -198,6 +229,7 @@ module _ (old mid : Parts) (b : NodeId) (side : RightSide) (kept : PartsKept old
           record { live = there; since = t.since; before = subst (λ (x : Arena). n.gen_ < x.given) (sym so.arena) (sound.given n t.live) };
       unneeded = λ p s n. none_holds (at old.work.graph.heights p) (no_old_point p s)
           (kept.work.step.there p (need_same new.work.graph old.work.graph (sym adopted.older.links) (sym adopted.older.roots) p n));
+      experts = λ n s. ap (λ (e : List ExpertPlace). expert_at e n) adopted.older.round.experts ∙ no_old_expert n s;
       scopes = λ n s h. elim ((entered.stands n s).0 h) [
         | inl was ↦ scope_older n s was
         | inr t ↦ subst (λ (x : NodeId). x.gen_ < old.arena.given) (sym t.0) bind_older
@@ -273,12 +305,15 @@ module _ (old mid : Parts) (b : NodeId) (side : RightSide) (kept : PartsKept old
       none_alive : (n : NodeId) → old.arena.given ≤ n.gen_ → IsLive last.arena n → ⊥
       none_alive n s h = none_holds (row_at last.arena n) (dis.arena.gone n s) h
 
+      none_top : (n : NodeId) (r : Row) → row_at last.arena n ≡ Some r → old.arena.given ≤ n.gen_ → IsTop r.def → ⊥
+      none_top n r e s top = none-some r (sym (dis.arena.gone n s) ∙ e)
+
       pub unbuilt_kept : PartsKept last
       unbuilt_kept = record {
         work = grown_kept old.arena last.arena old.work last.work b (λ n. ⊥) kept.work bind later_last dis.arena.sound nodes_old no_scope adopted_none
-            none_alive (λ n t. absurd t) (λ n t. absurd t);
+            none_alive (λ n t. absurd t) (λ n t. absurd t) none_top;
         scopes = grown_scopes old.arena last.arena old.work last.work b (λ n. ⊥) kept.work bind later_last dis.arena.sound nodes_old no_scope
-            adopted_none none_alive (λ n t. absurd t) (λ n t. absurd t) old.scopes last.scopes kept.scopes entered_none;
+            adopted_none none_alive (λ n t. absurd t) (λ n t. absurd t) none_top old.scopes last.scopes kept.scopes entered_none;
         dying = dis.dying ∙ (so.dying ∙ (dying ∙ kept.dying));
         clock = subst (λ (x : Timed). KeepsClock last.arena x) (sym (dis.timed ∙ (so.timed ∙ timed)))
             (clock_grown old.arena last.arena old.timed kept.clock later_last time_last nodes_old);

@@ -1,5 +1,5 @@
 -- Nodes that were added to a bind's scope leave it, lose their points, and are dropped.
-use Rattle.std.proofs.Common.{◌≡◌, ◌≢◌, ◌⊎◌, inl, inr, ℕ, ◌<◌, ◌≤◌, ◌+◌, ◌-◌, [], Option, None, Some, refl, sym, ap, subst, ◌∙◌, arith}
+use Rattle.std.proofs.Common.{◌≡◌, ◌≢◌, ◌⊎◌, inl, inr, ℕ, ◌<◌, ◌≤◌, ◌+◌, ◌-◌, List, [], Option, None, Some, refl, sym, ap, subst, ◌∙◌, arith}
 use Rattle.std.specs.Prelude.{is_some, ◌↔◌}
 use Rattle.std.proofs.lemmas.Bool.{cases_lt}
 use Rattle.std.proofs.lemmas.Option.{none-some}
@@ -13,6 +13,7 @@ use Rattle.node_arena.specs.Arena as nodes
 use Rattle.node_arena.specs.Arena.{Arena, row_at, live, IsLive}
 use Rattle.node_arena.specs.Sound.{IsSoundArena, IsFirstSince}
 use Rattle.node_lists.specs.Listed.{Listed}
+use Rattle.expert_nodes.specs.Experts.{ExpertPlace, expert_at}
 use Rattle.node_outcomes.specs.Computing.{has_part}
 use Rattle.point_map.specs.Rows.{Rows, at, Holds}
 use Rattle.scopes.specs.Scopes.{Scopes, StandsIn, Inside, direct, nested, IsDying, Empties, Gives}
@@ -25,7 +26,7 @@ use Rattle.wiring.proofs.Linking.{some_or_none}
 use Rattle.wiring.proofs.Placing.{at_node}
 use Rattle.stabilizer.specs.Building.{KeepsAllBut, MayLeave, MayDisown, HaveLeft, HasDisowned, DropsSince, KeepsOlder}
 use Rattle.stabilizer.specs.declared.parts.Parts.{Parts}
-use Rattle.stabilizer.proofs.Building.Adopting.{rounds_kept, round_same}
+use Rattle.stabilizer.proofs.Building.Adopting.{rounds_kept, round_same, round_whole}
 use Rattle.stabilizer.proofs.Building.Growing.{holds_none, none_holds}
 
 -- ---- nodes leave a scope
@@ -111,13 +112,17 @@ module _ (old now : Parts) (b node : NodeId) (may : MayLeave old b) (so : AreLea
   pub leaving_unneeded : (p : Point) → p.node ≡ node → Needed now.work.graph p → ⊥
   leaving_unneeded p is n = may.unneeded p (its_stood p is) (need_same now.work.graph old.work.graph (sym so.rest.links) (sym so.rest.roots) p n)
 
+  leaving_unlisted : expert_at now.work.experts node ≡ None
+  leaving_unlisted = ap (λ (e : List ExpertPlace). expert_at e node) so.rest.round.experts ∙ may.experts node stood
+
   module _ (new : Parts) (gives : Gives now.scopes new.scopes node) (standing : Empties now.scopes new.scopes node)
       (rows : ChangesNode now.work.rows new.work.rows node (λ part. None))
       (points : ChangesNode now.work.graph.heights new.work.graph.heights node (λ part. None))
       (links : new.work.graph.links ≡ now.work.graph.links) (roots : new.work.graph.roots ≡ now.work.graph.roots)
       (heap : new.work.graph.heap ≡ now.work.graph.heap) (step : IsInStep new.work.graph)
-      (rest : new.work ≡ record now.work { graph = new.work.graph; rows = new.work.rows }) (todo : new.work.todo ≡ now.work.todo)
-      (round : KeepsRound now.work new.work) (arena : new.arena ≡ now.arena) (timed : new.timed ≡ now.timed) (pending : new.dying.items ≡ now.dying.items)
+      (rest : new.work ≡ record now.work { graph = new.work.graph; rows = new.work.rows; experts = new.work.experts })
+      (todo : new.work.todo ≡ now.work.todo) (round : KeepsRound (record now.work { experts = new.work.experts }) new.work)
+      (experts : expert_at now.work.experts node ≡ None → new.work.experts ≡ now.work.experts) (arena : new.arena ≡ now.arena) (timed : new.timed ≡ now.timed) (pending : new.dying.items ≡ now.dying.items)
       (ran : new.ran ≡ now.ran) where
     still_dying : (n : NodeId) → IsDying new.scopes n → IsDying now.scopes n × (n ≢ node)
     still_dying n h = (gives n).0 h
@@ -149,7 +154,7 @@ module _ (old now : Parts) (b node : NodeId) (may : MayLeave old b) (so : AreLea
         roots = roots ∙ so.rest.roots;
         heap = heap ∙ so.rest.heap;
         todo = todo ∙ so.rest.todo;
-        round = rounds_kept old.work now.work new.work so.rest.round round;
+        round = rounds_kept old.work now.work new.work so.rest.round (round_whole now.work new.work round (experts leaving_unlisted));
         pairs = ap (λ (w : Work). w.pairs) rest ∙ so.rest.pairs;
         scoped = ap (λ (w : Work). w.scoped) rest ∙ so.rest.scoped;
       };
@@ -276,6 +281,7 @@ module _ (old : Parts) (b : NodeId) (count : ℕ) (may : MayDisown old b count) 
     rows = may.points.parts;
     there = λ p h. may.points.there p (may.new p.node h).since;
     unneeded = λ p h n. may.unneeded p (may.new p.node h).since n;
+    experts = λ n h. may.experts n (may.new n h).since;
     nested = λ n s h i. (let low = may.scopes n s h in let since = (may.new s i).since in absurd (omega (arith, low, since)));
     killed = may.killed;
   }

@@ -91,6 +91,7 @@ settled_rebuilt old new roots n given root put rows graph heap rest = record {
   ran = ap (λ (w : Work). w.ran.items) rest;
   retries = ap (λ (w : Work). w.retries) rest;
   round = ap (λ (w : Work). w.round) rest;
+  experts = ap (λ (w : Work). w.experts) rest;
 }
 
 -- a bind that has no root keeps none

@@ -1,24 +1,28 @@
 -- Nodes that a bind's function added, with their points, are kept as all nodes are.
-use Rattle.std.proofs.Common.{◌≡◌, inl, inr, ◌<◌, ◌≤◌, false, Option, None, Some, refl, sym, ap, subst, ◌∙◌, arith}
+use Rattle.std.proofs.Common.{◌≡◌, inl, inr, ◌<◌, ◌≤◌, true, false, List, Option, None, Some, refl, sym, ap, subst, ◌∙◌, arith}
 use Rattle.std.specs.Prelude.{is_some, IsSome}
 use Rattle.std.proofs.lemmas.Bool.{cases_lt}
 use Rattle.std.proofs.lemmas.Option.{none-some, same_Some}
+use Rattle.inc_value.specs.Choice.{Every}
 use Rattle.inc_value.specs.declared.node.NodeId.{NodeId}
 use Rattle.inc_value.specs.declared.node.Point.{Point}
 use Rattle.inc_terms.specs.Depend.{main, change}
 use Rattle.inc_terms.specs.Graph.{Row}
 use Rattle.inc_terms.specs.Local.{Scoped}
+use Rattle.inc_terms.specs.Within.{Given}
 use Rattle.link_table.specs.Links.{Links, Reads}
 use Rattle.necessary_graph.specs.Part.{Needed}
 use Rattle.node_arena.specs.Arena.{Arena, row_at, IsLive}
 use Rattle.node_arena.specs.Sound.{IsSoundArena}
-use Rattle.node_outcomes.specs.Computing.{has_part}
+use Rattle.node_arena.specs.Typing.{FoldTakes}
+use Rattle.expert_nodes.specs.Experts.{ExpertPlace, expert_at, kids_at}
+use Rattle.node_outcomes.specs.Computing.{has_part, is_expert}
 use Rattle.node_outcomes.specs.Row.{outcome_in}
 use Rattle.node_outcomes.specs.declared.row.Progress.{Progress}
 use Rattle.point_map.specs.Rows.{at, Holds}
 use Rattle.scopes.specs.Scopes.{Scopes}
 use Rattle.wiring.specs.Graph.{graph_at, held_at}
-use Rattle.wiring.specs.Kept.{IsKept, IsDead}
+use Rattle.wiring.specs.Kept.{IsKept, IsDead, IsTop}
 use Rattle.wiring.specs.declared.work.Work.{Work}
 use Rattle.wiring.proofs.Deciding.{need_same}
 use Rattle.wiring.proofs.Holding.{built_same, right_as, died_same, ghost_same, root_same}
@@ -26,7 +30,8 @@ use Rattle.wiring.proofs.Linking.{some_or_none}
 use Rattle.stabilizer.specs.Building.{HasAdopted, HaveEntered, new_row}
 use Rattle.stabilizer.specs.Dying.{IsBindNode}
 use Rattle.stabilizer.specs.Kept.{KeepsScopes}
-use Rattle.stabilizer.proofs.Between.Typing.{KeepsTypes, typed_still, right_still}
+use Rattle.stabilizer.proofs.Between.Typing.{KeepsTypes, call_still, folds_still, listed_still, typed_still, right_still}
+use Rattle.stabilizer.proofs.Step.Experts.{kids_same, linked_as, no_expert}
 
 -- what isn't there, as a test
 pub holds_none : {A : Type 0} (x : Option A) → (IsSome x → ⊥) → x ≡ None
@@ -47,7 +52,8 @@ module _ (before arena : Arena) (old work : Work) (b : NodeId) (These : NodeId �
     (scope : (n : NodeId) (r : Row) → row_at arena n ≡ Some r → before.given ≤ n.gen_ → r.scope ≡ Some b)
     (adopted : HasAdopted arena before.given These old work)
     (all : (n : NodeId) → before.given ≤ n.gen_ → IsLive arena n → These n) (alive : (n : NodeId) → These n → IsLive arena n)
-    (since : (n : NodeId) → These n → before.given ≤ n.gen_) where
+    (since : (n : NodeId) → These n → before.given ≤ n.gen_)
+    (plain : (n : NodeId) (r : Row) → row_at arena n ≡ Some r → before.given ≤ n.gen_ → IsTop r.def → ⊥) where
   -- ---- what was there before
 
   row_older : (p : Point) → Holds old.rows p → p.node.gen_ < before.given
@@ -118,6 +124,30 @@ module _ (before arena : Arena) (old work : Work) (b : NodeId) (These : NodeId �
       let low : b.gen_ < before.given = live_older b bind.0 bind.4 in
       omega (arith, gens, low, new)
 
+  -- ---- experts
+
+  kids_now : (n : NodeId) → kids_at work.experts n ≡ kids_at old.experts n
+  kids_now = kids_same old.experts work.experts (linked_as old.experts work.experts adopted.older.round.experts)
+
+  listed_before : (n : NodeId) → Every (Given before.given) (kids_at work.experts n)
+  listed_before n = subst (λ (ns : List NodeId). Every (Given before.given) ns) (sym (kids_now n)) (kept.listed n)
+
+  none_before : (n : NodeId) → before.given ≤ n.gen_ → row_at before n ≡ None
+  none_before n new = holds_none (row_at before n) (λ h. (let g = kept.sound.given n h in absurd (omega (arith, g, new))))
+
+  new_plain : (n : NodeId) → before.given ≤ n.gen_ → is_expert (row_at arena n) ≡ false
+  new_plain n new = by (row_at arena n) refl
+    where
+      by : (x : Option Row) → row_at arena n ≡ x → is_expert x ≡ false
+      by None e = refl
+      by (Some r) e = no_expert r.def (plain n r e new)
+
+  experts_now : (n : NodeId) → is_some (expert_at work.experts n) ≡ is_expert (row_at arena n)
+  experts_now n = ap (λ (e : List ExpertPlace). is_some (expert_at e n)) adopted.older.round.experts ∙ (kept.experts n ∙ elim (cases_lt n.gen_ before.given) [
+    | inl older ↦ sym (ap is_expert (nodes n older))
+    | inr new ↦ ap is_expert (none_before n new) ∙ sym (new_plain n new)
+  ])
+
   pub grown_kept : IsKept arena work
   grown_kept = record {
     step = adopted.step;
@@ -182,7 +212,7 @@ module _ (before arena : Arena) (old work : Work) (b : NodeId) (These : NodeId �
               absurd (none-some _ (sym (ap outcome_in none) ∙ (kept.roots n had).1))
         ];
     calls = λ n r k c e is last. elim (cases_lt n.gen_ before.given) [
-      | inl older ↦ typed_still before arena more types c.result r.ty (kept.calls n r k c (was_row n r older e) (was_kept (main n) k older is) last)
+      | inl older ↦ call_still before arena more types r.def r.ty c (kept.calls n r k c (was_row n r older e) (was_kept (main n) k older is) last)
       | inr new ↦ absurd (none-some _ (sym (ap (λ (x : Progress). x.last) (unset (main n) k new is)) ∙ last))
     ];
     rounds = λ p k e. elim (cases_lt p.node.gen_ before.given) [
@@ -196,6 +226,23 @@ module _ (before arena : Arena) (old work : Work) (b : NodeId) (These : NodeId �
     scoped = λ n r e some. elim (cases_lt n.gen_ before.given) [
       | inl older ↦ adopted.lists.scoped n older (ap is_some e) (kept.scoped n r (was_row n r older e) some)
       | inr new ↦ adopted.listed.scoped n r e (all n new (ap is_some e))
+    ];
+    experts = experts_now;
+    listed = λ n. listed_still before arena more types (kids_at work.experts n) (listed_before n);
+    lists = λ n r f v ns e def. elim (cases_lt n.gen_ before.given) [
+      | inl older ↦ folds_still before arena more types r.ty (kids_at work.experts n) f.sig.takes (listed_before n)
+          (subst (λ (ks : List NodeId). FoldTakes before r.ty ks f.sig.takes) (sym (kids_now n)) (kept.lists n r f v ns (was_row n r older e) def))
+      | inr new ↦ absurd (plain n r e new (subst IsTop (sym def) tt))
+    ];
+    tops = λ n r e top. elim (cases_lt n.gen_ before.given) [
+      | inl older ↦ kept.tops n r (was_row n r older e) top
+      | inr new ↦ absurd (plain n r e new top)
+    ];
+    frozen = λ n k e flag. elim (cases_lt n.gen_ before.given) [
+      | inl older ↦
+          let h = kept.frozen n k (was_kept (main n) k older e) flag in
+          record { row = h.row; is_row = is_row n h.row h.is_row; is_freeze = h.is_freeze; value = h.value; last = h.last }
+      | inr new ↦ absurd (let x : false ≡ true = sym (ap (λ (y : Progress). y.frozen) (unset (main n) k new e)) ∙ flag in cc)
     ];
   }
 

@@ -15,6 +15,7 @@ use Rattle.inc_terms.specs.Graph as graph
 use Rattle.inc_terms.specs.Graph.{Graph, Row, Built}
 use Rattle.inc_terms.specs.Within.{Given}
 use Rattle.inc_terms.proofs.Depending.{built_for}
+use Rattle.expert_nodes.specs.Experts.{SameLinks}
 use Rattle.point_map.specs.Rows.{Rows, at, Holds, KeepsRows}
 use Rattle.link_table.specs.Links.{Links, Reads}
 use Rattle.necessary_graph.specs.Part.{IsInStep}
@@ -47,6 +48,7 @@ use Rattle.inc_terms.specs.Rebuild.{Inside}
 use Rattle.stabilizer.proofs.Building.Remade.{has_row}
 use Rattle.wiring.proofs.Staying.{rewritten_there}
 use Rattle.stabilizer.proofs.Change.Turned.{outcome_run}
+use Rattle.stabilizer.proofs.Step.Experts.{linked_as, still_experts, still_listed, still_lists}
 
 -- ---- a change is settled whose bind was built anew
 
@@ -163,7 +165,15 @@ module _ (arena : Arena) (old new : Work) (n : NodeId) (now : Outcome) (root : O
     rounds = rounds_now;
     pairs = λ m r is two. subst (λ (l : Listed). Among m l.nodes) (sym pairs) (kept.pairs m r is two);
     scoped = λ m r is in_scope. subst (λ (l : Listed). Among m l.nodes) (sym scoped) (kept.scoped m r is in_scope);
+    experts = still_experts arena old new links_as kept;
+    listed = still_listed arena old new links_as kept;
+    lists = still_lists arena old new links_as kept;
+    tops = kept.tops;
+    frozen = λ m k e flag. kept.frozen m k (sym (main_was m) ∙ e) flag;
   }
+    where
+      links_as : SameLinks old.experts new.experts
+      links_as = linked_as old.experts new.experts run.experts
 
 -- ---- room was made
 
@@ -175,7 +185,8 @@ module _ (arena : Arena) (old : Work) (deaths : Deaths) (roots : Rows NodeId) (s
   reserved = record old { deaths = deaths; roots = roots }
 
   held_reserved : held_at arena reserved ≡ held_at arena old
-  held_reserved = same_held arena old.rows old.rows old.roots roots (λ n. refl) (λ n. same_roots (change n))
+  held_reserved = same_held arena old.rows old.rows old.roots roots old.experts old.experts (λ n. refl) (λ n. same_roots (change n)) (λ n. refl)
+      (λ n. refl)
 
   -- the graph stays
   pub graph_reserved : graph_at arena reserved ≡ graph_at arena old
@@ -208,6 +219,11 @@ module _ (arena : Arena) (old : Work) (deaths : Deaths) (roots : Rows NodeId) (s
     rounds = kept.rounds;
     pairs = kept.pairs;
     scoped = kept.scoped;
+    experts = kept.experts;
+    listed = kept.listed;
+    lists = kept.lists;
+    tops = kept.tops;
+    frozen = kept.frozen;
   }
 
   -- and they stand for the same states
@@ -305,7 +321,7 @@ module _ (parts : Parts) (b : NodeId) (kept : IsKept parts.arena parts.work) whe
     roots = refl;
     heap = λ p. refl;
     todo = refl;
-    round = record { roots = refl; deaths = refl; ran = refl; retries = refl; round = refl };
+    round = record { roots = refl; deaths = refl; ran = refl; retries = refl; round = refl; experts = refl };
     ran = refl;
   }
 

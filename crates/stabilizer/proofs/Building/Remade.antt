@@ -1,5 +1,5 @@
 -- A bind's scope died and new nodes stand in it: what that is in the machine's words, and the state that the parts stand for.
-use Rattle.std.proofs.Common.{◌≡◌, ◌≢◌, ◌⊎◌, inl, inr, ℕ, ◌-◌, ◌<◌, ◌≤◌, true, false, Option, None, Some, refl, sym, ap, subst, ◌∙◌, arith, zero, suc, Bool}
+use Rattle.std.proofs.Common.{◌≡◌, ◌≢◌, ◌⊎◌, inl, inr, ℕ, ◌-◌, ◌<◌, ◌≤◌, true, false, List, [], Option, None, Some, refl, sym, ap, subst, ◌∙◌, arith, zero, suc, Bool}
 use Rattle.std.specs.Prelude.{is_some, option_map, reverse, ◌==◌}
 use Rattle.std.proofs.lemmas.Bool.{cases_lt}
 use Rattle.std.proofs.lemmas.Option.{none-some, same_Some}
@@ -8,7 +8,7 @@ use Rattle.inc_value.specs.declared.node.Part.{Part}
 use Rattle.inc_value.specs.declared.node.Part.TheVariants.{Main, Change}
 use Rattle.inc_value.specs.declared.node.Point.{Point}
 use Rattle.inc_value.specs.declared.outcome.Outcome.{Outcome}
-use Rattle.inc_value.specs.Choice.{Among}
+use Rattle.inc_value.specs.Choice.{Among, Every}
 use Rattle.inc_terms.specs.Depend.{main, change, Deaths}
 use Rattle.inc_terms.specs.Graph.{Graph, Row, Built}
 use Rattle.inc_terms.specs.Plan.{gate_of}
@@ -19,7 +19,8 @@ use Rattle.inc_terms.proofs.Plan.{among_left, among_parts}
 use Rattle.point_map.specs.Rows.{Rows, at, Holds}
 use Rattle.link_table.specs.Links.{Reads, Links, times}
 use Rattle.node_arena.specs.Arena.{row_at}
-use Rattle.node_arena.specs.Graph.{Holdings, graph_of, AllCallFit}
+use Rattle.node_arena.specs.Graph.{Holdings, HoldsGiven, graph_of, AllCallFit}
+use Rattle.expert_nodes.specs.Experts.{ExpertPlace, fresh_at, is_stale_at, kids_at}
 use Rattle.node_arena.proofs.Graph.{names_are_given}
 use Rattle.node_lists.specs.Deaths.{Deaths as Dead}
 use Rattle.stabilize_round.specs.Counts.{RoseBy}
@@ -35,15 +36,15 @@ use Rattle.stabilize_round.proofs.Planned.{looks_main}
 use Rattle.stabilize_round.proofs.Points.{node_or_other, at_same, at_other, same_or_other}
 use Rattle.node_outcomes.specs.Choosing.{built_in}
 use Rattle.node_outcomes.specs.Computing.{has_part}
-use Rattle.node_outcomes.specs.Row.{outcome_in, stage_in, stage_of, without_outcome, settled_in}
+use Rattle.node_outcomes.specs.Row.{is_full, kept_in, outcome_in, stage_in, stage_of, without_outcome, settled_in}
 use Rattle.node_outcomes.specs.declared.row.Progress.{Progress}
 use Rattle.node_outcomes.specs.declared.row.Stage.TheVariants as code
 use Rattle.wiring.specs.Graph.{held_at, died_at}
-use Rattle.wiring.specs.Kept.{IsKept}
-use Rattle.wiring.specs.Stands.{MatchesState, Counts, counts_of}
+use Rattle.wiring.specs.Kept.{IsKept, IsTop}
+use Rattle.wiring.specs.Stands.{MatchesState, Counts, counts_of, owes}
 use Rattle.wiring.specs.Turning.{IsAttached}
 use Rattle.wiring.specs.Wiring.{IsAtGate, HasMore}
-use Rattle.wiring.proofs.Agreeing.{no_freeze}
+use Rattle.wiring.proofs.Owing.{owes_partly}
 use Rattle.wiring.proofs.Ghosts.{live_rowed, dead_rowless}
 use Rattle.wiring.proofs.Holding.{dead_unbuilt, unran_unbuilt}
 use Rattle.stabilizer.specs.Building.{HasGrown, new_row}
@@ -57,6 +58,8 @@ use Rattle.necessary_graph.specs.Part.{Needed}
 use Rattle.stabilize_round.proofs.Rebuilding.{settled_kept}
 use Rattle.wiring.proofs.Deciding.{need_same}
 use Rattle.stabilizer.proofs.Building.ToBuild.{due_unsettled}
+use Rattle.stabilizer.proofs.Killing.Invalidating.{inside_scoped}
+use Rattle.stabilizer.proofs.Step.Experts.{kept_given, owes_staged, scoped_keeps_none}
 
 -- a state that parts stand for in which a bind is due and what dies with it has the links to gates alone; the parts after those deaths; and those
 -- with the nodes that were made then, whose functions are known to the round
@@ -241,6 +244,20 @@ module _ (F : Functions) (z : Start) (t : State) (b : NodeId) (now : Outcome) (c
   new_unbuilt n le = unran_unbuilt grown.arena grown.work n
       (new_outcome (at grown.work.rows (change n)) (λ k e. a.grown.fresh (change n) k (later_then n le) e))
 
+  -- a freeze keeps what it kept
+  frozen_then : (n : NodeId) → Given t.given n → kept_in (at grown.work.rows (main n)) ≡ kept_in (at cut.work.rows (main n))
+  frozen_then n g = elim (a.died.nodes n) [
+    | inl x ↦
+        let r = inside_scoped (graph_in cut) b n x.0 in
+        ap kept_in (a.grown.rows (main n) (given_then n g) ∙ a.died.gone (main n) x.0)
+        ∙ sym (scoped_keeps_none cut.arena cut.work a.kept n r.0 r.1 r.2 r.3)
+    | inr x ↦ ap kept_in (row_kept (main n) g (λ i. x.0 (inside_cut n i)) (main_change n b))
+  ]
+
+  -- and experts are as they were
+  pub experts_then : grown.work.experts ≡ cut.work.experts
+  experts_then = a.grown.round.experts ∙ a.died.experts
+
   -- who died stays so in a build
   pub died_is : (n : NodeId) → died_at grown.work n ≡ died_at died.work n
   died_is n = ap (λ (d : Dead). at d.scopes (main n)) a.grown.round.deaths
@@ -248,6 +265,8 @@ module _ (F : Functions) (z : Start) (t : State) (b : NodeId) (now : Outcome) (c
   -- ---- what is made
 
   module _ (held : Holdings) (others : (c : NodeId) → (c ≡ b → ⊥) → held.built c ≡ (held_at grown.arena grown.work).built c)
+      (keeps_frozen : (n : NodeId) → held.frozen n ≡ kept_in (at grown.work.rows (main n)))
+      (keeps_lists : (n : NodeId) → held.lists n ≡ kids_at grown.work.experts n)
       (root_given : (w : Built) (m : NodeId) → held.built b ≡ Some w → w.root ≡ Some m → Given grown.arena.given m)
       (after : Counts) (adds : RoseBy counts.adds (grown.arena.given - died.arena.given) after.adds) where
     abbrev G' : Graph
@@ -274,8 +293,8 @@ module _ (F : Functions) (z : Start) (t : State) (b : NodeId) (now : Outcome) (c
     rebuilt : Rebuilt (Given t.given) t.graph G' b
     rebuilt = record {
       clock = a.grown.time ∙ (a.died.time ∙ sym (ap (λ (G : Graph). G.now) a.stands.graph));
-      frozen = λ n g. sym (ap (λ (G : Graph). G.frozen n) a.stands.graph);
-      lists = λ n g. sym (ap (λ (G : Graph). G.lists n) a.stands.graph);
+      frozen = λ n g. keeps_frozen n ∙ (frozen_then n g ∙ sym (ap (λ (G : Graph). G.frozen n) a.stands.graph));
+      lists = λ n g. keeps_lists n ∙ (ap (λ (e : List ExpertPlace). kids_at e n) experts_then ∙ sym (ap (λ (G : Graph). G.lists n) a.stands.graph));
       rows = λ n g. rows_after n g;
       built = λ c g ne notin. others c ne ∙ elim (rows_after c g) [
         | inl h ↦ absurd (notin h.0)
@@ -410,6 +429,12 @@ module _ (F : Functions) (z : Start) (t : State) (b : NodeId) (now : Outcome) (c
       ]
     ]
 
+    given_held : HoldsGiven grown.arena.given held
+    given_held = record {
+      frozen = λ n v is. kept_given grown.arena grown.work a.lasts n v (sym (keeps_frozen n) ∙ is);
+      lists = λ n. subst (λ (ns : List NodeId). Every (Given grown.arena.given) ns) (sym (keeps_lists n)) (a.lasts.listed n);
+    }
+
     nodes : NewNodes z t b made
     nodes = record {
       number = grown.arena.given - died.arena.given;
@@ -418,11 +443,11 @@ module _ (F : Functions) (z : Start) (t : State) (b : NodeId) (now : Outcome) (c
       scope = λ n r row le. a.grown.scope n r row (later_then n le);
       unbuilt = λ n le. others n (λ e. let g = bind_given in
           let h : t.given ≤ b.gen_ = subst (λ (x : NodeId). t.given ≤ x.gen_) e le in omega (arith, g, h)) ∙ new_unbuilt n le;
-      names = (names_are_given grown.arena held z.known z.ids a.lasts.sound a.fit).1;
+      names = (names_are_given grown.arena held z.known z.ids a.lasts.sound given_held a.fit).1;
       keeps = record {
         roots = λ c w m g is root. root_within c m w g is root;
         scopes = λ n c g is. (a.lasts.dead n c is).scope_given;
-        freezes = λ n r kid f row def. absurd (no_freeze grown.arena n r kid f row def);
+        freezes = λ n r kid f row def. a.lasts.tops n r row (subst IsTop (sym def) tt);
       };
     }
 
@@ -503,12 +528,12 @@ module _ (F : Functions) (z : Start) (t : State) (b : NodeId) (now : Outcome) (c
 
     -- the state in which the bind is built for nothing
     abbrev pub bare_state : State
-    bare_state = remade t (made F z t b now cut died grown counts a (held_at grown.arena grown.work) (λ c ne. refl) no_root after adds)
+    bare_state = remade t (made F z t b now cut died grown counts a (held_at grown.arena grown.work) (λ c ne. refl) (λ n. refl) (λ n. refl) no_root after adds)
 
     -- which is a rebuild of the machine
     abbrev pub bare_anew : Rebuild F z t b now
-        (made F z t b now cut died grown counts a (held_at grown.arena grown.work) (λ c ne. refl) no_root after adds)
-    bare_anew = anew F z t b now cut died grown counts a (held_at grown.arena grown.work) (λ c ne. refl) no_root after adds
+        (made F z t b now cut died grown counts a (held_at grown.arena grown.work) (λ c ne. refl) (λ n. refl) (λ n. refl) no_root after adds)
+    bare_anew = anew F z t b now cut died grown counts a (held_at grown.arena grown.work) (λ c ne. refl) (λ n. refl) (λ n. refl) no_root after adds
 
     settled_if : (p : Point) (x : Bool) → t.settled p ≡ x → t.settled p ≡ settled_in grown.work.round (at grown.work.rows p)
     settled_if p true is =
@@ -576,6 +601,25 @@ module _ (F : Functions) (z : Start) (t : State) (b : NodeId) (now : Outcome) (c
     counts_as = ap (λ (c : ℕ). record { calls = c; builds = after.builds; adds = after.adds })
         (ap (λ (c : Counts). c.calls) a.stands.counts ∙ sym calls)
 
+    -- nobody is owed anything
+    owes_as : (p : Point) → stage_in (at grown.work.rows p) ≡ stage_in (at cut.work.rows p) → owes grown.work (t.needed p) p ≡ []
+    owes_as p same = owes_staged cut.work grown.work (t.needed p) p same
+        (ap (λ (e : List ExpertPlace). fresh_at e p.node) (experts_then F z t b now cut died grown counts a))
+        ∙ (sym (a.stands.owed p) ∙ a.holds.rows.owed p (a.quiet p))
+
+    owes_row : (p : Point) (k : Progress) → at grown.work.rows p ≡ Some k → IsRowAfter t b cut p k → owes grown.work (t.needed p) p ≡ []
+    owes_row p k e (new le is) = owes_partly grown.work (t.needed p) p (ap (λ (x : Option Progress). is_full (stage_in x)) (e ∙ ap (λ (y : Progress). Some y) is))
+    owes_row p k e (own {j} at_b row is) = owes_as p (ap stage_in (e ∙ ap (λ (y : Progress). Some y) is)
+        ∙ sym (ap stage_in (subst (λ (x : Point). at cut.work.rows x ≡ Some j) at_b row)))
+    owes_row p k e (kept lt notin ne row) = owes_as p (ap stage_in (e ∙ sym row))
+
+    owes_now : (p : Point) → owes grown.work (t.needed p) p ≡ []
+    owes_now p = by (at grown.work.rows p) refl
+      where
+        by : (x : Option Progress) → at grown.work.rows p ≡ x → owes grown.work (t.needed p) p ≡ []
+        by None e = owes_partly grown.work (t.needed p) p (ap (λ (y : Option Progress). is_full (stage_in y)) e)
+        by (Some k) e = owes_row p k e (row_case p k e)
+
     -- the parts stand for it
     pub bare_stands : MatchesState grown.arena grown.work after None bare_state
     bare_stands = record {
@@ -583,7 +627,7 @@ module _ (F : Functions) (z : Start) (t : State) (b : NodeId) (now : Outcome) (c
       out = λ p k e. out_is p k (row_case p k e);
       last = λ n k e. last_is n k (row_case (main n) k e);
       cutoff = λ n k e. cutoff_is n k (row_case (main n) k e);
-      stale = a.stands.stale;
+      stale = λ n. a.stands.stale n ∙ sym (ap (λ (e : List ExpertPlace). is_stale_at e n) (experts_then F z t b now cut died grown counts a));
       links = λ p q. a.stands.links p q ∙ ap (λ (l : Links). times l p q) (sym links_as);
       root = λ p. a.stands.root p ∙ ap (λ (r : Roots). root_times r p) (sym roots_as);
       needed = λ p. ((λ h. needed_now p ((a.stands.needed p).0 h)), (λ n. (a.stands.needed p).1 (needed_cut p n)));
@@ -591,7 +635,7 @@ module _ (F : Functions) (z : Start) (t : State) (b : NodeId) (now : Outcome) (c
       heap = λ p. refl;
       settled = λ p. settled_if p (t.settled p) refl;
       stage = λ p k e. stage_is p k (row_case p k e);
-      owed = a.stands.owed;
+      owed = λ p. a.holds.rows.owed p (a.quiet p) ∙ sym (owes_now p);
       todo = λ p td. absurd (let q = a.quiet p in cc);
       retries = a.stands.retries ∙ sym (a.grown.round.retries ∙ a.died.retries);
       died = λ n. refl;

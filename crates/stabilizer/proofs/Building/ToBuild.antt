@@ -168,7 +168,7 @@ module _ (F : Functions) (z : Start) (s : State) (inv : Invariant F z s) (quiet 
     changed : (w : Built) → s.graph.built b ≡ Some w → w.outcome ≡ now → ⊥
     changed w is same =
         let e : built_by to.row.def (outcome_in (at W.rows (change b))) (at W.roots (change b)) ≡ Some w =
-        sym (built_live W.rows W.roots b old.arena to.row to.is_row) ∙ (sym (ap (λ (G : Graph). G.built b) st.graph) ∙ is) in
+        sym (built_live W.rows W.roots b old.arena W.experts to.row to.is_row) ∙ (sym (ap (λ (G : Graph). G.built b) st.graph) ∙ is) in
         let o = (built_parts to.row.def (outcome_in (at W.rows (change b))) (at W.roots (change b)) w e).0 in
         to.differs (ap (λ (m : Rows Progress). outcome_in (at m (change b))) rows_as ∙ (o ∙ ap (λ (x : Outcome). Some x) same))
 

@@ -6,7 +6,7 @@ use Rattle.inc_value.specs.Choice.{Among}
 use Rattle.inc_value.specs.declared.function.FnKind.TheVariants.{Rhs}
 use Rattle.inc_value.specs.declared.function.FnRef.{FnRef}
 use Rattle.inc_value.specs.declared.node.NodeId.{NodeId}
-use Rattle.inc_terms.specs.Graph.{Row, Def, Bind}
+use Rattle.inc_terms.specs.Graph.{Row, Def, Bind, Expert, Freeze}
 use Rattle.inc_terms.specs.Within.{DefWithin, KnownAs}
 use Rattle.node_arena.specs.Arena.{Arena, row_at, IsLive}
 use Rattle.node_arena.specs.Building.{building_in, Grows, Weighed, Weighs}
@@ -75,6 +75,8 @@ module _ (known : FnRef → Bool) (right : FnRef → RightSide) (hold : SidesHol
       let same : (right h.0.function).size ≡ (right g).size = ap (λ (k : FnRef). (right k).size) h.2 in
       let most = h.3 in
       omega (arith, size, same, most)
+  weighs (Freeze kid g) w h = absurd h
+  weighs (Expert g v ns) w h = absurd h
   weighs _ w h = h
 
   module _ (b : NodeId) (a built : Arena) (sound : IsSoundArena a) (live : IsLive a b) (empty : IsEmpty a b)

@@ -147,6 +147,10 @@ module _ (old : Parts) (work : Work) (rest : work ≡ record old.work { todo = w
     clock = kept.clock;
   }
 
+-- where the graph alone is another, the round is the same
+pub graph_round : (old new : Work) → new ≡ record old { graph = new.graph } → new.round ≡ old.round
+graph_round old new rest = ap (λ (w : Work). w.round) rest
+
 -- ---- another worklist, other links
 
 -- of the parts the work is another that is kept

@@ -165,12 +165,12 @@ module _ (s : State) (n : NodeId) where
 -- ---- the parts stand for the state in which the change is settled
 
 module _ (s : State) (arena : Arena) (old new : Work) (counts : Counts) (st : MatchesState arena old counts None s) (n : NodeId) (given : Outcome)
-    (there : Holds old.rows (change n)) (run : IsRunOn old new n given) (same : graph_at arena new ≡ graph_at arena old)
+    (idle : s.owed (main n) ≡ []) (there : Holds old.rows (change n)) (run : IsRunOn old new n given) (same : graph_at arena new ≡ graph_at arena old)
     (listed : (a : Point) → waits s n a ≡ true → Among a new.todo.items ⊎ (a ≡ main n)) where
   pub run_stands : MatchesState arena new counts (Some (hand (main n) [])) (changed s n given (waits s n))
   run_stands =
       let settles : LeavesSettled old new n given = assumption (run, run.round) in
-      settled_stands s arena old new counts st n given there settles s.graph (st.graph ∙ sym same) (waits s n) listed
+      settled_stands s arena old new counts st n given idle there settles s.graph (st.graph ∙ sym same) (waits s n) listed
 
 -- ---- a main that was detached, whatever the worklist
 
@@ -285,6 +285,7 @@ module _ (M : Meaning) (old turned : Parts) (n : NodeId) (counts : Counts) (all 
     ran = ap (λ (w : Work). w.ran.items) t.rest;
     retries = ap (λ (w : Work). w.retries) t.rest;
     round = ap (λ (w : Work). w.round) t.rest;
+    experts = ap (λ (w : Work). w.experts) t.rest;
   }
 
   todo_last : turned.work.todo.items ≡ m.woken.todo.items
@@ -304,13 +305,21 @@ module _ (M : Meaning) (old turned : Parts) (n : NodeId) (counts : Counts) (all 
           ran = round_last.ran ∙ ap (λ (w : Work). w.ran.items) k.0;
           retries = round_last.retries ∙ ap (λ (w : Work). w.retries) k.0;
           round = round_last.round ∙ ap (λ (w : Work). w.round) k.0;
+          experts = round_last.experts ∙ ap (λ (w : Work). w.experts) k.0;
         })
         F z s counts st (elim k.1 [ inl e ↦ inl e | inr not ↦ inr (λ a. not (record { needed = a.needed; stage = a.stage })) ]) idle least
     | inr k ↦ ready_loose arena whole (record t.mid { todo = old.work.todo }) g n m.row m.subject whole_kept m.is_row m.is_subject whole_in refl taken_out
         (record { needed = k.1.needed; stage = k.1.stage })
         (detached_frame whole g m.woken t.mid n (right_in old.work.rows old.work.roots n m.row.def) k.0)
         F z s counts inv st m.given seen_now k.2 turned.work t.rows graph_last
-        (record { roots = round_last.roots; deaths = round_last.deaths; ran = round_last.ran; retries = round_last.retries; round = round_last.round })
+        (record {
+          roots = round_last.roots;
+          deaths = round_last.deaths;
+          ran = round_last.ran;
+          retries = round_last.retries;
+          round = round_last.round;
+          experts = round_last.experts;
+        })
         idle least
   ]
 
@@ -347,7 +356,7 @@ module _ (M : Meaning) (old turned : Parts) (n : NodeId) (counts : Counts) (all 
       by_def d e = tt
 
   graph_same : graph_at arena turned.work ≡ graph_at arena k.work
-  graph_same = graph_run arena k.work turned.work n m.given k.work.round k.run.rows k.run.round.roots (λ x l f caps row is.
+  graph_same = graph_run arena k.work turned.work n m.given k.work.round k.run.rows k.run.round.roots k.run.round.experts (λ x l f caps row is.
       let same : m.row ≡ x = same_Some m.row x (sym m.is_row ∙ row) in
       ap outcome_in k.own ∙ m.built l f caps (ap (λ (y : Row). y.def) same ∙ is))
 
@@ -374,7 +383,7 @@ module _ (M : Meaning) (old turned : Parts) (n : NodeId) (counts : Counts) (all 
     reads : Reads old.work.graph.links a (change n)
     reads =
         let l = r_inv.rows.links a (change n) need in
-        let o : count (change n) (r.owed a) ≡ 0 = ap (count (change n)) (k.stands.owed a) in
+        let o : count (change n) (r.owed a) ≡ 0 = ap (count (change n)) (r_inv.rows.owed a (r_quiet a)) in
         let p : count (change n) (planned r a) ≡ one (change n) (change n) + 0 = ap (count (change n)) planned_is in
         let w = one_same (change n) in
         let h = k.stands.links a (change n) in
@@ -433,10 +442,10 @@ module _ (M : Meaning) (old turned : Parts) (n : NodeId) (counts : Counts) (all 
     holds = moves_keep F z r after (step it here) r_inv;
     taken = refl;
     scope = scope_stands;
-    stands = run_stands r arena k.work turned.work counts k.stands n m.given there k.run graph_same listed;
+    stands = run_stands r arena k.work turned.work counts k.stands n m.given (r_inv.rows.owed (main n) (r_quiet (main n))) there k.run graph_same listed;
     only = λ h. let w = woken_awaits r n (main n) h in (w.0, only_static w);
     wakes = λ need stage. awaits_woken r n (main n) (need, inl (refl, stage));
-    unlinked = λ a h need. let w = woken_awaits r n a h in elim w.1 [ inl own ↦ inr (inr own.0) | inr c ↦ inr (inl c.3) ];
+    unlinked = λ a h need. let w = woken_awaits r n a h in elim w.1 [ inl own ↦ inr (inr (inl own.0)) | inr c ↦ inr (inl c.3) ];
   }
 
   turns_so : (r' t' : State) × Reaches (Preparing F z (change n)) s r' × (x : Move F z r' t') × Settles (change n) x

@@ -20,9 +20,10 @@ use Rattle.necessity.specs.Need.{root_times, KeepsRoots, Roots}
 use Rattle.necessary_graph.specs.Part.{Needed}
 use Rattle.node_arena.specs.Arena.{Arena, row_at}
 use Rattle.node_arena.specs.Typing.{Fits}
+use Rattle.expert_nodes.specs.Experts.{ExpertPlace, SameLinks, fresh_at, is_stale_at, kids_at}
 use Rattle.node_outcomes.specs.Choosing.{built_by, right_in, built_in}
 use Rattle.node_outcomes.specs.Computing.{seen, seen_of, has_part}
-use Rattle.node_outcomes.specs.Row.{IsRewritten, with_outcome, with_stage, outcome_in, settled_in, stage_of}
+use Rattle.node_outcomes.specs.Row.{IsRewritten, with_outcome, with_stage, kept_in, outcome_in, settled_in, stage_in, stage_of}
 use Rattle.node_outcomes.specs.declared.row.Progress.{Progress}
 use Rattle.node_outcomes.specs.declared.row.Stage.TheVariants as code
 use Rattle.node_outcomes.proofs.Held.{built_live}
@@ -47,8 +48,8 @@ use Rattle.stabilize_round.specs.Moves.{changed}
 use Rattle.height_order.specs.Levels.{level}
 use Rattle.stabilize_round.specs.State.{State, at_point}
 use Rattle.stabilizer.proofs.Step.Carrying.{needed_now, needed_before}
-use Rattle.wiring.proofs.InHand.{nothing}
-use Rattle.wiring.specs.Stands.{MatchesState, hand, Counts}
+use Rattle.wiring.specs.Stands.{MatchesState, hand, Counts, debts}
+use Rattle.stabilizer.proofs.Step.Experts.{linked_as, still_experts, still_listed, still_lists, fired_still, owes_staged}
 
 -- ---- the graph that is told
 
@@ -66,6 +67,7 @@ run_outcome given round (Some k) e = sym e
 -- it stays, where a bind was built for the outcome already
 module _ (arena : Arena) (old new : Work) (n : NodeId) (given : Outcome) (round : ℕ)
     (rows : IsRewritten old.rows new.rows (change n) (with_outcome given round)) (roots : new.roots ≡ old.roots)
+    (experts : new.experts ≡ old.experts)
     (ran : (r : Row) (l : NodeId) (f : FnRef) (captures : List NodeId) → row_at arena n ≡ Some r → r.def ≡ graph.Bind l f captures
     → outcome_in (at old.rows (change n)) ≡ Some given) where
   outcome_now : outcome_in (at old.rows (change n)) ≡ Some given → outcome_in (at new.rows (change n)) ≡ outcome_in (at old.rows (change n))
@@ -93,7 +95,13 @@ module _ (arena : Arena) (old new : Work) (n : NodeId) (given : Outcome) (round 
       ]
 
   pub graph_run : graph_at arena new ≡ graph_at arena old
-  graph_run = ap (λ (b : NodeId → Option Built). graph_of arena (record { built = b })) (fun_ext built_as)
+  graph_run =
+      ap (λ (b : NodeId → Option Built). graph_of arena (record { built = b; frozen = λ m. kept_in (at new.rows (main m)); lists = kids_at new.experts }))
+      (fun_ext built_as)
+      ∙ (ap (λ (k : NodeId → Option Value). graph_of arena (record { built = (held_at arena old).built; frozen = k; lists = kids_at new.experts }))
+      (fun_ext (λ m. ap kept_in (rows.others (main m) (main_change m n))))
+      ∙ ap (λ (e : List ExpertPlace). graph_of arena (record { built = (held_at arena old).built; frozen = λ m. kept_in (at old.rows (main m)); lists = kids_at e }))
+      experts)
 
 -- ---- rows
 
@@ -115,6 +123,11 @@ pub record LeavesSettled (old new : Work) (n : NodeId) (given : Outcome) : Type 
   pub ran : new.ran.items ≡ old.ran.items
   pub retries : new.retries ≡ old.retries
   pub round : new.round ≡ old.round
+  pub experts : new.experts ≡ old.experts
+
+run_stage : (given : Outcome) (round : ℕ) (x : Option Progress) → stage_in (option_map (with_outcome given round) x) ≡ stage_in x
+run_stage given round None = refl
+run_stage given round (Some k) = refl
 
 -- a row that was settled so keeps all but its outcome and its round
 run_row : (given : Outcome) (round : ℕ) (x : Option Progress) (k : Progress) → option_map (with_outcome given round) x ≡ Some k
@@ -123,7 +136,7 @@ run_row given round None k e = absurd (none-some k e)
 run_row given round (Some j) k e = (j, refl, sym (same_Some _ k e))
 
 module _ (s : State) (arena : Arena) (old new : Work) (counts : Counts) (st : MatchesState arena old counts None s) (n : NodeId) (given : Outcome)
-    (there : Holds old.rows (change n)) (run : LeavesSettled old new n given) (G : Graph) (told : G ≡ graph_at arena new) (woken : Point → Bool)
+    (idle : s.owed (main n) ≡ []) (there : Holds old.rows (change n)) (run : LeavesSettled old new n given) (G : Graph) (told : G ≡ graph_at arena new) (woken : Point → Bool)
     (listed : (a : Point) → woken a ≡ true → Among a new.todo.items ⊎ (a ≡ main n)) where
   other_row : (a : Point) (k : Progress) → (change n ≡ a → ⊥) → at new.rows a ≡ Some k → at old.rows a ≡ Some k
   other_row a k ne e = sym (run.rows.others a (λ h. ne (sym h))) ∙ e
@@ -135,6 +148,16 @@ module _ (s : State) (arena : Arena) (old new : Work) (counts : Counts) (st : Ma
       → (j : Progress) × (at old.rows (change n) ≡ Some j) × (k ≡ with_outcome given old.round j)
   before k e = run_row given old.round (at old.rows (change n)) k (sym run.rows.changed ∙ e)
 
+  stage_stays : (a : Point) → stage_in (at new.rows a) ≡ stage_in (at old.rows a)
+  stage_stays a = elim (same_or_other (change n) a) [
+    | inl h ↦ subst (λ (x : Point). stage_in (at new.rows x) ≡ stage_in (at old.rows x)) h
+        (ap stage_in run.rows.changed ∙ run_stage given old.round (at old.rows (change n)))
+    | inr ne ↦ ap stage_in (run.rows.others a (λ h. ne (sym h)))
+  ]
+
+  owes_still : (a : Point) → debts new s.needed a ≡ debts old s.needed a
+  owes_still a = owes_staged old new (s.needed a) a (stage_stays a) (ap (λ (e : List ExpertPlace). fresh_at e a.node) run.experts)
+
   pub settled_stands : MatchesState arena new counts (Some (hand (main n) [])) (changed (record s { graph = G }) n given woken)
   settled_stands = record {
     graph = told;
@@ -145,7 +168,7 @@ module _ (s : State) (arena : Arena) (old new : Work) (counts : Counts) (st : Ma
     ];
     last = λ m k e. st.last m k (main_row_still m k e);
     cutoff = λ m k e. st.cutoff m k (main_row_still m k e);
-    stale = st.stale;
+    stale = λ m. st.stale m ∙ ap (λ (e : List ExpertPlace). is_stale_at e m) (sym run.experts);
     links = λ a b. st.links a b ∙ ap (λ (l : Links). times l a b) (sym run.graph.links);
     root = λ a. st.root a ∙ ap (λ (r : Roots). root_times r a) (sym run.graph.roots);
     needed = λ a. (
@@ -171,9 +194,9 @@ module _ (s : State) (arena : Arena) (old new : Work) (counts : Counts) (st : Ma
           (let b = before k (subst (λ (x : Point). at new.rows x ≡ Some k) (sym h) e) in st.stage (change n) b.0 b.1 ∙ sym (ap (λ (y : Progress). stage_of y.stage) b.2))
       | inr ne ↦ st.stage a k (other_row a k ne e)
     ];
-    owed = λ a. st.owed a ∙ elim (same_or_other (main n) a) [
-      | inl h ↦ subst (λ (x : Point). [] ≡ at_point (main n) [] nothing x) h (sym (at_same (main n) [] nothing))
-      | inr ne ↦ sym (at_other (main n) [] nothing a ne)
+    owed = λ a. elim (same_or_other (main n) a) [
+      | inl h ↦ subst (λ (x : Point). s.owed x ≡ at_point (main n) [] (debts new s.needed) x) h (idle ∙ sym (at_same (main n) [] (debts new s.needed)))
+      | inr ne ↦ st.owed a ∙ (sym (owes_still a) ∙ sym (at_other (main n) [] (debts new s.needed) a ne))
     ];
     todo = listed;
     retries = st.retries ∙ sym run.retries;
@@ -215,6 +238,12 @@ module _ (arena : Arena) (taken mid : Work) (todo : Vec Point Global) (n : NodeI
   deaths_are : mid.deaths ≡ taken.deaths
   deaths_are = ap (λ (w : Work). w.deaths) loose.last ∙ ap (λ (w : Work). w.deaths) loose.rest
 
+  experts_are : mid.experts ≡ taken.experts
+  experts_are = ap (λ (w : Work). w.experts) loose.last ∙ ap (λ (w : Work). w.experts) loose.rest
+
+  links_are : SameLinks taken.experts mid.experts
+  links_are = linked_as taken.experts mid.experts experts_are
+
   lists_are : KeepsLists taken mid
   lists_are = record {
     pairs = ap (λ (w : Work). w.pairs) loose.last ∙ ap (λ (w : Work). w.pairs) loose.rest;
@@ -235,7 +264,7 @@ module _ (arena : Arena) (taken mid : Work) (todo : Vec Point Global) (n : NodeI
   ]
 
   graph_same : graph_at arena mid ≡ graph_at arena taken
-  graph_same = graph_staged arena taken mid (main n) code.Static rows_are roots_are
+  graph_same = graph_staged arena taken mid (main n) code.Static rows_are roots_are (λ m. ap (λ (e : List ExpertPlace). kids_at e m) experts_are)
 
   heights_now : (a : Point) → (at mid.graph.heights a ≡ at taken.graph.heights a)
       ⊎ ((is_some (at mid.rows a) ≡ false) × (at mid.graph.heights a ≡ None))
@@ -313,6 +342,12 @@ module _ (arena : Arena) (taken mid : Work) (todo : Vec Point Global) (n : NodeI
         let s = b.settled in let q = round_is in omega (arith, x, s, q);
     pairs = λ m x row some. pairs_same taken mid lists_are m (kept.pairs m x row some);
     scoped = λ m x row some. scoped_same taken mid lists_are m (kept.scoped m x row some);
+    experts = still_experts arena taken mid links_are kept;
+    listed = still_listed arena taken mid links_are kept;
+    lists = still_lists arena taken mid links_are kept;
+    tops = kept.tops;
+    frozen = λ m y e flag. let b = row_before taken.rows mid.rows (main n) code.Static rows_are (main m) y e in
+        fired_still arena m b.row y b.last (kept.frozen m b.row b.was (sym b.frozen ∙ flag));
   }
 
 -- ---- the change is settled
@@ -351,7 +386,7 @@ module _ (arena : Arena) (mid : Work) (rows : Rows Progress) (n s : NodeId) (r :
   ran_live x l f captures row is = ran l f captures (ap (λ (y : Row). y.def) (same_Some r x (sym live ∙ row)) ∙ is)
 
   graph_run_same : graph_at arena new ≡ graph_at arena mid
-  graph_run_same = graph_run arena mid new n given mid.round run refl ran_live
+  graph_run_same = graph_run arena mid new n given mid.round run refl refl ran_live
 
   row_of : (x : Option Progress) → at mid.rows (change n) ≡ x → is_some x ≡ true → (y : Progress) × (at mid.rows (change n) ≡ Some y)
   row_of None e h = absurd (cc)
@@ -364,7 +399,7 @@ module _ (arena : Arena) (mid : Work) (rows : Rows Progress) (n s : NodeId) (r :
         let y = row_of (at mid.rows (change n)) refl own_row in
         kept.rights n i r y.0 given live y.1 (ap outcome_in (sym y.1) ∙ ran b.0 b.1 b.2 b.3) right
     | inr not ↦ right_fits arena (held_at arena mid) (held_at arena mid) mid.rows (types_kept arena mid kept) kept.sound n s i r given live sub shows
-        (λ w built. absurd (none-some w (sym (built_live mid.rows mid.roots n arena r live
+        (λ w built. absurd (none-some w (sym (built_live mid.rows mid.roots n arena mid.experts r live
         ∙ not_built r.def (outcome_in (at mid.rows (change n))) (at mid.roots (change n)) not) ∙ built))) right
   ]
 
@@ -427,6 +462,11 @@ module _ (arena : Arena) (mid : Work) (rows : Rows Progress) (n s : NodeId) (r :
     ];
     pairs = kept.pairs;
     scoped = kept.scoped;
+    experts = kept.experts;
+    listed = kept.listed;
+    lists = kept.lists;
+    tops = kept.tops;
+    frozen = λ m y e flag. kept.frozen m y (sym (main_row m) ∙ e) flag;
   }
 
 -- ---- the whole turn

@@ -109,6 +109,7 @@ module _ (old : Parts) (b : NodeId) (kept : PartsKept old) (there : Holds old.wo
         ran = ap (λ (w : Work). w.ran.items) work_before;
         retries = ap (λ (w : Work). w.retries) work_before;
         round = ap (λ (w : Work). w.round) work_before;
+        experts = ap (λ (w : Work). w.experts) work_before;
       };
     }
 

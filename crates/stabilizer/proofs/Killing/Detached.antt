@@ -11,6 +11,7 @@ use Rattle.inc_terms.specs.Depend.{main, change, subject_of, fixed_reads, at_mos
 use Rattle.inc_terms.specs.Graph.{Graph, Row}
 use Rattle.inc_terms.specs.Plan.{targets, gate_of}
 use Rattle.inc_terms.specs.Term.{Functions}
+use Rattle.expert_nodes.specs.Experts.{fresh_at}
 use Rattle.point_map.specs.Rows.{Rows, at, Holds}
 use Rattle.link_table.specs.Links.{Links, times, Reads}
 use Rattle.height_order.specs.Levels.{level, Ends, Rises, AllLow}
@@ -23,7 +24,7 @@ use Rattle.stabilize_round.specs.Steps.{TakingOff}
 use Rattle.stabilize_round.specs.Wire.{Drop}
 use Rattle.stabilize_round.proofs.Points.{same_or_other, count_append, among_count}
 use Rattle.node_outcomes.specs.Choosing.{right_in}
-use Rattle.node_outcomes.specs.Computing.{has_part}
+use Rattle.node_outcomes.specs.Computing.{AreExperts, has_part}
 use Rattle.node_outcomes.specs.Row.{stage_in, stage_of, outcome_in, with_stage}
 use Rattle.node_outcomes.specs.declared.row.Progress.{Progress}
 use Rattle.node_outcomes.specs.declared.row.Stage.TheVariants as code
@@ -39,7 +40,9 @@ use Rattle.wiring.proofs.Detaching.{change_is_other, attached_still}
 use Rattle.wiring.proofs.Scheduling.{marked_kept, marked_places, marked_need}
 use Rattle.wiring.proofs.TakingOff.{MayLower, scheduled, row_at_stage, takes, stands_off}
 use Rattle.wiring.proofs.TakingOne.{loose_lowered, one_taken}
+use Rattle.wiring.proofs.Owing.{owes_none}
 use Rattle.stabilizer.specs.Dying.{LosesRight}
+use Rattle.stabilizer.proofs.Step.Experts.{pair_plain, plain_fresh}
 
 some_of : (x : Option NodeId) → is_some x ≡ true → (m : NodeId) × (x ≡ Some m)
 some_of None e = absurd (cc)
@@ -51,7 +54,8 @@ module _ (arena : Arena) (old new : Work) (n k : NodeId) (r : Row) (row : row_at
     (own_row : Holds old.rows (change n)) (attached : IsAttached old n) (right : right_in old.rows old.roots n r.def ≡ None)
     (marked : IsMarked old.graph old.graph (change n)) (chosen : Option NodeId) (loose : IsDetached old new n chosen)
     (same : new.graph ≡ loose.mid.graph) (step_old : IsInStep old.graph) (step_new : IsInStep new.graph) (F : Functions) (z : Start) (s : State)
-    (counts : Counts) (inv : Invariant F z s) (st : MatchesState arena old counts None s) (unsettled : s.settled (change n) ≡ false) where
+    (counts : Counts) (inv : Invariant F z s) (st : MatchesState arena old counts None s) (unsettled : s.settled (change n) ≡ false)
+    (unlisted : fresh_at old.experts n ≡ []) where
   alone_back : IsLowered old new (main n) (change n) code.Static loose.mid.graph.links
   alone_back = lowered_alone old old loose.mid new (main n) (change n) code.Static step_old marked refl loose.enqueued loose.rest loose.rows
       loose.last same step_new
@@ -87,7 +91,7 @@ module _ (arena : Arena) (old new : Work) (n k : NodeId) (r : Row) (row : row_at
   linked_all : (b : Point) → times old.graph.links (main n) b ≡ count b static_plan
   linked_all b =
       let l = inv.rows.links (main n) b alone_need in
-      let o : count b (s.owed (main n)) ≡ 0 = ap (count b) (st.owed (main n)) in
+      let o : count b (s.owed (main n)) ≡ 0 = ap (count b) (st.owed (main n) ∙ owes_none old (s.needed (main n)) (main n) unlisted) in
       let p : planned s (main n) ≡ gate_of r.scope ++ (fixed_reads s.graph n r.def Main ++ targets s.graph n r.def (s.out (change n))) =
       ap (λ (x : Option Row). plan_at s.graph s.out s.died (main n) x (s.stage (main n))) alone_row
       ∙ ap (λ (x : machine.Stage). live_plan s.graph s.out (main n) r x) alone_full in
@@ -305,11 +309,13 @@ module _ (arena : Arena) (old new : Work) (b : NodeId) (lost : LosesRight arena 
     with_right : (x : IsDetached mid new b chosen_right) → IsAttached old b → (m : NodeId) → chosen_right ≡ Some m → Detaches
     with_right x a m e = one_taken arena mid mid new b lost.row subject.0 m lost.is_row subject.1 there_mid (attached_mid a)
         (sym (st.settled (change b)) ∙ unsettled) (right_mid ∙ e) marked_self refl
-        (subst (λ (o : Option NodeId). IsDetached mid new b o) (sym right_mid) x) (step_mid x) lost.step F z s counts None inv tt st
+        (subst (λ (o : Option NodeId). IsDetached mid new b o) (sym right_mid) x) (step_mid x) lost.step
+        (subst (λ (w : Work). AreExperts arena w.experts) (sym mid_rest) kept.experts) F z s counts None inv tt st
 
     without_right : (x : IsDetached mid new b None) → (step : IsInStep mid.graph) → IsAttached old b → chosen_right ≡ None → Detaches
     without_right x step a e = alone_taken arena mid new b subject.0 lost.row lost.is_row subject.1 there_mid (attached_mid a) (right_mid ∙ e)
         marked_self None x x.off step lost.step F z s counts inv st unsettled
+        (ap (λ (w : Work). fresh_at w.experts b) mid_rest ∙ plain_fresh arena old kept b lost.row lost.is_row (pair_plain lost.row.def subject.0 subject.1))
 
     by_right : (x : IsDetached mid new b chosen_right) → IsAttached old b → (o : Option NodeId) → chosen_right ≡ o → Detaches
     by_right x a None e = without_right (subst (λ (y : Option NodeId). IsDetached mid new b y) e x) (step_mid x) a e

@@ -6,7 +6,7 @@ use Rattle.inc_value.specs.declared.node.NodeId.{NodeId}
 use Rattle.inc_value.specs.declared.node.Part.TheVariants.{Main}
 use Rattle.inc_value.specs.declared.node.Point.{Point}
 use Rattle.inc_value.specs.declared.outcome.Outcome.{Outcome}
-use Rattle.inc_value.specs.Choice.{Among, NoRepeats}
+use Rattle.inc_value.specs.Choice.{Among, Every, NoRepeats}
 use Rattle.inc_terms.specs.Depend.{main, change, subject_of}
 use Rattle.inc_terms.specs.Graph as graph
 use Rattle.inc_terms.specs.Graph.{Row}
@@ -17,7 +17,9 @@ use Rattle.link_table.specs.Links.{Links, Reads}
 use Rattle.necessary_graph.specs.Part.{NecessaryPart, Needed, IsInStep}
 use Rattle.node_arena.specs.Arena.{Arena, row_at}
 use Rattle.node_outcomes.specs.Choosing.{built_in}
-use Rattle.node_outcomes.specs.Computing.{has_part}
+use Rattle.node_arena.specs.Typing.{FoldTakes}
+use Rattle.expert_nodes.specs.Experts.{ExpertPlace, expert_at, kids_at}
+use Rattle.node_outcomes.specs.Computing.{has_part, is_expert}
 use Rattle.node_outcomes.specs.Row.{IsRewritten, without_outcome, settled_in, outcome_in}
 use Rattle.node_outcomes.specs.declared.row.Progress.{Progress}
 use Rattle.scopes.specs.Scopes.{Scopes, StandsIn}
@@ -36,7 +38,8 @@ use Rattle.stabilizer.specs.Dying.{AreDying, AreListed, MayForget, AreForgotten,
 use Rattle.stabilizer.specs.Kept.{PartsKept, KeepsScopes, graph_in}
 use Rattle.stabilizer.specs.declared.parts.Parts.{Parts}
 use Rattle.stabilizer.proofs.Killing.ForgettingAll.{not_none}
-use Rattle.stabilizer.proofs.Between.Typing.{KeepsTypes, typed_still, right_still}
+use Rattle.stabilizer.proofs.Between.Typing.{KeepsTypes, call_still, folds_still, listed_still, typed_still, right_still}
+use Rattle.stabilizer.proofs.Step.Experts.{no_expert, scoped_plain}
 use Rattle.std.specs.List.{slice_get}
 use Rattle.std.proofs.lemmas.Bool.{cases_lt}
 use Rattle.node_lists.specs.Deaths.{Deaths}
@@ -370,6 +373,7 @@ module _ (old : Parts) (listed forgot : Work) (b : NodeId) (nodes : List NodeId)
       called = forgotten.ran ∙ (ap (λ (w : Work). w.ran.items) rest ∙ ap (λ (w : Work). w.ran.items) list.rest);
       retries = forgotten.retries ∙ (ap (λ (w : Work). w.retries) rest ∙ ap (λ (w : Work). w.retries) list.rest);
       round = forgotten.round ∙ round_is;
+      experts = forgotten.experts ∙ (ap (λ (w : Work). w.experts) rest ∙ ap (λ (w : Work). w.experts) list.rest);
       ran = ran;
     }
 
@@ -537,7 +541,7 @@ module _ (old new : Parts) (b : NodeId) (kept : IsKept old.arena old.work) (d : 
                 (sym (ap is_some (d.roots (change n) was.0 (λ y. other (ap (λ (z : Point). z.node) y)))) ∙ h)
           ];
       calls = λ n r k c e is last. let was = lived n r e in
-          typed_still old.arena new.arena more types c.result r.ty (kept.calls n r k c was.1 (sym (main_now n was.0) ∙ is) last);
+          call_still old.arena new.arena more types r.def r.ty c (kept.calls n r k c was.1 (sym (main_now n was.0) ∙ is) last);
       rounds = λ p k e.
           let no_ = row_outside p (ap is_some e) in
           subst (λ (m : ℕ). k.settled ≤ m) (sym d.round) (elim (same_or_other p (change b)) [
@@ -547,7 +551,29 @@ module _ (old new : Parts) (b : NodeId) (kept : IsKept old.arena old.work) (d : 
           ]);
       pairs = λ n r e some. subst (λ (ns : List NodeId). Among n ns) (sym d.pairs) (kept.pairs n r (lived n r e).1 some);
       scoped = λ n r e some. subst (λ (ns : List NodeId). Among n ns) (sym d.scoped) (kept.scoped n r (lived n r e).1 some);
+      experts = λ n. ap (λ (e : List ExpertPlace). is_some (expert_at e n)) d.experts ∙ (kept.experts n ∙ expert_still n);
+      listed = λ n. listed_still old.arena new.arena more types (kids_at new.work.experts n) (listed_as n);
+      lists = λ n r f v ns e def. folds_still old.arena new.arena more types r.ty (kids_at new.work.experts n) f.sig.takes (listed_as n)
+          (subst (λ (x : List ExpertPlace). FoldTakes old.arena r.ty (kids_at x n) f.sig.takes) (sym d.experts)
+          (kept.lists n r f v ns (lived n r e).1 def));
+      tops = λ n r e top. kept.tops n r (lived n r e).1 top;
+      frozen = λ n k e flag.
+          let no_ = row_outside (main n) (ap is_some e) in
+          let h = kept.frozen n k (sym (main_now n no_) ∙ e) flag in
+          record { row = h.row; is_row = stays n no_ ∙ h.is_row; is_freeze = h.is_freeze; value = h.value; last = h.last };
     }
+      where
+        listed_as : (n : NodeId) → Every (Given old.arena.given) (kids_at new.work.experts n)
+        listed_as n = subst (λ (x : List ExpertPlace). Every (Given old.arena.given) (kids_at x n)) (sym d.experts) (kept.listed n)
+
+        -- no expert dies
+        expert_still : (n : NodeId) → is_expert (row_at old.arena n) ≡ is_expert (row_at new.arena n)
+        expert_still n = elim (d.nodes n) [
+          | inl x ↦
+              let r = inside_row old b n x.0 in
+              ap is_expert r.2 ∙ (no_expert r.0.def (scoped_plain old.arena old.work kept n r.0 r.1 r.2 r.3) ∙ sym (ap is_expert x.1))
+          | inr x ↦ sym (ap is_expert x.1)
+        ]
 
   -- the scopes are those of the nodes
   pub died_scopes : StandsBut old b → new.scopes ≡ old.scopes → KeepsScopes new.arena new.scopes

@@ -196,6 +196,7 @@ module _ (before mid : Arena) (old now : Work) (all left rest : List NodeId) (n 
       ran = rw b.ran so.forgotten.ran;
       retries = b.retries ∙ so.forgotten.retries;
       round = b.round ∙ so.forgotten.round;
+      experts = b.experts ∙ so.forgotten.experts;
     }
 
     pub forgetting_more : IsInStep new.graph → IsForgetting before old all arena new rest

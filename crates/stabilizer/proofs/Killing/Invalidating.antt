@@ -26,6 +26,7 @@ use Rattle.wiring.proofs.TakingAll.{loses_none, loses_then, places_then}
 use Rattle.stabilizer.specs.Dying.{AreInvalidated, Invalidates, GateWaits, IsInvalidated, IsGateOf, IsPutToGate, HaveGatesAlone, scope_at}
 use Rattle.stabilizer.specs.Kept.{KeepsScopes, PartsKept, ScopesAreOlder, graph_in}
 use Rattle.stabilizer.specs.declared.parts.Parts.{Parts}
+use Rattle.stabilizer.proofs.Step.Experts.{read_as}
 use Rattle.std.proofs.lemmas.Option.{same_Some}
 
 -- ---- who is inside
@@ -94,7 +95,7 @@ invalidating_first old b scopes kept room dying empties count = record {
     loses = loses_none old.work.graph;
     heap = λ p h. inl h;
     rows = λ p. inl refl;
-    places = record { rows = λ p. refl; roots = λ p. refl; deaths = refl; round = refl };
+    places = record { rows = λ p. refl; roots = λ p. refl; deaths = refl; round = refl; experts = read_as old.work.experts old.work.experts refl };
     rest = refl;
     arena = refl;
     timed = refl;

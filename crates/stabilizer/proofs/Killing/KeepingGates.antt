@@ -23,7 +23,8 @@ use Rattle.stabilize_round.proofs.Machine.{moves_keep}
 use Rattle.stabilize_round.proofs.Parts.{bool_cases}
 use Rattle.stabilize_round.proofs.Points.{same_or_other, count_among}
 use Rattle.stabilize_round.proofs.Steps.{off_moves}
-use Rattle.node_outcomes.specs.Row.{settled_in, stage_in, stage_of, outcome_in}
+use Rattle.expert_nodes.specs.Experts.{SameLinks}
+use Rattle.node_outcomes.specs.Row.{kept_in, settled_in, stage_in, stage_of, outcome_in}
 use Rattle.node_outcomes.specs.declared.row.Progress.{Progress}
 use Rattle.node_outcomes.specs.declared.row.Stage.{Stage}
 use Rattle.node_outcomes.specs.declared.row.Stage.TheVariants as code
@@ -32,13 +33,14 @@ use Rattle.wiring.specs.Kept.{IsKept}
 use Rattle.wiring.specs.Stands.{MatchesState, Counts}
 use Rattle.wiring.specs.Wiring.{ShowsSame, KeepsLists, KeepsPlaces, OnlyLoses, IsAtGate, HasMore, TakesOne}
 use Rattle.wiring.specs.declared.work.Work.{Work}
-use Rattle.wiring.proofs.Holding.{graph_rows, died_same, links_same, root_same, pairs_same, scoped_same}
+use Rattle.wiring.proofs.Holding.{died_same, links_same, root_same, pairs_same, scoped_same}
 use Rattle.wiring.proofs.NodeBack.{NodeBackAt}
 use Rattle.wiring.proofs.Releasing.{main_or_change}
 use Rattle.wiring.proofs.TakingAll.{places_then, loses_then}
 use Rattle.wiring.proofs.Deciding.{same_need}
 use Rattle.wiring.proofs.Staying.{looks_stands}
 use Rattle.stabilizer.specs.Dying.{KeepsGate, IsGateOf, PutsBack, IsPutToGate, scope_at}
+use Rattle.stabilizer.proofs.Step.Experts.{read_as, linked_as, still_experts, still_listed, still_lists, graph_seen, no_expert, scoped_plain, plain_owes}
 
 -- ---- fewer links
 
@@ -56,6 +58,9 @@ module _ (old new : Work) (t : IsThinned old new) where
   pub row_as : (a : Point) → at new.rows a ≡ at old.rows a
   row_as a = ap (λ (w : Work). at w.rows a) t.rest
 
+  experts_as : new.experts ≡ old.experts
+  experts_as = ap (λ (w : Work). w.experts) t.rest
+
   thinned_lists : KeepsLists old new
   thinned_lists = record { pairs = ap (λ (w : Work). w.pairs) t.rest; scoped = ap (λ (w : Work). w.scoped) t.rest }
 
@@ -72,6 +77,7 @@ module _ (old new : Work) (t : IsThinned old new) where
     roots = t.roots;
     deaths = ap (λ (w : Work). w.deaths) t.rest;
     round = ap (λ (w : Work). w.round) t.rest;
+    experts = read_as old.experts new.experts experts_as;
   }
 
   there_before : (a : Point) → Holds new.graph.heights a → Holds old.graph.heights a
@@ -87,8 +93,12 @@ module _ (old new : Work) (t : IsThinned old new) where
   ]
 
   module _ (arena : Arena) (kept : IsKept arena old) where
+    same_links : SameLinks old.experts new.experts
+    same_links = linked_as old.experts new.experts experts_as
+
     thinned_graph : graph_at arena new ≡ graph_at arena old
-    thinned_graph = graph_rows arena old new row_as (ap (λ (w : Work). w.roots) t.rest)
+    thinned_graph = graph_seen arena old new (λ n. ap outcome_in (row_as (change n))) (ap (λ (w : Work). w.roots) t.rest)
+        (λ n. ap kept_in (row_as (main n))) same_links
 
     leaf_or_row : (a : Point) → Holds new.graph.heights a → Holds new.rows a ⊎ ((row_at arena a.node ≡ None) × Needed new.graph a)
     leaf_or_row a h = elim (bool_cases (is_some (at old.rows a))) [
@@ -126,6 +136,11 @@ module _ (old new : Work) (t : IsThinned old new) where
       rounds = λ a k e. let r = kept.rounds a k (sym (row_as a) ∙ e) in let q = ap (λ (w : Work). w.round) t.rest in omega (arith, r, q);
       pairs = λ n r row some. pairs_same old new thinned_lists n (kept.pairs n r row some);
       scoped = λ n r row some. scoped_same old new thinned_lists n (kept.scoped n r row some);
+      experts = still_experts arena old new same_links kept;
+      listed = still_listed arena old new same_links kept;
+      lists = still_lists arena old new same_links kept;
+      tops = kept.tops;
+      frozen = λ n k e flag. kept.frozen n k (sym (row_as (main n)) ∙ e) flag;
     }
 
 -- ---- a point keeps the links to its gate
@@ -220,6 +235,7 @@ module _ (old new : Work) (p gate : Point) (step : IsInStep old.graph) (rest : n
         ran = ap (λ (w : Work). w.ran.items) rest;
         retries = ap (λ (w : Work). w.retries) rest;
         round = ap (λ (w : Work). w.round) rest;
+        experts = ap (λ (w : Work). w.experts) rest;
       };
     }
 
@@ -245,7 +261,7 @@ same_looks old = record {
   heap = λ a. refl;
   todo = refl;
   lists = record { pairs = refl; scoped = refl };
-  round = record { roots = refl; deaths = refl; ran = refl; retries = refl; round = refl };
+  round = record { roots = refl; deaths = refl; ran = refl; retries = refl; round = refl; experts = refl };
 }
 
 module _ (old new : Work) (p gate : Point) (step : IsInStep old.graph) (k : KeepsGate old new p gate) where
@@ -290,7 +306,8 @@ module _ (F : Functions) (z : Start) (s : State) (arena : Arena) (work : Work) (
       linked : (x : machine.Stage) → s.stage p ≡ x → 0 < count b (live_plan s.graph s.out p r x)
       linked x e =
           let l = inv.rows.links p b ((st.needed p).1 need) in
-          let o : count b (s.owed p) ≡ 0 = ap (count b) (st.owed p) in
+          let plain = no_expert r.def (scoped_plain arena work kept p.node r c row scope) in
+          let o : count b (s.owed p) ≡ 0 = ap (count b) (st.owed p ∙ plain_owes arena work kept p r row plain (s.needed p)) in
           let w = st.links p b in
           let plan : count b (planned s p) ≡ count b (live_plan s.graph s.out p r x) =
           ap (λ (y : Option Row). count b (plan_at s.graph s.out s.died p y (s.stage p))) s_row

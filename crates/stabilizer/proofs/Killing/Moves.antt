@@ -52,6 +52,7 @@ use Rattle.wiring.proofs.Sight.{change_is}
 use Rattle.wiring.proofs.TakingOff.{MayLower, scheduled, row_at_stage, takes, stands_off}
 use Rattle.wiring.proofs.Staying.{rewritten_there}
 use Rattle.stabilizer.proofs.Step.Carrying.{heap_graph, needed_now, needed_before}
+use Rattle.stabilizer.proofs.Step.Experts.{pair_plain, plain_owes}
 use Rattle.stabilizer.proofs.Change.Waiting.{put, put_changes, same_swept, swept_in_step, fewer_links}
 
 -- of the parts just a change's row, its place in the heap and the worklist are others: it was settled on this outcome, and left the heap
@@ -143,7 +144,8 @@ module _ (arena : Arena) (old mid : Work) (g : NecessaryPart) (n : NodeId) (r : 
     linked_all : (b : Point) → times old.graph.links (main n) b ≡ count b static_plan + count b (map main (at_most_one (right_in old.rows old.roots n r.def)))
     linked_all b =
         let l = inv.rows.links (main n) b need in
-        let o : count b (s.owed (main n)) ≡ 0 = ap (count b) (st.owed (main n)) in
+        let o : count b (s.owed (main n)) ≡ 0 = ap (count b)
+        (st.owed (main n) ∙ plain_owes arena old kept (main n) r live (pair_plain r.def m sub) (s.needed (main n))) in
         let p : planned s (main n) ≡ gate_of r.scope ++ (fixed_reads s.graph n r.def Main ++ targets s.graph n r.def (s.out (change n))) =
         ap (λ (x : Option Row). plan_at s.graph s.out s.died (main n) x (s.stage (main n))) s_row
         ∙ ap (λ (x : machine.Stage). live_plan s.graph s.out (main n) r x) full in
@@ -458,7 +460,14 @@ module _ (arena : Arena) (old mid : Work) (g : NecessaryPart) (n : NodeId) (r : 
         };
         gone = ap (λ (x : NecessaryPart). at x.heap (change n)) graph ∙ out_of_heap;
         heap = λ a ne. ap (λ (x : NecessaryPart). is_some (at x.heap a)) graph ∙ sym (ap is_some (put_mid.others a ne));
-        round = record { roots = round.roots; deaths = round.deaths; ran = round.ran; retries = round.retries; round = round.round };
+        round = record {
+          roots = round.roots;
+          deaths = round.deaths;
+          ran = round.ran;
+          retries = round.retries;
+          round = round.round;
+          experts = round.experts;
+        };
       }
 
       still_gated : (a : Point) → stage_in (at mid.rows a) ≡ Some code.Gated → stage_in (at old.rows a) ≡ Some code.Gated

@@ -1,5 +1,5 @@
 -- A round begins: at the counts of now, with the last calls that the rows keep.
-use Rattle.std.proofs.Common.{◌≡◌, ◌<◌, ◌≤◌, arith, subst, inl, inr, ℕ, true, Option, None, Some, refl, sym, ap, ◌∙◌, false, List, ◌⊎◌}
+use Rattle.std.proofs.Common.{◌≡◌, ◌<◌, ◌≤◌, arith, subst, inl, inr, ℕ, true, Option, None, Some, refl, sym, ap, ◌∙◌, false, List, [], ◌⊎◌}
 use Rattle.std.specs.Prelude.{is_some, ◌↔◌}
 use Rattle.inc_value.specs.declared.node.NodeId.{NodeId}
 use Rattle.inc_value.specs.declared.node.Point.{Point}
@@ -10,7 +10,11 @@ use Rattle.inc_terms.specs.Term.{Functions}
 use Rattle.point_map.specs.Rows.{at}
 use Rattle.necessary_graph.specs.Part.{Needed}
 use Rattle.node_arena.specs.Arena.{Arena, row_at}
-use Rattle.stabilize_round.proofs.Freezing.{other_rests}
+use Rattle.stabilize_round.proofs.Parts.{bool_cases}
+use Rattle.inc_value.specs.Choice.{Among}
+use Rattle.node_outcomes.specs.Computing.{is_expert}
+use Rattle.stabilizer.proofs.Between.Alone.{are_some, none_listed, owing_alone}
+use Rattle.stabilizer.proofs.Step.Experts.{held_given}
 use Rattle.std.proofs.lemmas.Option.{none-some}
 use Rattle.inc_terms.specs.Need.{Keeps}
 use Rattle.inc_terms.specs.Rebuild.{Names}
@@ -19,18 +23,19 @@ use Rattle.necessary_graph.proofs.Reaching.{root_needed}
 use Rattle.node_arena.proofs.Graph.{names_are_given}
 use Rattle.node_outcomes.specs.Meaning.{Meaning}
 use Rattle.stabilize_round.specs.Ids.{IsStartOf, AllGiven}
+use Rattle.expert_nodes.specs.Experts.{Expert, expert_at, expert_in, is_stale_at}
 use Rattle.stabilize_round.proofs.Entry.{entry_holds}
 use Rattle.wiring.specs.Began.{IsRoundOf}
 use Rattle.node_outcomes.specs.declared.row.Progress.{Progress}
-use Rattle.wiring.proofs.Agreeing.{no_freeze}
 use Rattle.stabilize_round.specs.Invariant.{Recalls, IsUnmarked}
 use Rattle.stabilize_round.specs.Machine.{Entry}
 use Rattle.stabilize_round.specs.State.{State, Start, Call}
-use Rattle.wiring.specs.Kept.{IsKept}
+use Rattle.wiring.specs.Kept.{IsKept, IsTop}
 use Rattle.stabilizer.specs.Look.{last_of, last_call, cutoff_at}
 use Rattle.stabilizer.specs.Round.{IsReady}
 use Rattle.node_outcomes.specs.Row.{cutoff_in}
-use Rattle.wiring.specs.Stands.{MatchesState, Counts}
+use Rattle.wiring.specs.Stands.{MatchesState, Counts, IsInHand}
+use Rattle.wiring.specs.Wiring.{AreUnlinked}
 use Rattle.stabilizer.specs.declared.parts.Parts.{Parts}
 use Rattle.wiring.specs.declared.work.Work.{Work}
 use Rattle.wiring.specs.Graph.{held_at, graph_at}
@@ -40,7 +45,7 @@ use Rattle.node_outcomes.proofs.Held.{built_parts}
 use Rattle.inc_terms.proofs.Same.{outcome_decides}
 use Rattle.inc_value.specs.declared.outcome.Outcome.{Outcome}
 use Rattle.node_outcomes.proofs.Computing.{has_main}
-use Rattle.stabilize_round.specs.Freezing.{fires_at}
+use Rattle.stabilize_round.specs.Freezing.{fires_at, row_fires}
 use Rattle.inc_terms.specs.Work.{taken_by}
 use Rattle.stabilize_round.specs.Calling.{IsAnswer}
 
@@ -83,7 +88,8 @@ pub record Begun (F : Functions) (parts : Parts) (counts : Counts) : Type 0 wher
   pub calls : start.calls ≡ counts.calls
   pub last : (n : NodeId) → start.last n ≡ last_call parts.work n
   pub cutoff : (n : NodeId) → start.cutoff n ≡ cutoff_at parts.work n
-  pub stale : (n : NodeId) → start.stale n ≡ false
+  pub stale : (n : NodeId) → start.stale n ≡ is_stale_at parts.work.experts n
+  pub unlinked : AreUnlinked None state
   pub held : (p : Point) → (start.held p ≡ true) ↔ Needed parts.work.graph p
 
 -- and it is one of these functions
@@ -108,7 +114,14 @@ module _ (M : Meaning) (parts : Parts) (ready : IsReady M parts) (counts : Count
   old = ready.state
 
   abbrev state : State
-  state = record old { calls = counts.calls; builds = counts.builds; adds = counts.adds; last = last_call work; cutoff = cutoff_at work }
+  state = record old {
+    calls = counts.calls;
+    builds = counts.builds;
+    adds = counts.adds;
+    last = last_call work;
+    cutoff = cutoff_at work;
+    todo = λ p. are_some (old.owed p);
+  }
 
   abbrev start : Start
   start = record ready.start {
@@ -132,25 +145,54 @@ module _ (M : Meaning) (parts : Parts) (ready : IsReady M parts) (counts : Count
       let c = was r kids values row part def gives in
       (c.0, last_known p.node r row ∙ c.1, c.2)
 
+  -- who is owed some is in the worklist
+  listed : (p : Point) → are_some (old.owed p) ≡ true → old.todo p ≡ true
+  listed p some = elim (bool_cases (old.todo p)) [
+    | inl t ↦ t
+    | inr f ↦ absurd (let e = sym some ∙ ap are_some (ready.entry.owed p f) in cc)
+  ]
+
   stands : MatchesState arena work counts None state
   stands =
+      let todo : (p : Point) → are_some (old.owed p) ≡ true → Among p work.todo.items ⊎ IsInHand None p
+      = (λ p some. ready.stands.todo p (listed p some)) in
       let last : (n : NodeId) (k : Progress) → at work.rows (main n) ≡ Some k → last_call work n ≡ k.last = (λ n k e. ap last_of e) in
       let cutoff : (n : NodeId) (k : Progress) → at work.rows (main n) ≡ Some k → cutoff_at work n ≡ k.cutoff = (λ n k e. ap cutoff_in e) in
-      assumption (last, cutoff, ready.stands)
+      assumption (last, cutoff, todo, ready.stands)
 
   fresh : (p : Point) (r : Row) → old.graph.row p.node ≡ Some r → old.needed p ≡ true
       → (old.heap p ≡ true) ⊎ (Agrees F old.graph old.out p × Recalls old.graph (shown old.graph old.out) (last_call work) p × IsUnmarked old.stale p)
   fresh p r row need = elim (ready.entry.fresh p r row need) [ inl h ↦ inl h | inr a ↦ inr (a.0, recalls p a.1, a.2) ]
 
   unfired : (n : NodeId) → fires_at state n ≡ None
-  unfired n = other_rests state n (λ r kid f row is. no_freeze arena n r kid f (sym (ap (λ G. G.row n) ready.stands.graph) ∙ row) is)
+  unfired n = by_row (old.graph.row n) refl
+    where
+      by_row : (x : Option Row) → old.graph.row n ≡ x → fires_at state n ≡ None
+      by_row None gone = ap (λ (x : Option Row). row_fires x (old.graph.frozen n) (last_call work n)) gone
+      by_row (Some r) row = ap (row_fires (old.graph.row n) (old.graph.frozen n)) (last_known n r row) ∙ ready.entry.unfired n
 
   answers : (n : NodeId) (r : Row) (kids : List NodeId) (c : Call) → old.graph.row n ≡ Some r → taken_by old.graph n r.def ≡ Some kids
       → last_call work n ≡ Some c → IsAnswer F r.def c.arguments c.result
   answers n r kids c row def e = ready.entry.answers n r kids c row def (sym (last_known n r row) ∙ e)
 
+  owed : (p : Point) → are_some (old.owed p) ≡ false → old.owed p ≡ []
+  owed p none = none_listed (old.owed p) none
+
+  todo : (p : Point) → old.needed p ≡ true → are_some (old.owed p) ≡ true → (r : Row) × (old.graph.row p.node ≡ Some r) × (r.scope ≡ None)
+  todo p need some = ready.entry.todo p need (listed p some)
+
   entry : Entry F start state
-  entry = assumption (fresh, answers, unfired, ready.entry)
+  entry = assumption (fresh, answers, unfired, owed, todo, ready.entry)
+
+  -- what is in the worklist has its links, but for those that it is owed
+  unlinked : AreUnlinked None state
+  unlinked p some need =
+      let more : old.owed p ≡ [] → ⊥ = (λ none. absurd (let e = sym some ∙ ap are_some none in cc)) in
+      inr (inr (inr (
+        more,
+        λ r row. owing_alone arena work kept (old.needed p) p (λ none. more (ready.stands.owed p ∙ none)) r
+            (sym (ap (λ (G : Graph). G.row p.node) ready.stands.graph) ∙ row),
+      )))
 
   -- ---- all that the round speaks of was given
 
@@ -165,6 +207,18 @@ module _ (M : Meaning) (parts : Parts) (ready : IsReady M parts) (counts : Count
       by_row None e = no_place (at work.rows (main n)) (main_there arena work kept n ∙ ap is_some e)
       by_row (Some r) e = absurd (let g = kept.sound.given n (ap is_some e) in omega (arith, g, le))
 
+  -- nor is one marked
+  unmarked : (n : NodeId) → arena.given ≤ n.gen_ → is_stale_at work.experts n ≡ false
+  unmarked n le = ap (λ (x : Option Expert). (expert_in x).stale) (none_at (expert_at work.experts n) refl)
+    where
+      by_row : (x : Option Row) → row_at arena n ≡ x → is_expert x ≡ true → expert_at work.experts n ≡ None
+      by_row None row is = absurd (cc)
+      by_row (Some r) row is = absurd (let g = kept.sound.given n (ap is_some row) in omega (arith, g, le))
+
+      none_at : (x : Option Expert) → expert_at work.experts n ≡ x → expert_at work.experts n ≡ None
+      none_at None e = e
+      none_at (Some x) e = by_row (row_at arena n) refl (sym (kept.experts n) ∙ ap is_some e)
+
   needed_given : (p : Point) → Needed work.graph p → Given arena.given p.node
   needed_given p need = kept.given p (kept.step.there p need)
 
@@ -175,7 +229,7 @@ module _ (M : Meaning) (parts : Parts) (ready : IsReady M parts) (counts : Count
   keeps = record {
     roots = λ b w m given built root. root_held arena work kept b w m built root;
     scopes = λ n b given died. absurd (none-some b (sym (ready.entry.died n) ∙ died));
-    freezes = λ n r kid f row is. absurd (no_freeze arena n r kid f row is);
+    freezes = λ n r kid f row is. kept.tops n r row (subst IsTop (sym is) tt);
   }
 
   begins : IsStartOf M.known M.ids arena.given start
@@ -185,7 +239,7 @@ module _ (M : Meaning) (parts : Parts) (ready : IsReady M parts) (counts : Count
     held = λ p h. needed_given p ((ready.stands.needed p).0 h);
     last = λ n le. ap last_of (row_none n le);
     cutoff = λ n le. ap cutoff_in (row_none n le);
-    stale = λ n le. ready.entry.stale n ∙ ready.stands.stale n;
+    stale = λ n le. ready.entry.stale n ∙ (ready.stands.stale n ∙ unmarked n le);
   }
 
   as_given : (p : Point) → Given arena.given p.node → Given old.given p.node
@@ -199,14 +253,14 @@ module _ (M : Meaning) (parts : Parts) (ready : IsReady M parts) (counts : Count
     laws = ready.laws;
     names = subst (λ (G : Graph). Names (Given old.given) (Fit old.given M.known M.ids) G) (sym ready.stands.graph)
         (subst (λ (k : ℕ). Names (Given k) (Fit k M.known M.ids) (graph_at arena work)) (sym ready.stands.given)
-        (names_are_given arena (held_at arena work) M.known M.ids kept.sound ready.fit).1);
+        (names_are_given arena (held_at arena work) M.known M.ids kept.sound (held_given arena work kept) ready.fit).1);
     keeps = subst (λ (G : Graph). Keeps (Given old.given) G old.died) (sym ready.stands.graph)
         (subst (λ (k : ℕ). Keeps (Given k) (graph_at arena work) old.died) (sym ready.stands.given) keeps);
     needed = λ p h. as_given p (needed_given p ((ready.stands.needed p).0 h));
     rooted = λ p h. as_given p (root_given p h);
     last = λ n le. ap last_of (row_none n (not_given n le));
     cutoff = λ n le. ap cutoff_in (row_none n (not_given n le));
-    stale = λ n le. ready.stands.stale n;
+    stale = λ n le. ready.stands.stale n ∙ unmarked n (not_given n le);
     start = subst (λ (k : ℕ). IsStartOf M.known M.ids k start) (sym ready.stands.given) begins;
   }
 
@@ -221,6 +275,7 @@ module _ (M : Meaning) (parts : Parts) (ready : IsReady M parts) (counts : Count
       last = λ n. refl;
       cutoff = λ n. refl;
       stale = λ n. ready.entry.stale n ∙ ready.stands.stale n;
+      unlinked = unlinked;
       held = ready.stands.needed;
     };
     round = record { holds = entry_holds F start state entry; given = given; knows = refl; names = refl };

@@ -1,9 +1,9 @@
 -- What binds are built for where a round stops, in the parts' words.
-use Rattle.std.proofs.Common.{◌≡◌, inl, inr, ℕ, ◌++◌, List, map, Option, None, sym, subst}
+use Rattle.std.proofs.Common.{◌≡◌, inl, inr, ℕ, List, Option, None, Some, sym, subst}
 use Rattle.std.proofs.lemmas.Option.{none-some}
 use Rattle.inc_value.specs.declared.node.NodeId.{NodeId}
 use Rattle.inc_value.specs.declared.node.Point.{Point}
-use Rattle.inc_terms.specs.Depend.{main, change}
+use Rattle.inc_terms.specs.Depend.{change}
 use Rattle.inc_terms.specs.Graph.{Graph}
 use Rattle.inc_terms.specs.Term.{Functions}
 use Rattle.node_arena.specs.Arena.{Arena}
@@ -13,15 +13,15 @@ use Rattle.stabilize_round.specs.State.{State}
 use Rattle.wiring.specs.Stands.{PointInHand, MatchesState, Counts}
 use Rattle.wiring.specs.declared.refused.Refused.{Refused}
 use Rattle.wiring.specs.declared.refused.Refused.TheVariants.{Height, Cycle, Full, Memory}
-use Rattle.stabilizer.specs.Left.{IsMetIn, RefusesBuild}
+use Rattle.stabilizer.specs.Left.{BuildsRightIn, IsMetIn, RefusesBuild}
 use Rattle.stabilizer.specs.Look.{look_between}
 use Rattle.stabilizer.specs.Building.{StopsBuilding}
 use Rattle.stabilizer.specs.Kept.{graph_in}
-use Rattle.stabilizer.specs.Round.{AreRooted, OnlyRoots, Pauses, BuildsRight, BuildsAllBut, died_by}
+use Rattle.stabilizer.specs.Round.{Pauses, died_by}
 use Rattle.stabilizer.specs.declared.parts.Parts.{Parts}
 use Rattle.stabilizer.proofs.Round.Beginning.{Begun}
 use Rattle.stabilizer.proofs.Round.Ending.{as_graph}
-use Rattle.stabilizer.proofs.Round.Lawful.{met_as}
+use Rattle.stabilizer.proofs.Round.Lawful.{AreListed, met_as}
 use Rattle.stabilizer.proofs.Round.Paused.{IsPaused, paused_died}
 use Rattle.stabilizer.proofs.Round.Stopped.{BuildsLeft, moves_build, stops_build, called_on}
 
@@ -30,8 +30,8 @@ as_given : (G : Graph) (count : ℕ) (s : State) → s.graph ≡ G → s.given �
 as_given G count s graph given = λ i. record s { graph = graph i; given = given i }
 
 module _ (F : Functions) (old new : Parts) (before after : Counts) (b : Begun F old before) (left : Option PointInHand) (u : State)
-    (stands : MatchesState new.arena new.work after left u) (died : u.died ≡ died_by old new) (nodes observed : List NodeId)
-    (only : OnlyRoots old.work.graph.roots new.work.graph.roots (map main nodes)) (rooted : AreRooted old.work observed) where
+    (stands : MatchesState new.arena new.work after left u) (died : u.died ≡ died_by old new) (observed : List NodeId)
+    (all : AreListed new observed) where
   abbrev G : Graph
   G = graph_in new
 
@@ -44,14 +44,18 @@ module _ (F : Functions) (old new : Parts) (before after : Counts) (b : Begun F 
   abbrev last : State
   last = record u { graph = G; died = D }
 
-  is_met : (p : Point) → MetNow F b.start G D u.root p → IsMetIn F G D (look_between old) (nodes ++ observed) p
-  is_met p h = met_as F old new before after b left u stands nodes observed only rooted p h
+  is_met : (p : Point) → MetNow F b.start G D u.root p → IsMetIn F G D (look_between old) observed p
+  is_met p h = met_as F old new before after b left u stands observed all p h
+
+  -- over the graph that is left
+  abbrev Builds : Option NodeId → Type 0
+  Builds x = BuildsRightIn F G D (look_between old) observed x
 
   told : (x : Option NodeId) → BuildsLeft F b.start b.state u x → BuildsLeft F b.start first last x
   told x k = subst (λ (y : State). BuildsLeft F b.start first y x) (as_graph G D u stands.graph died)
       (subst (λ (y : State). BuildsLeft F b.start y u x) (as_given (graph_in old) old.arena.given b.state b.stands.graph b.stands.given) k)
 
-  in_parts : (x : Option NodeId) → BuildsLeft F b.start first last x → BuildsRight F old new (nodes ++ observed) x
+  in_parts : (x : Option NodeId) → BuildsLeft F b.start first last x → Builds x
   in_parts x k = record {
     stays = λ c r given row. elim (k.stays c r given row) [
       | inl same ↦ inl same
@@ -68,7 +72,8 @@ module _ (F : Functions) (old new : Parts) (before after : Counts) (b : Begun F 
   }
 
   -- what the machine says of what binds are built for is so of the parts
-  pub builds_by_parts : (x : Option NodeId) → BuildsLeft F b.start b.state u x → BuildsRight F old new (nodes ++ observed) x
+  pub builds_by_parts : (x : Option NodeId) → BuildsLeft F b.start b.state u x
+      → BuildsRightIn F (graph_in new) (died_by old new) (look_between old) observed x
   builds_by_parts x k = in_parts x (told x k)
 
 -- ---- a round that was refused
@@ -79,8 +84,8 @@ stops_so count arena Memory h = tt
 stops_so count arena (Height points) h = h
 stops_so count arena (Cycle points) h = h
 
-module _ (M : Meaning) (old new : Parts) (before after : Counts) (e : Refused) (p : IsPaused M old new before after e) (nodes observed : List NodeId)
-    (only : OnlyRoots old.work.graph.roots new.work.graph.roots (map main nodes)) (rooted : AreRooted old.work observed) where
+module _ (M : Meaning) (old new : Parts) (before after : Counts) (e : Refused) (p : IsPaused M old new before after e) (observed : List NodeId)
+    (all : AreListed new observed) where
   abbrev F : Functions
   F = M.functions
 
@@ -90,10 +95,15 @@ module _ (M : Meaning) (old new : Parts) (before after : Counts) (e : Refused) (
   abbrev k : Pauses M.functions p.begins.begun.start p.begins.begun.state new after e
   k = p.pauses
 
-  so : (x : Option NodeId) → BuildsLeft F b.start b.state k.state x → BuildsRight M.functions old new (nodes ++ observed) x
-  so x h = builds_by_parts F old new before after b k.left k.state k.stands (paused_died M old new before after e p) nodes observed only rooted x h
+  -- over the graph that is left
+  abbrev pub BuildsIn : Option NodeId → Type 0
+  BuildsIn x = BuildsRightIn M.functions (graph_in new) (died_by old new) (look_between old) observed x
 
-  pub paused_built : BuildsAllBut M.functions old new (nodes ++ observed) e
+  so : (x : Option NodeId) → BuildsLeft F b.start b.state k.state x → BuildsIn x
+  so x h = builds_by_parts F old new before after b k.left k.state k.stands (paused_died M old new before after e p) observed all x h
+
+  pub paused_built : (unbuilt : Option NodeId) × BuildsRightIn M.functions (graph_in new) (died_by old new) (look_between old) observed unbuilt
+      × ((c : NodeId) → unbuilt ≡ Some c → RefusesBuild e)
   paused_built = elim k.told [
     | inl why ↦ (
       None,

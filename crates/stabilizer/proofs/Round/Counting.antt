@@ -1,5 +1,5 @@
 -- The calls of a round are within the work.
-use Rattle.std.proofs.Common.{◌≡◌, inl, inr, ℕ, ◌≤◌, ◌+◌, false, List, [], ◌∷◌, Option, None, Some, refl, sym, subst, ap, ◌∙◌, arith}
+use Rattle.std.proofs.Common.{◌≡◌, inl, inr, ℕ, ◌≤◌, ◌+◌, List, [], ◌∷◌, Option, None, Some, refl, sym, subst, ap, ◌∙◌, arith}
 use Rattle.std.specs.List.{sum_by}
 use Rattle.std.proofs.lemmas.List.Sums.{sum_by-cons}
 use Rattle.inc_value.specs.declared.node.NodeId.{NodeId}
@@ -8,9 +8,9 @@ use Rattle.inc_value.specs.Choice.{Among, NoRepeats, Every}
 use Rattle.inc_terms.specs.Depend.{main}
 use Rattle.inc_terms.specs.Evaluate.{Stands, GiveAll}
 use Rattle.inc_terms.specs.Graph.{Graph}
-use Rattle.inc_terms.specs.Need.{IsRoot, Beside, Observed, nodes_of, Held, Met, from_root, from_held}
+use Rattle.inc_terms.specs.Need.{Beside, Observed, nodes_of, Held, Met, from_root, from_held}
 use Rattle.inc_terms.specs.Term.{Functions}
-use Rattle.inc_terms.specs.Work.{Visit, HasReason, other, passed, IsDueVisit, WithinWork}
+use Rattle.inc_terms.specs.Work.{Visit, HasReason, other, passed, stale, IsDueVisit, WithinWork}
 use Rattle.map_nodes.specs.Cutoff.{TellsAgain}
 use Rattle.stabilize_round.specs.Calling as why
 use Rattle.stabilize_round.specs.Calling.{Reason, cost_at, costs_of}
@@ -21,14 +21,15 @@ use Rattle.stabilizer.specs.Left.{StoodBeside, IsMetIn, WasCalledIn}
 use Rattle.stabilizer.specs.Look.{Look}
 
 module _ (F : Functions) (G : Graph) (died : NodeId → Option NodeId) (old new : Look) (observed : List NodeId)
-    (roots : (n : NodeId) → IsRoot G observed n → Among n observed) (before : Beside) (observers : List Observed)
+    (before : Beside) (observers : List Observed)
     (stood : StoodBeside before old observers) (looks : (n : NodeId) → Among n observed → Among n (nodes_of observers)) where
   -- a node whose function was called, in a scope that stands
   abbrev pub Called : NodeId → Type 0
   Called n = (c : WasCalledIn F G died old new observed n) × Stands F G c.due.row.scope
 
   is_met : (p : Point) → IsMetIn F G died old observed p → Met F G died (nodes_of observers) (Held before observers) p
-  is_met p (from_root {n} root way) = from_root (inl (looks n (roots n root))) way
+  is_met p (from_root {n} (inl seen) way) = from_root (inl (looks n seen)) way
+  is_met p (from_root {n} (inr unfrozen) way) = from_root (inr unfrozen) way
   is_met p (from_held {h} held row stands way) = from_held (stood.held h held) row stands way
 
   visit_of : (n : NodeId) → Called n → Visit
@@ -47,12 +48,12 @@ module _ (F : Functions) (G : Graph) (died : NodeId → Option NodeId) (old new 
   unfolding visit_of
   reason_of n c = by_reason c.0.due.reason
     where
-      by_reason : Reason old.last old.cutoff new.settled (λ (m : NodeId). false) n c.0.due.kids c.0.due.values
+      by_reason : Reason old.last old.cutoff new.settled old.marked n c.0.due.kids c.0.due.values
           → HasReason G before (visit_of n c)
       by_reason (why.other differs) = other (λ last. other_arguments n c differs (old.last n) refl last)
       by_reason (why.forced {kid} a tells settled) = passed {r = c.0.due.row} kid c.0.due.is_row
           (subst (λ (ks : List NodeId). Among kid ks) (sym (kids_taken G n c.0.due.row.def c.0.due.kids c.0.due.takes)) a) (subst TellsAgain (sym (stood.cutoff kid)) tells)
-      by_reason (why.made_stale marked) = absurd (cc)
+      by_reason (why.made_stale marked) = stale (stood.stale n ∙ marked)
 
   due : (n : NodeId) (c : Called n) → IsDueVisit F G died observers before (visit_of n c)
   unfolding visit_of

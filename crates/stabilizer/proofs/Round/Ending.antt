@@ -1,11 +1,13 @@
 -- A round ends: what is needed is up to date, and another round may begin.
-use Rattle.std.proofs.Common.{◌≡◌, ◌-◌, ◌⊎◌, inl, inr, ℕ, suc, Bool, ◌<◌, ◌≤◌, ◌+◌, ◌++◌, true, false, List, [], ◌∷◌, map, Option, None, Some, refl, sym, ap, subst, ◌∙◌, arith}
+use Rattle.std.proofs.Common.{◌≡◌, ◌-◌, ◌⊎◌, inl, inr, ℕ, Bool, ◌<◌, ◌≤◌, ◌+◌, ◌++◌, true, false, cond, List, [], ◌∷◌, map, Option, None, Some, refl, sym, ap, subst, ◌∙◌, arith}
 use Rattle.std.specs.Prelude.{is_some, ◌↔◌, ◌==◌, reverse}
 use Rattle.std.proofs.lemmas.Grind.{common_steps}
 use Rattle.std.proofs.lemmas.List.{reverse-append}
 use Rattle.std.proofs.lemmas.List.Sums.{sum_by-cons, sum_by_push}
+use Rattle.std.proofs.lemmas.Option.{none-some, same_Some}
 use Rattle.std.proofs.Math.Path.{fun_ext}
 use Rattle.std.specs.List.{sum_by}
+use Rattle.expert_nodes.specs.Experts.{fresh_at, is_stale_at}
 use Rattle.inc_value.specs.declared.function.FnRef.{FnRef}
 use Rattle.inc_value.specs.declared.node.NodeId.{NodeId}
 use Rattle.inc_value.specs.declared.node.Part.TheVariants.{Main, Change}
@@ -17,9 +19,9 @@ use Rattle.inc_value.specs.Choice.{Among, NoRepeats, Reaches}
 use Rattle.inc_terms.specs.Depend.{Depends, main, change, subject_of, none_died, died_in, scope_lost, fixed, fixed_reads}
 use Rattle.inc_terms.specs.Evaluate.{Of, Values, gathered, NodeGives, GiveAll, Stands as ScopeStands}
 use Rattle.inc_terms.specs.Graph.{Graph, Row, Def, Bind}
-use Rattle.inc_terms.specs.Local.{shown, by_sight, Sees, Agrees}
+use Rattle.inc_terms.specs.Local.{shown, by_sight, Sees}
 use Rattle.inc_terms.specs.Local as sight
-use Rattle.inc_terms.specs.Need.{IsRoot, Needed, from_root, from_held}
+use Rattle.inc_terms.specs.Need.{Needed, from_root, from_held}
 use Rattle.inc_terms.specs.Term as term
 use Rattle.inc_terms.specs.Term.{Functions, refs}
 use Rattle.inc_terms.specs.Within.{FunctionLaws}
@@ -28,57 +30,57 @@ use Rattle.inc_terms.proofs.Evaluation.{one_outcome}
 use Rattle.inc_terms.proofs.Local.{needed_more}
 use Rattle.inc_terms.proofs.Plan.{among_left, among_right, among_parts, among_map}
 use Rattle.map_nodes.specs.declared.cutoff.Cutoff.{Cutoff}
-use Rattle.point_map.specs.Rows.{at}
+use Rattle.point_map.specs.Rows.{Rows, at}
 use Rattle.link_table.specs.Links.{times, Reads}
 use Rattle.height_order.specs.Levels.{level, or_zero}
+use Rattle.necessity.specs.Need.{root_times}
 use Rattle.necessary_graph.specs.Part as part
-use Rattle.necessary_graph.specs.Part.{IsInStep}
+use Rattle.necessary_graph.specs.Part.{IsInStep, NecessaryPart}
 use Rattle.recompute_heap.specs.Agree.{IsEmpty}
 use Rattle.node_arena.specs.Arena.{Arena, row_at}
-use Rattle.node_arena.specs.Graph.{AllCallFit, Holdings, graph_of}
+use Rattle.node_arena.specs.Graph.{AllCallFit}
 use Rattle.node_outcomes.specs.Choosing.{built_by, built_in}
 use Rattle.node_outcomes.specs.Computing.{seen, seen_of, has_part}
 use Rattle.node_outcomes.specs.Meaning.{Meaning}
-use Rattle.node_outcomes.specs.Row.{settled_in, cutoff_in, outcome_in}
+use Rattle.node_outcomes.specs.Row.{cutoff_in, is_full, outcome_in, settled_in, stage_in, stage_of, with_frozen}
 use Rattle.node_outcomes.specs.declared.row.Progress.{Progress}
+use Rattle.node_outcomes.specs.declared.row.Stage.{Stage}
 use Rattle.stabilize_round.specs.Calling.{cost_at, costs_of}
 use Rattle.stabilize_round.specs.Runs.{IsBuiltRight}
 use Rattle.stabilize_round.proofs.Reasons.{reason_more, since_start}
-use Rattle.stabilize_round.specs.Closing.{next_start}
+use Rattle.stabilize_round.specs.Closing.{closed, next_start}
 use Rattle.stabilize_round.specs.Counts.{RoseBy}
-use Rattle.stabilize_round.specs.Ended.{RootsAre, Ended}
-use Rattle.stabilize_round.specs.Freezing.{fires_at}
+use Rattle.stabilize_round.specs.Ended.{RootsAre, Ended, Fires}
+use Rattle.stabilize_round.specs.Freezing.{fires_at, frozen_after, graph_after, or_else}
 use Rattle.stabilize_round.specs.Ids.{AllGiven}
 use Rattle.stabilize_round.specs.Invariant as invariant
-use Rattle.stabilize_round.specs.Invariant.{Invariant, MetNow, HasCalled, Recalls, IsUnmarked, ScopesRooted}
+use Rattle.stabilize_round.specs.Invariant.{Invariant, MetNow, HasCalled, ScopesRooted}
 use Rattle.stabilize_round.specs.Machine.{Entry, Moves, Stops, as_it_is}
 use Rattle.stabilize_round.specs.Moves.{Quiet}
-use Rattle.stabilize_round.specs.State.{State, Start, Call, Full, count, planned, all_retries}
-use Rattle.stabilize_round.proofs.Freezing.{other_rests, graph_rests}
-use Rattle.stabilize_round.proofs.Low.{low_points, links_are}
+use Rattle.stabilize_round.specs.State.{State, Start, Call, all_retries}
 use Rattle.stabilize_round.proofs.Meanings.{round_keeps, round_is_right, round_again}
-use Rattle.stabilize_round.proofs.Parts.{bool_cases}
 use Rattle.stabilize_round.proofs.Planned.{reads_taken}
-use Rattle.stabilize_round.proofs.Points.{count_among, among_count}
 use Rattle.wiring.specs.Deciding.{is_needed}
-use Rattle.wiring.specs.Graph.{held_at}
 use Rattle.wiring.specs.Kept.{IsKept}
 use Rattle.wiring.specs.Scoped.{IsReleased}
-use Rattle.wiring.specs.Stands.{MatchesState, Counts, counts_of, PointInHand}
+use Rattle.wiring.specs.Stands.{MatchesState, Counts, counts_of, owes, PointInHand}
 use Rattle.wiring.specs.declared.work.Work.{Work}
-use Rattle.wiring.proofs.Agreeing.{no_freeze}
 use Rattle.wiring.proofs.Deciding.{decides_needed}
 use Rattle.wiring.specs.Graph.{graph_at}
+use Rattle.stabilizer.specs.Freezing.{CanFreeze, FreezesKeep}
 use Rattle.stabilizer.specs.Left.{IsMetIn, WasCalledIn, IsUpToDateIn}
 use Rattle.stabilizer.specs.Look.{Look, look_between, IsNeeded, last_of, last_call, cutoff_at}
 use Rattle.stabilizer.proofs.Round.Looking.{look_needs, work_needs}
 use Rattle.stabilizer.specs.Kept.{graph_in, PartsKept}
-use Rattle.stabilizer.specs.Round.{IsUpToDate, IsReady, AreRooted, died_by}
+use Rattle.stabilizer.specs.Round.{IsUpToDate, IsReady, AreRooted, died_by, left_by}
 use Rattle.stabilizer.specs.declared.parts.Parts.{Parts}
 use Rattle.stabilizer.proofs.Round.Beginning.{Begun, BegunOf, main_there}
 use Rattle.stabilizer.proofs.Round.Counting.{within}
+use Rattle.stabilizer.proofs.Round.Fired.{can_freeze, unfrozen}
+use Rattle.stabilizer.proofs.Round.Frozen.{row_has, row_tells}
 use Rattle.stabilizer.proofs.Round.NewDeaths.{deaths_told}
-use Rattle.stabilizer.proofs.Round.Released.{IsClosed, closes, leaf_links, is_closed, kept_next, same_height, needed_back}
+use Rattle.stabilizer.proofs.Round.Released.{closes, graph_then, kept_next, needed_back, rooted_then, same_height, was_in_heap}
+use Rattle.stabilizer.proofs.Round.Rooting.{is_root, root_is}
 use Rattle.stabilizer.proofs.Step.Making.{quiet_of}
 use Rattle.stabilizer.proofs.Killing.Died.{live_undead}
 
@@ -150,17 +152,6 @@ gathered_by F G out (n ∷ ns) (v ∷ vs) gives sees =
     let rest = gathered_by F G out ns vs gives.1 (λ k a. sees k (inr a)) in
     rw (first, rest) refl
 
--- no node is a freeze that keeps no value yet, so roots are what is observed
-pub root_observed : (arena : Arena) (held : Holdings) (observed : List NodeId) (n : NodeId) → IsRoot (graph_of arena held) observed n
-    → Among n observed
-root_observed arena held observed n (inl a) = a
-root_observed arena held observed n (inr u) = absurd (no_freeze arena n u.row u.kid u.predicate u.is_row u.is_freeze)
-
-pub among_main : (p : Point) (ns : List NodeId) → Among p (map main ns) → (n : NodeId) × Among n ns × (p ≡ main n)
-among_main p [] a = absurd a
-among_main p (n ∷ ns) (inl e) = (n, inl refl, e)
-among_main p (n ∷ ns) (inr a) = let k = among_main p ns a in (k.0, inr k.1, k.2)
-
 -- ---- a list from its end
 
 among_reverse : (n : NodeId) (ns : List NodeId) → Among n ns → Among n (reverse ns)
@@ -199,91 +190,6 @@ once_reverse [] once = tt
 once_reverse (m ∷ ms) once =
     let parts = last_apart (reverse ms) m (subst (λ (xs : List NodeId). NoRepeats xs) (reverse-append (m ∷ []) ms) once) in
     ((λ a. parts.1 (among_reverse m ms a)), once_reverse ms parts.0)
-
--- ---- a round that ended is one that begins
-
--- the state after it
-abbrev pub rested : State → (Point → Point → ℕ) → (Point → Bool) → State
-rested t links' needed' = record t {
-  links = links';
-  needed = needed';
-  taken = None;
-  died = none_died;
-  settled = λ (p : Point). false;
-  retries = all_retries;
-  ran = [];
-}
-
-module _ (F : Functions) (z : Start) (t : State) (inv : Invariant F z t) (quiet : Quiet t) (empty : (p : Point) → t.heap p ≡ true → ⊥)
-    (still : (n : NodeId) → fires_at t n ≡ None) (links' : Point → Point → ℕ) (needed' : Point → Bool) (c : IsClosed t links' needed') where
-  from : (a b : Point) → 0 < links' a b → needed' a ≡ true
-  from a b l = elim (bool_cases (needed' a)) [ inl e ↦ e | inr e ↦ absurd (omega (arith, c.gone a b e, l)) ]
-
-  rises : (a b : Point) → 0 < links' a b → t.height b < t.height a
-  rises a b l = by_row (t.graph.row a.node) refl
-    where
-      by_row : (x : Option Row) → t.graph.row a.node ≡ x → t.height b < t.height a
-      by_row None e = absurd (omega (arith, c.dead a b e, l))
-      by_row (Some r) e = inv.web.rises a b (omega (arith, c.live a b r e (from a b l), l))
-
-  links_rest : (p q : Point) → needed' p ≡ true → links' p q ≡ count q (planned (rested t links' needed') p)
-  links_rest p q need = by_row (t.graph.row p.node) refl
-    where
-      by_row : (x : Option Row) → t.graph.row p.node ≡ x → links' p q ≡ count q (planned (rested t links' needed') p)
-      by_row None e = rw e (c.dead p q e ∙ sym (leaf_links q (t.stage p)))
-      by_row (Some r) e = rw e (c.live p q r e need ∙ (rw e at (links_are F z t inv quiet p q (c.was p need))))
-
-  full : (p : Point) (r : Row) → t.graph.row p.node ≡ Some r → t.needed p ≡ true → t.stage p ≡ Full
-  full p r row need = (low_points F z t inv quiet (suc (t.height p)) (λ q h. absurd (empty q h)) p (omega arith) need).full r row
-
-  fresh : (p : Point) (r : Row) → t.graph.row p.node ≡ Some r → t.needed p ≡ true
-      → Agrees F t.graph t.out p × Recalls t.graph (shown t.graph t.out) t.last p × IsUnmarked t.stale p
-  fresh p r row need = elim (inv.fresh p r row need) [
-    | inl h ↦ absurd (empty p h)
-    | inr (inl h) ↦
-        let d = inv.settled.done p h in (
-          d.agrees,
-          d.recalls,
-          λ part. inv.accounts.unmarked p.node
-              (subst (λ (y : Point). t.settled y ≡ true) (λ i. record { node = p.node; part = part i }) h),
-        )
-    | inr (inr h) ↦ (h.1, h.2, h.3)
-  ]
-
-  pub begins_again : Entry F (next_start z t needed') (rested t links' needed')
-  begins_again = record {
-    web = record {
-      from = from;
-      onto = c.onto;
-      rooted = c.rooted;
-      reached = c.reached;
-      rises = rises;
-      low = inv.web.low;
-      heap = λ p h. absurd (empty p h);
-    };
-    alive = inv.alive;
-    links = λ p q need. let o = inv.rows.owed p (quiet p) in let e = links_rest p q need in rw o (omega (arith, e));
-    full = λ p r row need. full p r row (c.was p need);
-    bare = λ p need e. let a = inv.rows.bare p (c.was p need) e in let b = quiet p in cc;
-    scoped = inv.scoped;
-    rooted = inv.rooted;
-    built = inv.built;
-    fresh = λ p r row need. inr (fresh p r row (c.was p need));
-    settled = λ p. refl;
-    owed = λ p h. inv.rows.owed p (quiet p);
-    todo = λ p need h. absurd (let x = quiet p in cc);
-    retries = refl;
-    ran = refl;
-    taken = refl;
-    died = λ n. refl;
-    held = λ p. refl;
-    last = λ n. refl;
-    calls = refl;
-    cutoff = λ n. refl;
-    stale = λ n. refl;
-    answers = inv.accounts.answers;
-    unfired = still;
-  }
 
 -- ---- a round that ended
 
@@ -333,11 +239,14 @@ module _ (M : Meaning) (old mid : Parts) (before after : Counts) (first : PartsK
   none : (p : Point) → t.heap p ≡ true → ⊥
   none = no_heap arena work after t stands empty
 
-  still : (n : NodeId) → fires_at t n ≡ None
-  still n = other_rests t n (λ r kid f row is. no_freeze arena n r kid f (sym (ap (λ (H : Graph). H.row n) stands.graph) ∙ row) is)
+  stands_last : MatchesState arena work after None last
+  stands_last = subst (λ (x : State). MatchesState arena work after None x) is_last stands
 
-  still_last : (n : NodeId) → fires_at last n ≡ None
-  still_last n = other_rests last n (λ r kid f row is. no_freeze arena n r kid f row is)
+  quiet_last : Quiet last
+  quiet_last = subst Quiet is_last quiet
+
+  none_last : (p : Point) → last.heap p ≡ true → ⊥
+  none_last = subst (λ (x : State). (p : Point) → x.heap p ≡ true → ⊥) is_last none
 
   -- ---- outcomes and last calls
 
@@ -365,28 +274,77 @@ module _ (M : Meaning) (old mid : Parts) (before after : Counts) (first : PartsK
   later : (n m : ℕ) → n ≤ m → (n == m + 1) ≡ false
   later n m le = grind (arith, common_steps)
 
-  module _ (end : Parts) (r : IsReleased mid.work end.work) (in_step : IsInStep end.work.graph) (ran : end.work.ran.items ≡ [])
+  -- ---- roots
+
+  abbrev pub AreObserved : List NodeId → Type 0
+  AreObserved observed = AreRooted arena work arena.given observed
+
+  pub are : (observed : List NodeId) → AreObserved observed → RootsAre last observed
+  are observed rooted = record {
+    on = λ n root. is_root G arena.given observed last.root (λ p. stands.root p ∙ rooted p) n root (λ r row. kept.work.sound.given n (ap is_some row));
+    listed = λ p h. root_is G arena.given observed last.root (λ q. stands.root q ∙ rooted q) p h;
+  }
+
+  all_done : (observed : List NodeId) → AreObserved observed → Ended F z last observed
+  all_done observed rooted = round_is_right F z b.state last observed b.entry moves (are observed rooted) quiet_last none_last
+
+  in_state : (n : NodeId) → Among n work.ran.items → Among n t.ran
+  in_state n a = subst (λ (ns : List NodeId). Among n ns) (sym stands.ran) (among_reverse n work.ran.items a)
+
+  in_work : (n : NodeId) → Among n t.ran → Among n work.ran.items
+  in_work n a = reverse_among n work.ran.items (subst (λ (ns : List NodeId). Among n ns) stands.ran a)
+
+  -- each freeze that is to keep a value was called, is a root and reads its child
+  pub may_freeze : (observed : List NodeId) → AreObserved observed → CanFreeze arena work.rows work.graph work.ran.items
+  may_freeze observed rooted = can_freeze arena work after last kept.work stands_last F z inv_last quiet_last observed (all_done observed rooted)
+      (λ n kid h.
+      let u = unfrozen arena work after last kept.work stands_last n kid h in
+      (are observed rooted).on n (inr u))
+      in_work
+
+  -- ---- freezes keep their values, and the dead let go
+
+  module _ (end : Parts) (rows' : Rows Progress) (g : NecessaryPart) (keep : FreezesKeep arena work.rows rows' work.graph g)
+      (r : IsReleased (record mid.work { rows = rows'; graph = g }) end.work) (in_step : IsInStep end.work.graph) (ran : end.work.ran.items ≡ [])
       (retries : end.work.retries ≡ all_retries) (round : end.work.round ≡ mid.work.round + 1) where
     abbrev new : Work
     new = end.work
 
     abbrev next : Work
-    next = record mid.work { graph = end.work.graph; deaths = end.work.deaths; ran = end.work.ran; retries = end.work.retries; round = end.work.round }
+    next = record mid.work { rows = rows'; graph = end.work.graph; deaths = end.work.deaths; ran = end.work.ran; retries = end.work.retries; round = end.work.round }
 
     abbrev next_parts : Parts
     next_parts = record mid { work = next; ran = end.ran }
 
+    -- the graph then
+    abbrev N : Graph
+    N = graph_at arena next
+
     abbrev links' : Point → Point → ℕ
     links' p q = times end.work.graph.links p q
+
+    abbrev root' : Point → ℕ
+    root' p = root_times end.work.graph.roots p
 
     abbrev needed' : Point → Bool
     needed' = is_needed end.work.graph
 
-    is_shut : IsClosed t links' needed'
-    is_shut = is_closed F z t inv quiet arena work new after kept.work stands r in_step
+    -- what is told of a row but for its flag
+    tells : {A : Type 0} (f : Option Progress → A) → ((k : Progress) → f (Some (with_frozen k)) ≡ f (Some k)) → (p : Point) → f (at rows' p) ≡ f (at work.rows p)
+    tells = row_tells arena work.rows rows' work.graph g keep
 
-    shut_last : IsClosed last links' needed'
-    shut_last = subst (λ (x : State). IsClosed x links' needed') is_last is_shut
+    graph_is : graph_after last ≡ N
+    graph_is = graph_then F z last inv_last quiet_last arena work rows' g new after kept.work stands_last keep r in_step
+
+    -- the state after it, where those that died are forgotten
+    abbrev shut : State
+    shut = closed last root' links' needed'
+
+    abbrev rest : State
+    rest = record shut { graph = N }
+
+    shut_is : shut ≡ rest
+    shut_is = ap (λ (H : Graph). record shut { graph = H }) graph_is
 
     unsettled : (x : Option Progress) → ((k : Progress) → x ≡ Some k → k.settled ≤ work.round) → settled_in (work.round + 1) x ≡ false
     unsettled None low = refl
@@ -395,8 +353,8 @@ module _ (M : Meaning) (old mid : Parts) (before after : Counts) (first : PartsK
     height_is : (p : Point) → part.Needed new.graph p → t.height p ≡ level new.graph.heights p
     height_is p n =
         let held = in_step.there p n in
-        let same = same_height F z t inv quiet arena work new after kept.work stands r in_step p held in
-        stands.height p (needed_back F z t inv quiet arena work new after kept.work stands r in_step p n)
+        let same = same_height F z last inv_last quiet_last arena work rows' g new after kept.work stands_last keep r in_step p held in
+        stands.height p (needed_back F z last inv_last quiet_last arena work rows' g new after kept.work stands_last keep r in_step p n)
         ∙ sym (height_at (at new.graph.heights p) same)
       where
         height_at : (x : Option ℕ) → x ≡ at work.graph.heights p → or_zero x ≡ or_zero (at work.graph.heights p)
@@ -404,53 +362,57 @@ module _ (M : Meaning) (old mid : Parts) (before after : Counts) (first : PartsK
 
     no_place : (p : Point) (x : Option ℕ) → at new.graph.heap p ≡ x → false ≡ is_some x
     no_place p None e = refl
-    no_place p (Some h) e = absurd (let a = (r.sweep.heap p h e).0 in let c = empty p in cc)
+    no_place p (Some h) e = absurd (
+        let a = was_in_heap F z last inv_last quiet_last arena work rows' g new after kept.work stands_last keep r in_step p h e in
+        let c = empty p in cc)
 
     heap_is : (p : Point) → t.heap p ≡ is_some (at new.graph.heap p)
     heap_is p = stands.heap p ∙ (ap is_some (empty p) ∙ no_place p (at new.graph.heap p) refl)
 
-    stands_next : MatchesState arena next (counts_of (rested t links' needed')) None (rested t links' needed')
+    -- of a row that is there all but its flag was there
+    had : (P : Progress → Type 0) → ((k : Progress) → P k → P (with_frozen k)) → (p : Point) → ((k : Progress) → at work.rows p ≡ Some k → P k)
+        → (k : Progress) → at rows' p ≡ Some k → P k
+    had = row_has arena work.rows rows' work.graph g keep
+
+    none_owed : (p : Point) → t.owed p ≡ []
+    none_owed p = inv.rows.owed p (quiet p)
+
+    none_then : (p : Point) → needed' p ≡ true → owes next true p ≡ []
+    none_then p e =
+        let was : t.needed p ≡ true = (stands.needed p).1 (needed_back F z last inv_last quiet_last arena work rows' g new after kept.work
+        stands_last keep r in_step p ((decides_needed new.graph in_step p).0 e)) in
+        ap (λ (x : Option Stage). cond (is_full x) (map main (fresh_at work.experts p.node)) []) (tells stage_in (λ k. refl) p)
+        ∙ (ap (λ (need : Bool). owes work need p) (sym was) ∙ (sym (stands.owed p) ∙ none_owed p))
+
+    owed_is : (p : Point) → t.owed p ≡ owes next (needed' p) p
+    owed_is p = none_owed p ∙ sym (by (needed' p) refl)
+      where
+        by : (need : Bool) → needed' p ≡ need → owes next need p ≡ []
+        by false e = refl
+        by true e = none_then p e
+
+    stands_next : MatchesState arena next (counts_of rest) None rest
     stands_next = record {
-      graph = stands.graph;
-      out = stands.out;
-      last = stands.last;
-      cutoff = stands.cutoff;
+      graph = refl;
+      out = λ p k e. had (λ x. t.out p ≡ x.outcome) (λ x h. h) p (λ x is. stands.out p x is) k e;
+      last = λ n k e. had (λ x. t.last n ≡ x.last) (λ x h. h) (main n) (λ x is. stands.last n x is) k e;
+      cutoff = λ n k e. had (λ x. t.cutoff n ≡ x.cutoff) (λ x h. h) (main n) (λ x is. stands.cutoff n x is) k e;
       stale = stands.stale;
       links = λ p q. refl;
-      root = λ p. stands.root p ∙ sym (r.sweep.roots p);
+      root = λ p. refl;
       needed = λ p. decides_needed new.graph in_step p;
       height = height_is;
       heap = heap_is;
-      settled = λ p. sym (ap (λ (k : ℕ). settled_in k (at work.rows p)) round ∙ unsettled (at work.rows p) (kept.work.rounds p));
-      stage = stands.stage;
-      owed = stands.owed;
+      settled = λ p. sym (tells (λ x. settled_in end.work.round x) (λ k. refl) p
+          ∙ (ap (λ (k : ℕ). settled_in k (at work.rows p)) round ∙ unsettled (at work.rows p) (kept.work.rounds p)));
+      stage = λ p k e. had (λ x. t.stage p ≡ stage_of x.stage) (λ x h. h) p (λ x is. stands.stage p x is) k e;
+      owed = owed_is;
       todo = stands.todo;
       retries = sym retries;
       died = λ n. sym (r.deaths n);
       ran = sym (ap reverse ran);
       counts = refl;
       given = stands.given;
-    }
-
-    pub ready_next : FunctionLaws M.functions M.known M.ids → AllCallFit M.known M.ids arena → ScopesRooted (graph_in next_parts)
-        → IsReady M next_parts
-    ready_next laws fit inside = record {
-      kept = record {
-        work = kept_next F z t inv quiet arena work new after kept.work stands r in_step round;
-        scopes = kept.scopes;
-        dying = kept.dying;
-        clock = kept.clock;
-      };
-      laws = laws;
-      fit = fit;
-      start = next_start z t needed';
-      state = rested t links' needed';
-      stands = stands_next;
-      entry = begins_again F z t inv quiet none still links' needed' is_shut;
-      inside = inside;
-      todo = idle;
-      ran = ran;
-      numbered = omega (arith, round);
     }
 
     -- ---- what is up to date
@@ -465,36 +427,51 @@ module _ (M : Meaning) (old mid : Parts) (before after : Counts) (first : PartsK
     kept_needs : (p : Point) → IsNeeded after_look p → part.Needed new.graph p
     kept_needs p need = work_needs (next.round - 1) arena next p need
 
-    module _ (observed : List NodeId) (rooted : AreRooted mid.work observed) where
-      are : RootsAre last observed
-      are = record {
-        on = λ n root. subst (λ (k : ℕ). 0 < k) (sym (stands.root (main n) ∙ rooted (main n)))
-            (among_count (main n) (map main observed) (among_map main n observed (root_observed arena (held_at arena work) observed n root)));
-        listed = λ p h.
-            let a = among_main p observed (count_among p (map main observed) (subst (λ (k : ℕ). 0 < k) (stands.root p
-            ∙ rooted p) h)) in (a.0, inl a.1, a.2);
-      }
+    seen_same : (n : NodeId) → seen rows' (main n) ≡ seen work.rows (main n)
+    seen_same n = tells seen_of (λ k. refl) (main n)
 
+    last_same : (n : NodeId) → last_call next n ≡ last_call work n
+    last_same n = tells last_of (λ k. refl) (main n)
+
+    module _ (observed : List NodeId) (rooted : AreObserved observed) where
       ended : Ended F z last observed
-      ended = round_is_right F z b.state last observed b.entry moves are quiet none
+      ended = all_done observed rooted
 
-      -- the state after it, where those that died are forgotten
-      abbrev rest : State
-      rest = rested last links' needed'
+      again : Entry F (next_start z last needed') shut × Ended F (next_start z last needed') shut observed
+      again = round_again F z b.state last observed b.entry moves (are observed rooted) quiet_last none_last root' links' needed'
+          (closes F z last inv_last quiet_last arena work rows' g new after kept.work stands_last keep r in_step observed rooted ended)
 
       ended_again : Ended F (next_start z last needed') rest observed
-      ended_again =
-          let again = round_again F z b.state last observed b.entry moves are quiet none last.root links' needed'
-          (closes last observed links' needed' still_last are shut_last) in
-          subst (λ (H : Graph). Ended F (next_start z last needed') (record rest { graph = H }) observed) (graph_rests last still_last) again.1
+      ended_again = subst (λ (x : State). Ended F (next_start z last needed') x observed) shut_is again.1
+
+      pub ready_next : FunctionLaws M.functions M.known M.ids → AllCallFit M.known M.ids arena → ScopesRooted (graph_in next_parts)
+          → IsReady M next_parts
+      ready_next laws fit inside = record {
+        kept = record {
+          work = kept_next F z last inv_last quiet_last arena work rows' g new after kept.work stands_last keep r in_step round;
+          scopes = kept.scopes;
+          dying = kept.dying;
+          clock = kept.clock;
+        };
+        laws = laws;
+        fit = fit;
+        start = next_start z last needed';
+        state = rest;
+        stands = stands_next;
+        entry = subst (λ (x : State). Entry F (next_start z last needed') x) shut_is again.0;
+        linked = λ p need. inr (none_then p ((decides_needed new.graph in_step p).1 need));
+        inside = inside;
+        ran = ran;
+        numbered = omega (arith, round);
+      }
 
       abbrev IsWanted : Point → Type 0
       IsWanted p = Needed F G D observed p
 
       -- ---- what was needed
 
-      sees : (n : NodeId) → IsWanted (main n) → (o : Outcome) × (seen work.rows (main n) ≡ Some o) × NodeGives F G n o
-      sees n want = let s = ended.sees n want in (s.0, seen_is n ∙ s.1, s.2)
+      sees : (n : NodeId) → IsWanted (main n) → (o : Outcome) × (seen rows' (main n) ≡ Some o) × NodeGives F G n o
+      sees n want = let s = ended.sees n want in (s.0, seen_same n ∙ (seen_is n ∙ s.1), s.2)
 
       -- a change shows what its subject gives
       chose : (n m : NodeId) (x : Row) → row_at arena n ≡ Some x → subject_of x.def ≡ Some m → IsWanted (change n)
@@ -504,6 +481,11 @@ module _ (M : Meaning) (old mid : Parts) (before after : Counts) (first : PartsK
           let there : is_some (at work.rows (change n)) ≡ true =
           kept.work.rows (change n) ∙ (ap (λ (y : Option Row). has_part y Change) row ∙ ap is_some subject) in
           (now.0, shows (at work.rows (change n)) (t.out (change n)) there (λ k e. stands.out (change n) k e) ∙ now.1, now.2)
+
+      chose_then : (n m : NodeId) (x : Row) → row_at arena n ≡ Some x → subject_of x.def ≡ Some m → IsWanted (change n)
+          → (o : Outcome) × (outcome_in (at rows' (change n)) ≡ Some o) × NodeGives F G m o
+      chose_then n m x row subject want =
+          let c = chose n m x row subject want in (c.0, tells outcome_in (λ k. refl) (change n) ∙ c.1, c.2)
 
       -- a bind is built for it
       built : (n m : NodeId) (x : Row) (f : FnRef) (captures : List NodeId) → row_at arena n ≡ Some x → x.def ≡ Bind m f captures
@@ -527,7 +509,7 @@ module _ (M : Meaning) (old mid : Parts) (before after : Counts) (first : PartsK
       -- ---- what is needed then
 
       abbrev IsNeededThen : Point → Type 0
-      IsNeededThen p = Needed F G none_died observed p
+      IsNeededThen p = Needed F N none_died observed p
 
       decides : (p : Point) → (is_needed new.graph p ≡ true) ↔ part.Needed new.graph p
       decides p = decides_needed new.graph in_step p
@@ -538,33 +520,37 @@ module _ (M : Meaning) (old mid : Parts) (before after : Counts) (first : PartsK
       needed : (p : Point) → IsNeededThen p → part.Needed new.graph p
       needed p want = (decides p).0 ((ended_again.needs p).1 want)
 
-      links : (p q : Point) → part.Needed new.graph p → Reads new.graph.links p q ↔ Depends F G none_died p q
+      links : (p q : Point) → part.Needed new.graph p → Reads new.graph.links p q ↔ Depends F N none_died p q
       links p q need = ended_again.links p q ((decides p).1 need)
 
       -- ---- last calls
 
       kid_wanted : (n : NodeId) (x : Row) (nodes : List NodeId) (k : NodeId) → part.Needed new.graph (main n) → row_at arena n ≡ Some x
-          → taken_by G n x.def ≡ Some nodes → Among k nodes → IsNeededThen (main k)
+          → taken_by N n x.def ≡ Some nodes → Among k nodes → IsNeededThen (main k)
       kid_wanted n x nodes k need row def a =
-          let among : Among (main k) (fixed_reads G n x.def Main) = reads_taken G n x.def nodes (main k) def (among_map main k nodes a) in
-          needed_more F G none_died observed (main n) (main k) (wanted (main n) need)
+          let among : Among (main k) (fixed_reads N n x.def Main) = reads_taken N n x.def nodes (main k) def (among_map main k nodes a) in
+          needed_more F N none_died observed (main n) (main k) (wanted (main n) need)
           (fixed row (ended_again.exact (main n) ((decides (main n)).1 need) x row).0 among)
 
       recalls : (n : NodeId) (x : Row) (nodes : List NodeId) (values : List Value) → part.Needed new.graph (main n) → row_at arena n ≡ Some x
-          → taken_by G n x.def ≡ Some nodes → GiveAll F G nodes values → (c : Call) × (last_call work n ≡ Some c) × (c.arguments ≡ values)
+          → taken_by N n x.def ≡ Some nodes → GiveAll F N nodes values → (c : Call) × (last_call next n ≡ Some c) × (c.arguments ≡ values)
       recalls n x nodes values need row def gives =
-          let all = gathered_by F G t.out nodes values gives (λ k a. ended_again.sees k (kid_wanted n x nodes k need row def a)) in
+          let all = gathered_by F N t.out nodes values gives (λ k a. ended_again.sees k (kid_wanted n x nodes k need row def a)) in
           let c = ended_again.recalls (main n) ((decides (main n)).1 need) x nodes values row refl def all in
-          (c.0, last_is n x row ∙ c.1, c.2)
+          (c.0, last_same n ∙ (last_is n x row ∙ c.1), c.2)
 
       is_met : (p : Point) → MetNow F z G D t.root p → IsMetIn F G D (look_between old) observed p
       is_met p (invariant.from_root {r = top} root way) =
-          let l = are.listed top root in
+          let l = (are observed rooted).listed top root in
           from_root l.1 (subst (λ (y : Point). Reaches (Depends F G D) y p) l.2 way)
       is_met p (invariant.from_held {h} held row stand way) = from_held (look_needs (old.work.round - 1) old.arena old.work h ((b.held h).0 held)) row stand way
 
+      settled_was : (q : Point) → settled_in (next.round - 1) (at rows' q) ≡ t.settled q
+      settled_was q = tells (λ x. settled_in (next.round - 1) x) (λ k. refl) q
+          ∙ (ap (λ (k : ℕ). settled_in k (at work.rows q)) this_round ∙ sym (stands.settled q))
+
       settled_then : (q : Point) → t.settled q ≡ true → after_look.settled q ≡ true
-      settled_then q settled = ap (λ (k : ℕ). settled_in k (at work.rows q)) this_round ∙ (sym (stands.settled q) ∙ settled)
+      settled_then q settled = settled_was q ∙ settled
 
       was_called : (n : NodeId) → HasCalled F z G D t.root t.settled t.last n → WasCalledIn F G D (look_between old) after_look observed n
       was_called n c = record {
@@ -580,11 +566,8 @@ module _ (M : Meaning) (old mid : Parts) (before after : Counts) (first : PartsK
         };
         result = c.result;
         answers = c.answers;
-        is_last = last_is n c.row c.is_row ∙ c.is_last;
+        is_last = last_same n ∙ (last_is n c.row c.is_row ∙ c.is_last);
       }
-
-      in_state : (n : NodeId) → Among n work.ran.items → Among n t.ran
-      in_state n a = subst (λ (ns : List NodeId). Among n ns) (sym stands.ran) (among_reverse n work.ran.items a)
 
       called : (n : NodeId) → Among n work.ran.items → WasCalledIn F G D (look_between old) after_look observed n
       called n a = was_called n (ended.ran n (in_state n a))
@@ -600,43 +583,89 @@ module _ (M : Meaning) (old mid : Parts) (before after : Counts) (first : PartsK
       costs n a = ended.costs n (in_state n a)
 
       uncalled : (n : NodeId) (x : Row) → row_at arena n ≡ Some x → (Among n work.ran.items → ⊥)
-          → (last_call work n ≡ last_call old.work n) ⊎ (WasCalledIn F G D (look_between old) after_look observed n × (cost_at G n ≡ 0))
+          → (last_call next n ≡ last_call old.work n) ⊎ (WasCalledIn F G D (look_between old) after_look observed n × (cost_at G n ≡ 0))
       uncalled n x row not =
-          elim (ended.kept n x row (λ a. not (reverse_among n work.ran.items (subst (λ (ns : List NodeId). Among n ns) stands.ran a)))) [
-            | inl k ↦ inl (last_is n x row ∙ (k ∙ b.last n))
+          elim (ended.kept n x row (λ a. not (in_work n a))) [
+            | inl k ↦ inl (last_same n ∙ (last_is n x row ∙ (k ∙ b.last n)))
             | inr c ↦ inr (was_called n c.0, c.1)
           ]
 
       once : NoRepeats work.ran.items
       once = once_reverse work.ran.items (subst (λ (ns : List NodeId). NoRepeats ns) stands.ran ended.once)
 
-      pub up_next : IsUpToDateIn F G D G (look_between old) after_look observed work.ran.items
+      -- ---- marks, and what freezes keep
+
+      unmarked : (n : NodeId) (x : Row) → row_at arena n ≡ Some x → IsWanted (main n) → is_stale_at work.experts n ≡ false
+      unmarked n x row want = sym (stands.stale n) ∙ ended.unmarked n x row ((ended.needs (main n)).1 want)
+
+      renewed : (n : NodeId) (x : Row) (kids : List NodeId) (values : List Value) → is_stale_at old.work.experts n ≡ true → IsWanted (main n)
+          → row_at arena n ≡ Some x → taken_by G n x.def ≡ Some kids → GiveAll F G kids values → 0 < cost_at G n → Among n work.ran.items
+      renewed n x kids values stale want row takes gives cost =
+          in_work n (ended.renewed n x kids values (b.stale n ∙ stale) ((ended.needs (main n)).1 want) row takes gives cost)
+
+      marks : (n : NodeId) → after_look.settled (main n) ≡ false → is_stale_at work.experts n ≡ is_stale_at old.work.experts n
+      marks n not = sym (stands.stale n) ∙ (inv_last.accounts.marked n (sym (settled_was (main n)) ∙ not) ∙ b.stale n)
+
+      frozen_is : (n : NodeId) → N.frozen n ≡ frozen_after last n
+      frozen_is n = ap (λ (H : Graph). H.frozen n) (sym graph_is)
+
+      froze_by : (n : NodeId) (v : Value) (x : Option Value) → fires_at last n ≡ x
+          → (or_else x (G.frozen n) ≡ Some v) ↔ ((G.frozen n ≡ Some v) ⊎ Fires F G n v)
+      froze_by n v None e = (
+        λ is. inl is,
+        λ h. elim h [
+          | inl was ↦ was
+          | inr fires ↦ absurd (none-some v (sym e ∙ (ended.fires n v).1 fires))
+        ],
+      )
+      froze_by n v (Some w) e = (
+        λ is. inr (subst (λ (u : Value). Fires F G n u) (same_Some w v is) ((ended.fires n w).0 e)),
+        λ h. elim h [
+          | inl was ↦ absurd (let fires = (ended.fires n w).0 e in none-some v (sym fires.keeps_none ∙ was))
+          | inr fires ↦ sym e ∙ (ended.fires n v).1 fires
+        ],
+      )
+
+      froze : (n : NodeId) (v : Value) → (N.frozen n ≡ Some v) ↔ ((G.frozen n ≡ Some v) ⊎ Fires F G n v)
+      froze n v =
+          let k = froze_by n v (fires_at last n) refl in
+          (λ is. k.0 (sym (frozen_is n) ∙ is), λ h. frozen_is n ∙ k.1 h)
+
+      pub up_next : IsUpToDateIn F G D N (look_between old) after_look observed work.ran.items
       up_next = record {
-        roots = λ p. r.sweep.roots p ∙ rooted p;
+        roots = rooted_then F z last inv_last quiet_last arena work rows' g new after kept.work stands_last keep r in_step observed rooted ended;
         needs = λ p. (λ need. wanted p (kept_needs p need), λ want. look_needs (next.round - 1) arena next p (needed p want));
         sees = sees;
-        chose = chose;
+        chose = chose_then;
         built = built;
         acyclic = ended.acyclic;
         shallow = ended.shallow;
         links = λ p q need. links p q (kept_needs p need);
         recalls = λ n x kids values need. recalls n x kids values (kept_needs (main n) need);
         kept = uncalled;
-        cutoff = cutoffs;
+        cutoff = λ n x row. tells cutoff_in (λ k. refl) (main n) ∙ cutoffs n x row;
+        unmarked = unmarked;
+        renewed = renewed;
+        marks = marks;
+        froze = froze;
         once = once;
         called = called;
         costs = costs;
-        work = λ beside observers stood are_on calls few. within F G D (look_between old) after_look observed (root_observed arena
-            (held_at arena work) observed) beside
+        work = λ beside observers stood are_on calls few. within F G D (look_between old) after_look observed beside
             observers stood are_on work.ran.items once called_standing calls few;
       }
 
-      -- as the round's end leaves it
-      pub up_end : next ≡ end.work → end.ran.items ≡ work.ran.items → IsUpToDate F old (record mid { work = end.work; ran = end.ran }) observed
-      up_end is ran_is = subst (λ (w : Work). IsUpToDate F old (record mid { work = w; ran = end.ran }) observed) is
-          (subst (λ (xs : List NodeId). IsUpToDateIn F G D G (look_between old) after_look observed xs) (sym ran_is) up_next)
+      abbrev end_parts : Parts
+      end_parts = record mid { work = end.work; ran = end.ran }
 
-    pub ready_end : next ≡ end.work → FunctionLaws M.functions M.known M.ids → AllCallFit M.known M.ids arena
-        → ScopesRooted (graph_at arena end.work) → IsReady M (record mid { work = end.work; ran = end.ran })
-    ready_end is laws fit inside = subst (λ (w : Work). IsReady M (record mid { work = w; ran = end.ran })) is
-        (ready_next laws fit (subst (λ (w : Work). ScopesRooted (graph_at arena w)) (sym is) inside))
+      -- as the round's end leaves it, over the graph that its round read
+      pub up_end : next ≡ end.work → end.ran.items ≡ work.ran.items → G ≡ left_by old (record mid { work = end.work; ran = end.ran })
+          → IsUpToDate F old (record mid { work = end.work; ran = end.ran }) observed
+      up_end is ran_is left = subst (λ (H : Graph). IsUpToDateIn F H D (graph_in end_parts) (look_between old) (look_between end_parts) observed end.ran.items) left
+          (subst (λ (w : Work). IsUpToDateIn F G D (graph_at arena w) (look_between old) (look_between (record mid { work = w; ran = end.ran })) observed end.ran.items)
+          is (subst (λ (xs : List NodeId). IsUpToDateIn F G D N (look_between old) after_look observed xs) (sym ran_is) up_next))
+
+      pub ready_end : next ≡ end.work → FunctionLaws M.functions M.known M.ids → AllCallFit M.known M.ids arena
+          → ScopesRooted (graph_at arena end.work) → IsReady M (record mid { work = end.work; ran = end.ran })
+      ready_end is laws fit inside = subst (λ (w : Work). IsReady M (record mid { work = w; ran = end.ran })) is
+          (ready_next laws fit (subst (λ (w : Work). ScopesRooted (graph_at arena w)) (sym is) inside))

@@ -1,14 +1,13 @@
 -- What a refused round says is so, and what it leaves of the link that was refused.
-use Rattle.std.proofs.Common.{◌≡◌, ◌-◌, inl, inr, ℕ, ◌<◌, ◌≤◌, ◌++◌, true, List, [], ◌∷◌, length, map, Option, refl, sym, ap, subst, ◌∙◌, arith, None, Some}
+use Rattle.std.proofs.Common.{◌≡◌, ◌-◌, inl, inr, ℕ, ◌<◌, ◌≤◌, true, List, [], ◌∷◌, length, Option, refl, sym, ap, subst, ◌∙◌, arith, None, Some}
 use Rattle.inc_value.specs.declared.node.NodeId.{NodeId}
 use Rattle.inc_value.specs.declared.node.Point.{Point}
 use Rattle.inc_value.specs.Choice.{Among, Reaches}
 use Rattle.inc_value.specs.Walk.{IsWalk}
 use Rattle.inc_terms.specs.Depend.{Depends, main, change}
 use Rattle.inc_terms.specs.Graph.{Graph, Row}
-use Rattle.inc_terms.specs.Need.{from_root, from_held}
+use Rattle.inc_terms.specs.Need.{IsRoot, from_root, from_held}
 use Rattle.inc_terms.specs.Term.{Functions}
-use Rattle.inc_terms.proofs.Plan.{among_left, among_right}
 use Rattle.height_order.specs.Chains.{ReadsWith, IsChain}
 use Rattle.node_outcomes.specs.Meaning.{Meaning}
 use Rattle.stabilize_round.specs.Invariant as invariant
@@ -18,7 +17,6 @@ use Rattle.stabilize_round.specs.State.{State, Start}
 use Rattle.stabilize_round.specs.StepLaws.{LinkedOr}
 use Rattle.stabilize_round.proofs.Confirmed.{listed_are_met}
 use Rattle.stabilize_round.proofs.Meanings.{round_keeps}
-use Rattle.stabilize_round.proofs.Points.{count_among}
 use Rattle.wiring.specs.Refusing.{RefusedBy, TellsWhy, no_memory, by_link}
 use Rattle.wiring.specs.Stands.{PointInHand, MatchesState, Counts, hand}
 use Rattle.wiring.specs.declared.refused.Refused.{Refused}
@@ -29,14 +27,15 @@ use Rattle.stabilizer.specs.Look.{look_between, Look, look_of, look_refused, IsN
 use Rattle.stabilizer.proofs.Round.Looking.{look_needs}
 use Rattle.stabilizer.specs.Building.{StopsBuilding}
 use Rattle.stabilizer.specs.Kept.{graph_in}
-use Rattle.stabilizer.specs.Round.{AreRooted, OnlyRoots, IsFullBy, IsLawful, died_by}
+use Rattle.stabilizer.specs.Round.{IsFullBy, died_by}
 use Rattle.stabilizer.specs.declared.parts.Parts.{Parts}
 use Rattle.stabilizer.proofs.Round.Beginning.{Begun}
-use Rattle.stabilizer.proofs.Round.Ending.{as_graph, among_main}
+use Rattle.stabilizer.proofs.Round.Ending.{as_graph}
 use Rattle.stabilizer.proofs.Round.Paused.{IsPaused, paused_died}
 use Rattle.inc_value.specs.declared.outcome.Outcome.{Outcome}
 use Rattle.inc_terms.specs.Plan.{targets}
 use Rattle.necessary_graph.specs.Part.{Needed, IsInStep}
+use Rattle.necessity.specs.Need.{root_times}
 use Rattle.node_arena.specs.Arena.{Arena}
 use Rattle.node_outcomes.specs.Row.{outcome_in}
 use Rattle.node_outcomes.specs.declared.row.Progress.{Progress}
@@ -48,34 +47,25 @@ use Rattle.wiring.specs.declared.work.Work.{Work}
 
 -- ---- who is met
 
--- roots are of these nodes or those
-root_listed : (old new : Parts) (counts : Counts) (left : Option PointInHand) (t : State) → MatchesState new.arena new.work counts left t
-    → (nodes observed : List NodeId)
-    → OnlyRoots old.work.graph.roots new.work.graph.roots (map main nodes) → AreRooted old.work observed
-    → (p : Point) → 0 < t.root p → (n : NodeId) × Among n (nodes ++ observed) × (p ≡ main n)
-root_listed old new counts left t stands nodes observed only rooted p h = elim (only p (subst (λ (k : ℕ). 0 < k) (stands.root p) h)) [
-  | inl was ↦ (let a = among_main p observed (count_among p (map main observed) (subst (λ (k : ℕ). 0 < k) (rooted p) was)) in
-      (a.0, among_right a.0 nodes observed a.1, a.2))
-  | inr now ↦ (let a = among_main p nodes now in (a.0, among_left a.0 nodes observed a.1, a.2))
-]
+-- each root is of a node at which an observer looks, or of a freeze that keeps no value
+abbrev pub AreListed : Parts → List NodeId → Type 0
+AreListed parts observed = (p : Point) → 0 < root_times parts.work.graph.roots p → (n : NodeId) × IsRoot (graph_in parts) observed n × (p ≡ main n)
 
 pub met_as : (F : Functions) (old new : Parts) (before counts : Counts) (b : Begun F old before) (left : Option PointInHand) (t : State)
-    → MatchesState new.arena new.work counts left t → (nodes observed : List NodeId)
-    → OnlyRoots old.work.graph.roots new.work.graph.roots (map main nodes) → AreRooted old.work observed
+    → MatchesState new.arena new.work counts left t → (observed : List NodeId) → AreListed new observed
     → (p : Point) → MetNow F b.start (graph_in new) (died_by old new) t.root p
-    → IsMetIn F (graph_in new) (died_by old new) (look_between old) (nodes ++ observed) p
-met_as F old new before counts b left t stands nodes observed only rooted p (invariant.from_root {r} root way) =
-    let l = root_listed old new counts left t stands nodes observed only rooted r root in
-    from_root (inl l.1) (subst (λ (y : Point). Reaches (Depends F (graph_in new) (died_by old new)) y p) l.2 way)
-met_as F old new before counts b left t stands nodes observed only rooted p (invariant.from_held {h} held row stand way) =
+    → IsMetIn F (graph_in new) (died_by old new) (look_between old) observed p
+met_as F old new before counts b left t stands observed listed p (invariant.from_root {r} root way) =
+    let l = listed r (subst (λ (k : ℕ). 0 < k) (stands.root r) root) in
+    from_root l.1 (subst (λ (y : Point). Reaches (Depends F (graph_in new) (died_by old new)) y p) l.2 way)
+met_as F old new before counts b left t stands observed listed p (invariant.from_held {h} held row stand way) =
     from_held (look_needs (old.work.round - 1) old.arena old.work h ((b.held h).0 held)) row stand way
 
 -- ---- a refused link
 
 module _ (F : Functions) (old new : Parts) (before counts : Counts) (b : Begun F old before) (left : Option PointInHand) (t : State)
     (run : Moves F b.start b.state t) (stands : MatchesState new.arena new.work counts left (called_more t counts.calls)) (died : t.died ≡ died_by old new)
-    (nodes observed : List NodeId) (only : OnlyRoots old.work.graph.roots new.work.graph.roots (map main nodes))
-    (rooted : AreRooted old.work observed) where
+    (observed : List NodeId) (all : AreListed new observed) where
   abbrev G : Graph
   G = graph_in new
 
@@ -114,7 +104,7 @@ module _ (F : Functions) (old new : Parts) (before counts : Counts) (b : Begun F
 
     -- a chain over them of two points or more is a walk of what points depend on, and its first is met
     listed : (list : List Point) → 2 ≤ length list → IsChain (ReadsWith new.work.graph.links p q) list
-        → IsListedIn F G D (look_between old) (nodes ++ observed) list
+        → IsListedIn F G D (look_between old) observed list
     listed [] long chain = absurd (omega arith)
     listed (a ∷ []) long chain = absurd (omega arith)
     listed (a ∷ c ∷ rest) long chain =
@@ -122,12 +112,12 @@ module _ (F : Functions) (old new : Parts) (before counts : Counts) (b : Begun F
         (reader_needed a c (linked a c chain.0)) (walk (a ∷ c ∷ rest) chain) in
         record {
           walk = l.0;
-          met = λ x starts. subst (λ (y : Point). IsMetIn F G D (look_between old) (nodes ++ observed) y) starts
-              (met_as F old new before counts b left (called_more t counts.calls) stands nodes observed only rooted a (l.1 a (inl refl)));
+          met = λ x starts. subst (λ (y : Point). IsMetIn F G D (look_between old) observed y) starts
+              (met_as F old new before counts b left (called_more t counts.calls) stands observed all a (l.1 a (inl refl)));
         }
 
   by_refused : (p q : Point) → t.needed p ≡ true → Depends F t.graph t.died p q → (e : Refused) → RefusedBy new.work p q e
-      → IsLawfulIn F G D (look_between old) (nodes ++ observed) e × IsFullBy old.arena new.arena e
+      → IsLawfulIn F G D (look_between old) observed e × IsFullBy old.arena new.arena e
   by_refused p q need tried (Height points) why = (
     (
       listed p q need tried why.strict points.items (let l = why.long in omega arith) why.chain,
@@ -156,11 +146,11 @@ module _ (F : Functions) (old new : Parts) (before counts : Counts) (b : Begun F
 
   -- what a refusal says where a round stops is so
   by_reason : (e : Refused) → TellsWhy F (called_more t counts.calls) new.work left e
-      → IsLawfulIn F G D (look_between old) (nodes ++ observed) e × IsFullBy old.arena new.arena e
+      → IsLawfulIn F G D (look_between old) observed e × IsFullBy old.arena new.arena e
   by_reason e why = by_why left e why
     where
       by_why : (h : Option PointInHand) (x : Refused) → TellsWhy F (called_more t counts.calls) new.work h x
-          → IsLawfulIn F G D (look_between old) (nodes ++ observed) x × IsFullBy old.arena new.arena x
+          → IsLawfulIn F G D (look_between old) observed x × IsFullBy old.arena new.arena x
       by_why h x no_memory = (tt, tt)
       by_why h x (by_link {p} {q} {rest} need tried confirmed why) = by_refused p q need tried x why
 
@@ -172,12 +162,11 @@ by_room F G D old new nodes count later Memory room = (tt, tt)
 by_room F G D old new nodes count later (Height points) room = absurd room
 by_room F G D old new nodes count later (Cycle points) room = absurd room
 
--- what a round says that was refused is so
+-- what a round says that was refused is so, over the graph that it left
 pub paused_lawful : (M : Meaning) (old new : Parts) (before after : Counts) (e : Refused) → IsPaused M old new before after e
-    → (nodes observed : List NodeId)
-    → OnlyRoots old.work.graph.roots new.work.graph.roots (map main nodes) → AreRooted old.work observed
-    → IsLawful M.functions old new (nodes ++ observed) e
-paused_lawful M old new before after e p nodes observed only rooted =
+    → (observed : List NodeId) → AreListed new observed
+    → IsLawfulIn M.functions (graph_in new) (died_by old new) (look_between old) observed e × IsFullBy old.arena new.arena e
+paused_lawful M old new before after e p observed all =
     let b = p.begins.begun in
     let k = p.pauses in
     elim k.told [
@@ -185,8 +174,8 @@ paused_lawful M old new before after e p nodes observed only rooted =
           let stands = subst (λ (x : State). MatchesState new.arena new.work after k.left x) why.0 k.stands in
           let tells = subst (λ (x : State). TellsWhy M.functions x new.work k.left e) why.0 why.1 in
           let died = ap (λ (x : State). x.died) (sym why.0) ∙ paused_died M old new before after e p in
-          by_reason M.functions old new before after b k.left k.before k.moves stands died nodes observed only rooted e tells
-      | inr full ↦ by_room M.functions (graph_in new) (died_by old new) old new (nodes ++ observed) full.0
+          by_reason M.functions old new before after b k.left k.before k.moves stands died observed all e tells
+      | inr full ↦ by_room M.functions (graph_in new) (died_by old new) old new observed full.0
           (subst (λ (c : ℕ). c ≤ full.0) b.stands.given full.1) e full.2
     ]
 

@@ -1,5 +1,5 @@
 -- What a refused round leaves: cutoffs stay, what is shown is what was or is right, and whose functions were called is met.
-use Rattle.std.proofs.Common.{◌≡◌, inl, inr, ℕ, ◌<◌, ◌++◌, List, map, true, Option, None, Some, refl, sym, ap, subst, ◌∙◌, arith}
+use Rattle.std.proofs.Common.{◌≡◌, inl, inr, ℕ, ◌<◌, List, true, false, Option, None, Some, refl, sym, ap, subst, ◌∙◌, arith}
 use Rattle.std.specs.Prelude.{is_some}
 use Rattle.inc_value.specs.declared.node.NodeId.{NodeId}
 use Rattle.inc_value.specs.declared.node.Point.{Point}
@@ -8,6 +8,7 @@ use Rattle.inc_terms.specs.Depend.{main}
 use Rattle.inc_terms.specs.Evaluate.{NodeGives}
 use Rattle.inc_terms.specs.Graph.{Graph, Row}
 use Rattle.inc_terms.specs.Local.{shown_of, Sees}
+use Rattle.inc_terms.specs.Need.{IsUnfrozen}
 use Rattle.inc_terms.specs.Term.{Functions}
 use Rattle.inc_terms.specs.Within.{Given}
 use Rattle.inc_terms.proofs.Local.{main_sees}
@@ -29,15 +30,15 @@ use Rattle.wiring.specs.Kept.{IsKept}
 use Rattle.wiring.specs.Stands.{PointInHand, MatchesState, Counts}
 use Rattle.wiring.specs.declared.refused.Refused.{Refused}
 use Rattle.wiring.specs.declared.work.Work.{Work}
-use Rattle.stabilizer.specs.Left.{WasDueIn}
+use Rattle.stabilizer.specs.Left.{HasCalledMetIn, ShowsStillIn, WasDueIn}
 use Rattle.stabilizer.specs.Look.{look_between, look_refused, cutoff_at}
 use Rattle.stabilizer.specs.Kept.{graph_in}
-use Rattle.stabilizer.specs.Round.{AreRooted, OnlyRoots, Pauses, HasCalledMet, ShowsStill, IsLeftBy, left_by, died_by}
+use Rattle.stabilizer.specs.Round.{OnlyRoots, Pauses, IsLeftBy, left_by, died_by}
 use Rattle.stabilizer.specs.declared.parts.Parts.{Parts}
 use Rattle.stabilizer.proofs.Round.Beginning.{Begun, main_there}
 use Rattle.stabilizer.proofs.Round.Ending.{cutoff_live, seen_case}
-use Rattle.stabilizer.proofs.Round.Lawful.{met_as}
-use Rattle.stabilizer.proofs.Round.LeftBy.{left_by_parts}
+use Rattle.stabilizer.proofs.Round.Lawful.{AreListed, met_as}
+use Rattle.stabilizer.proofs.Round.LeftBy.{frozen_stays, left_by_parts, left_same, unfrozen_stays}
 use Rattle.stabilizer.proofs.Round.Paused.{IsPaused, paused_died}
 use Rattle.stabilizer.proofs.Round.Remaining.{stopped_out}
 use Rattle.stabilizer.proofs.Round.Stopped.{IsLeftOver, stops_leave_over}
@@ -111,10 +112,10 @@ module _ (M : Meaning) (old new : Parts) (before after : Counts) (e : Refused) (
       subst (λ (s : State). Sees F s.graph s.out n) (sym holds.2) (main_sees F v.graph v.out n (holds.1.settled.done (main n) there).exact)
 
   -- what is shown of a node stays, or is what it gives
-  pub paused_shows : (n : NodeId) → Given old.arena.given n → ShowsStill M.functions old new n
+  pub paused_shows : (n : NodeId) → Given old.arena.given n → ShowsStillIn M.functions (graph_in new) (died_by old new) (look_between old) (look_refused new) n
   paused_shows n given = by_row (row_at new.arena n) refl
     where
-      by_row : (x : Option Row) → row_at new.arena n ≡ x → ShowsStill M.functions old new n
+      by_row : (x : Option Row) → row_at new.arena n ≡ x → ShowsStillIn M.functions (graph_in new) (died_by old new) (look_between old) (look_refused new) n
       by_row None dead = inr (shows_now n (main_sees F u.graph u.out n (λ r is. absurd (let x = row_now n ∙ dead in cc))))
       by_row (Some r) live = elim (stopped_out F b.start b.state k.before u n r k.moves k.stops (row_now n ∙ live) (given_then n given)) [
         | inl settled ↦ inr (shows_now n (settled_sees n settled))
@@ -131,10 +132,10 @@ module _ (M : Meaning) (old new : Parts) (before after : Counts) (e : Refused) (
 
   -- ---- what was called
 
-  pub paused_called : (nodes observed : List NodeId) → OnlyRoots old.work.graph.roots new.work.graph.roots (map main nodes)
-      → AreRooted old.work observed
-      → HasCalledMet M.functions old new (nodes ++ observed) before.calls after.calls
-  paused_called nodes observed only rooted =
+  -- over the graph that is left
+  pub paused_called : (observed : List NodeId) → AreListed new observed
+      → HasCalledMetIn M.functions (graph_in new) (died_by old new) (look_between old) (look_refused new) observed before.calls after.calls
+  paused_called observed all =
       let c = refused_calls F b.start b.state k.before u b.entry k.moves k.stops in
       record {
         nodes = c.0;
@@ -148,7 +149,7 @@ module _ (M : Meaning) (old new : Parts) (before after : Counts) (e : Refused) (
       }
     where
       due_then : (n : NodeId) → WasDue F b.start (graph_in new) (died_by old new) u.root u.settled n
-          → WasDueIn F (left_by old new) (died_by old new) (look_between old) (look_refused new) (nodes ++ observed) n
+          → WasDueIn F (graph_in new) (died_by old new) (look_between old) (look_refused new) observed n
       due_then n d = record {
         row = d.row;
         kids = d.kids;
@@ -157,11 +158,32 @@ module _ (M : Meaning) (old new : Parts) (before after : Counts) (e : Refused) (
         takes = d.takes;
         gives = d.gives;
         reason = reason_more (λ q settled. sym (stands.settled q) ∙ settled) (since_start (b.last n) b.cutoff (b.stale n) d.reason);
-        met = met_as F old new before after b k.left u stands nodes observed only rooted (main n) d.met;
+        met = met_as F old new before after b k.left u stands observed all (main n) d.met;
       }
+
+  -- ---- marks
+
+  -- a node that wasn't settled is stale where it was
+  pub paused_marks : (n : NodeId) → (look_refused new).settled (main n) ≡ false → (look_refused new).marked n ≡ (look_between old).marked n
+  paused_marks n not =
+      let v = holds.0 in
+      let unsettled : v.settled (main n) ≡ false = ap (λ (s : State). s.settled (main n)) (sym holds.2) ∙ (stands.settled (main n) ∙ not) in
+      sym (stands.stale n) ∙ (ap (λ (s : State). s.stale n) holds.2 ∙ (holds.1.accounts.marked n unsettled ∙ b.stale n))
 
   -- ---- what is left of the nodes
 
+  -- freezes keep what they kept
+  pub paused_frozen : (n : NodeId) → (graph_in new).frozen n ≡ (graph_in old).frozen n
+  paused_frozen = frozen_stays F old new b.state u b.stands.graph b.stands.given stands.graph p.first.work p.kept.work left_there
+
+  -- so the graph is the one that the round read
+  pub paused_same : graph_in new ≡ left_by old new
+  paused_same = left_same old new paused_frozen
+
+  -- a freeze that keeps no value keeps none still
+  pub paused_unfrozen : (n : NodeId) → IsUnfrozen (graph_in old) n → IsUnfrozen (graph_in new) n
+  paused_unfrozen = unfrozen_stays F old new b.state u b.stands.graph b.stands.given stands.graph p.first.work p.kept.work left_there
+
   pub paused_left : IsLeftBy M.functions old new before after
-  paused_left = left_by_parts F old new before after b.state u b.stands.graph b.stands.given b.stands.counts stands.graph stands.given stands.counts
+  paused_left = left_by_parts F old new before after b.state u b.stands.graph b.stands.given b.stands.counts (stands.graph ∙ paused_same) stands.given stands.counts
       (λ n r row. p.first.work.sound.given n (ap is_some row)) left_there

@@ -30,7 +30,7 @@ use Rattle.stabilizer.specs.declared.parts.Parts.{Parts}
 use Rattle.stabilizer.proofs.Step.Showing.{unsettled_show_still}
 
 -- who stands inside something has a scope
-in_scope : (G : Graph) (b n : NodeId) (r : Row) → G.row n ≡ Some r → r.scope ≡ None → Inside G b n → ⊥
+pub in_scope : (G : Graph) (b n : NodeId) (r : Row) → G.row n ≡ Some r → r.scope ≡ None → Inside G b n → ⊥
 in_scope G b n r row none (direct {r = q} e sc) =
     let same : r ≡ q = cc in none-some b (sym none ∙ (ap (λ (x : Row). x.scope) same ∙ sc))
 in_scope G b n r row none (nested {r = q} {c} e sc i) =

@@ -8,6 +8,7 @@ use Rattle.inc_value.specs.declared.outcome.Outcome.TheVariants.{Val}
 use Rattle.inc_value.specs.declared.value.Value.{Value}
 use Rattle.inc_terms.specs.Depend.{main, change, right_of}
 use Rattle.inc_terms.specs.Graph.{Row}
+use Rattle.expert_nodes.specs.Experts.{SameLinks}
 use Rattle.point_map.specs.Rows.{Rows, at, Holds, Changes, KeepsRows}
 use Rattle.point_map.proofs.Places.{point_cases}
 use Rattle.link_table.specs.Links.{Links, Reads}
@@ -16,17 +17,19 @@ use Rattle.necessary_graph.proofs.Standing.{has_level, put_in_step, taken_in_ste
 use Rattle.height_order.specs.Levels.{level}
 use Rattle.node_arena.specs.Arena.{Arena, row_at}
 use Rattle.node_arena.specs.Graph.{Holdings, graph_of}
-use Rattle.node_outcomes.specs.Computing.{IsOfType}
-use Rattle.node_outcomes.specs.Row.{outcome_in}
+use Rattle.node_outcomes.specs.Computing.{CallFits, IsOfType}
+use Rattle.node_outcomes.specs.Row.{kept_in, outcome_in}
+use Rattle.node_outcomes.proofs.Held.{same_held}
 use Rattle.stabilize_round.specs.State.{Call}
 use Rattle.wiring.specs.Graph.{held_at}
-use Rattle.wiring.specs.Kept.{IsKept, IsGhostLink}
+use Rattle.wiring.specs.Kept.{HasFired, IsKept, IsGhostLink}
 use Rattle.stabilizer.specs.Settling.{IsSettled}
 use Rattle.wiring.specs.Wiring.{KeepsGraph, KeepsLists}
 use Rattle.node_outcomes.specs.declared.row.Progress.{Progress}
 use Rattle.wiring.specs.declared.work.Work.{Work}
-use Rattle.wiring.proofs.Holding.{held_same, died_same, links_same, root_same, pairs_same, scoped_same}
+use Rattle.wiring.proofs.Holding.{died_same, links_same, root_same, pairs_same, scoped_same}
 use Rattle.std.proofs.lemmas.Option.{same_Some}
+use Rattle.stabilizer.proofs.Step.Experts.{linked_alike, kids_same, still_experts, still_listed, still_lists, fired_still, flag_same}
 
 -- what needs the same roots and links is needed alike
 module _ (old new : NecessaryPart) (same : KeepsGraph old new) where
@@ -36,15 +39,18 @@ module _ (old new : NecessaryPart) (same : KeepsGraph old new) where
   pub needed_before : (p : Point) → Needed new p → Needed old p
   needed_before p n = rw (same.roots, same.links) at n
 
--- the same points have rows, changes keep theirs, and roots, links and heights stay
+-- the same points have rows, changes keep theirs, freezes what they keep and experts their lists, and roots, links and heights stay
 module _ (arena : Arena) (old new : Work) (kept : IsKept arena old) (rows : (p : Point) → is_some (at new.rows p) ≡ is_some (at old.rows p))
     (same : KeepsGraph old.graph new.graph) (step : IsInStep new.graph) (heap : (p : Point) → Holds new.graph.heap p → Holds old.rows p)
     (outcomes : (n : NodeId) (r : Row) (k : Progress) (v : Value) → row_at arena n ≡ Some r → at new.rows (main n) ≡ Some k
     → k.outcome ≡ Some (Val v) → IsOfType arena v r.ty)
     (changes : (n : NodeId) → at new.rows (change n) ≡ at old.rows (change n)) (roots : new.roots ≡ old.roots) (deaths : new.deaths ≡ old.deaths)
     (calls : (n : NodeId) (r : Row) (k : Progress) (c : Call) → row_at arena n ≡ Some r → at new.rows (main n) ≡ Some k
-    → k.last ≡ Some c → IsOfType arena c.result r.ty)
-    (rounds : (p : Point) (k : Progress) → at new.rows p ≡ Some k → k.settled ≤ new.round) (lists : KeepsLists old new) where
+    → k.last ≡ Some c → CallFits arena r.def r.ty c)
+    (rounds : (p : Point) (k : Progress) → at new.rows p ≡ Some k → k.settled ≤ new.round) (lists : KeepsLists old new)
+    (flags : (n : NodeId) → kept_in (at new.rows (main n)) ≡ kept_in (at old.rows (main n)))
+    (frozen : (n : NodeId) (k : Progress) → at new.rows (main n) ≡ Some k → k.frozen ≡ true → HasFired arena n k)
+    (links : SameLinks old.experts new.experts) where
   before : (p : Point) → Holds new.rows p → Holds old.rows p
   before p h = sym (rows p) ∙ h
 
@@ -55,7 +61,8 @@ module _ (arena : Arena) (old new : Work) (kept : IsKept arena old) (rows : (p :
   there_before p h = subst (λ (m : Rows ℕ). Holds m p) same.heights h
 
   held : held_at arena new ≡ held_at arena old
-  held = held_same arena old new (λ n. ap outcome_in (changes n)) roots
+  held = same_held arena old.rows new.rows old.roots new.roots old.experts new.experts (λ n. ap outcome_in (changes n))
+      (λ n. ap (λ (m : Rows NodeId). at m (change n)) roots) flags (kids_same old.experts new.experts links)
 
   pub kept_with : IsKept arena new
   kept_with = record {
@@ -79,18 +86,23 @@ module _ (arena : Arena) (old new : Work) (kept : IsKept arena old) (rows : (p :
     rounds = rounds;
     pairs = λ n r live some. pairs_same old new lists n (kept.pairs n r live some);
     scoped = λ n r live some. scoped_same old new lists n (kept.scoped n r live some);
+    experts = still_experts arena old new links kept;
+    listed = still_listed arena old new links kept;
+    lists = still_lists arena old new links kept;
+    tops = kept.tops;
+    frozen = frozen;
   }
 
 -- all rows stay, and the roots of binds
 pub kept_same : (arena : Arena) (old new : Work) → IsKept arena old → KeepsRows old.rows new.rows → KeepsGraph old.graph new.graph → IsInStep new.graph
     → ((p : Point) → Holds new.graph.heap p → Holds old.rows p) → new.round ≡ old.round → new.roots ≡ old.roots → new.deaths ≡ old.deaths
-    → KeepsLists old new → IsKept arena new
-kept_same arena old new kept rows same step heap round roots deaths lists = kept_with arena old new kept (λ p. ap is_some (rows p)) same step heap
+    → KeepsLists old new → SameLinks old.experts new.experts → IsKept arena new
+kept_same arena old new kept rows same step heap round roots deaths lists links = kept_with arena old new kept (λ p. ap is_some (rows p)) same step heap
     (λ n r k v live is o. kept.outcomes n r k v live (sym (rows (main n)) ∙ is) o)
     (λ n. rows (change n)) roots deaths
     (λ n r k c live is l. kept.calls n r k c live (sym (rows (main n)) ∙ is) l)
     (λ p k is. subst (λ (m : ℕ). k.settled ≤ m) (sym round) (kept.rounds p k (sym (rows p) ∙ is)))
-    lists
+    lists (λ n. ap kept_in (rows (main n))) (λ n k is flag. kept.frozen n k (sym (rows (main n)) ∙ is) flag) links
 
 -- ---- a point leaves the heap, and comes back
 
@@ -105,7 +117,7 @@ module _ (arena : Arena) (old : Work) (g : NecessaryPart) (rest : g ≡ record o
   heap_kept : IsKept arena old → IsInStep (record old.graph { heap = g.heap }) → ((p : Point) → Holds g.heap p → Holds old.rows p)
       → IsKept arena (record old { graph = g })
   heap_kept kept step heap = kept_same arena old (record old { graph = g }) kept (λ p. refl) heap_graph (subst IsInStep (sym rest) step) heap refl refl refl
-      (record { pairs = refl; scoped = refl })
+      (record { pairs = refl; scoped = refl }) (linked_alike old.experts)
 
   pub taken_kept : (p : Point) → IsKept arena old → Changes old.graph.heap g.heap p None → IsKept arena (record old { graph = g })
   taken_kept p kept c = heap_kept kept (taken_in_step old.graph kept.step g.heap p c)
@@ -127,12 +139,22 @@ module _ (arena : Arena) (old : Work) (g : NecessaryPart) (rest : g ≡ record o
 
 -- ---- a main was settled
 
+-- its flag stays, and so does what freezes keep, where the last call of one that keeps a value does
+pub settled_flags : (old new : Work) (n : NodeId) (o : Outcome) (last : Option Call) (made : ℕ) (w : IsSettled old new n o last made)
+    → (w.row.frozen ≡ true → last ≡ w.row.last) → (m : NodeId) → kept_in (at new.rows (main m)) ≡ kept_in (at old.rows (main m))
+settled_flags old new n o last made w rests m = elim (point_cases (main m) (main n)) [
+  | inl e ↦ subst (λ (x : Point). kept_in (at new.rows x) ≡ kept_in (at old.rows x)) (sym e)
+      (ap kept_in w.now ∙ (flag_same w.row.frozen w.row.last last rests ∙ sym (ap kept_in w.was)))
+  | inr ne ↦ ap kept_in (w.others (main m) ne)
+]
+
 module _ (arena : Arena) (old new : Work) (n : NodeId) (o : Outcome) (last : Option Call) (made : ℕ)
     (kept : IsKept arena old) (w : IsSettled old new n o last made) (step : IsInStep new.graph) (lists : KeepsLists old new)
+    (links : SameLinks old.experts new.experts) (rests : w.row.frozen ≡ true → last ≡ w.row.last)
     (typed : (r : Row) (v : Value) → row_at arena n ≡ Some r → o ≡ Val v → IsOfType arena v r.ty)
-    (answer_typed : (r : Row) (c : Call) → row_at arena n ≡ Some r → last ≡ Some c → IsOfType arena c.result r.ty) where
+    (answer_typed : (r : Row) (c : Call) → row_at arena n ≡ Some r → last ≡ Some c → CallFits arena r.def r.ty c) where
   abbrev fresh : Progress
-  fresh = record { stage = w.row.stage; settled = old.round; outcome = Some o; last = last; cutoff = w.row.cutoff }
+  fresh = record { stage = w.row.stage; settled = old.round; outcome = Some o; last = last; cutoff = w.row.cutoff; frozen = w.row.frozen }
 
   row_is : (k : Progress) → at new.rows (main n) ≡ Some k → fresh ≡ k
   row_is k e = same_Some fresh k (sym w.now ∙ e)
@@ -160,6 +182,11 @@ module _ (arena : Arena) (old new : Work) (n : NodeId) (o : Outcome) (last : Opt
     ]
   ]
 
+  fired_now : (k : Progress) → fresh ≡ k → k.frozen ≡ true → HasFired arena n k
+  fired_now k e flag =
+      let was : w.row.frozen ≡ true = ap (λ (x : Progress). x.frozen) e ∙ flag in
+      fired_still arena n w.row k (sym (ap (λ (x : Progress). x.last) e) ∙ rests was) (kept.frozen n w.row w.was was)
+
   pub settled_kept : IsKept arena new
   settled_kept = kept_with arena old new kept rows_stay w.graph step heap_rows
       (λ m r k v live is out. elim (point_cases (main m) (main n)) [
@@ -186,4 +213,12 @@ module _ (arena : Arena) (old new : Work) (n : NodeId) (o : Outcome) (last : Opt
             let before = kept.rounds p k (sym (w.others p ne) ∙ is) in
             let r = w.round in omega arith
       ])
-      lists
+      lists (settled_flags old new n o last made w rests)
+      (λ m k is flag. elim (point_cases (main m) (main n)) [
+        | inl e ↦
+            let same : m ≡ n = ap (λ (x : Point). x.node) e in
+            subst (λ (x : NodeId). HasFired arena x k) (sym same)
+            (fired_now k (row_is k (subst (λ (x : NodeId). at new.rows (main x) ≡ Some k) same is)) flag)
+        | inr ne ↦ kept.frozen m k (sym (w.others (main m) ne) ∙ is) flag
+      ])
+      links

@@ -23,9 +23,10 @@ use Rattle.node_arena.specs.RightSide.{Tally}
 use Rattle.stabilize_round.specs.Calling.{cost_at}
 use Rattle.stabilize_round.specs.Moves.{calls_of, Enqueues, computed, ran_more}
 use Rattle.node_outcomes.specs.Choosing.{built_by, built_in}
+use Rattle.expert_nodes.specs.Experts.{ExpertPlace, SameExperts, SameLinks, Unmarks, is_stale_at}
 use Rattle.node_outcomes.specs.Computing.{Computes, NotComputed, noted, KeepsTypes, has_part, ran_then}
 use Rattle.wiring.specs.Kept.{IsKept}
-use Rattle.node_outcomes.specs.Row.{IsRewritten, with_last, with_outcome, settled_in, outcome_in, stage_of}
+use Rattle.node_outcomes.specs.Row.{IsRewritten, with_last, with_outcome, kept_in, settled_in, outcome_in, stage_in, stage_of}
 use Rattle.stabilizer.specs.Settling.{IsSettled}
 use Rattle.stabilizer.specs.Stepping.{MainIsSettled, MainIsLeft, IsOfBuilds}
 use Rattle.wiring.specs.Stands.{Counts, MatchesState, counts_of}
@@ -33,13 +34,15 @@ use Rattle.wiring.specs.Wiring.{KeepsGraph, KeepsRound, KeepsLists, TellsReaders
 use Rattle.node_outcomes.specs.declared.row.Progress.{Progress}
 use Rattle.wiring.specs.declared.work.Work.{Work}
 use Rattle.stabilizer.proofs.Step.Carrying.{kept_same, settled_kept}
+use Rattle.stabilizer.proofs.Step.Experts.{frozen_rests, graph_seen, owes_staged}
 use Rattle.std.proofs.lemmas.Grind.{common_steps}
 use Rattle.std.proofs.lemmas.List.{reverse-append}
 use Rattle.inc_value.specs.Choice.{Among}
 use Rattle.necessity.specs.Need.{Roots, root_times}
 use Rattle.stabilize_round.specs.State.{State, Call, Linked, at_point, at_node}
+use Rattle.stabilize_round.proofs.Main.{main_change}
 use Rattle.stabilize_round.proofs.Points.{same_or_other, at_same, at_other, node_or_other, node_same, node_other}
-use Rattle.wiring.proofs.Holding.{graph_main, died_same}
+use Rattle.wiring.proofs.Holding.{died_same}
 
 pub same_number : (n : ℕ) → (n == n) ≡ true
 same_number n = grind (arith, common_steps)
@@ -60,22 +63,31 @@ counts_are s before after same rest =
 
 module _ (s : State) (arena : Arena) (old new : Work) (counts counts' : Counts) (n : NodeId) (o : Outcome) (last' : Option Call) (called : Bool)
     (st : MatchesState arena old counts None s) (more : IsOfBuilds counts counts') (w : IsSettled old new n o last' (calls_of called (cost_at (graph_at arena old) n)))
-    (needs : (a : Point) → (Needed new.graph a → Needed old.graph a) × (Needed old.graph a → Needed new.graph a)) where
+    (needs : (a : Point) → (Needed new.graph a → Needed old.graph a) × (Needed old.graph a → Needed new.graph a))
+    (marks : Unmarks old.experts new.experts n)
+    (flags : (m : NodeId) → kept_in (at new.rows (main m)) ≡ kept_in (at old.rows (main m))) where
   abbrev made : ℕ
   made = calls_of called (cost_at (graph_at arena old) n)
 
   abbrev heap' : Point → Bool
   heap' a = is_some (at new.graph.heap a)
 
-  row_now : (k : Progress) → at new.rows (main n) ≡ Some k → record { stage = w.row.stage; settled = old.round; outcome = Some o; last = last'; cutoff = w.row.cutoff } ≡ k
+  row_now : (k : Progress) → at new.rows (main n) ≡ Some k
+      → record { stage = w.row.stage; settled = old.round; outcome = Some o; last = last'; cutoff = w.row.cutoff; frozen = w.row.frozen } ≡ k
   row_now k e = same_Some _ k (sym w.now ∙ e)
 
   row_other : (a : Point) (k : Progress) → (main n ≡ a → ⊥) → at new.rows a ≡ Some k → at old.rows a ≡ Some k
   row_other a k ne e = sym (w.others a (λ h. ne (sym h))) ∙ e
 
+  stage_stays : (a : Point) → stage_in (at new.rows a) ≡ stage_in (at old.rows a)
+  stage_stays a = elim (same_or_other (main n) a) [
+    | inl h ↦ subst (λ (x : Point). stage_in (at new.rows x) ≡ stage_in (at old.rows x)) h (ap stage_in w.now ∙ sym (ap stage_in w.was))
+    | inr ne ↦ ap stage_in (w.others a (λ h. ne (sym h)))
+  ]
+
   pub settled_stands : MatchesState arena new counts' None (computed s n o heap' last' called counts'.calls)
   settled_stands = record {
-    graph = st.graph ∙ sym (graph_main arena old new n w.others w.roots);
+    graph = st.graph ∙ sym (graph_seen arena old new (λ m. ap outcome_in (w.others (change m) (λ e. main_change n m (sym e)))) w.roots flags marks.links);
     out = λ a k e. elim (same_or_other (main n) a) [
       | inl h ↦ subst (λ (x : Point). at_point (main n) (Some o) s.out x ≡ k.outcome) h
           (at_same (main n) (Some o) s.out ∙ ap (λ (x : Progress). x.outcome) (row_now k (subst (λ (x : Point). at new.rows x ≡ Some k) (sym h) e)))
@@ -87,8 +99,8 @@ module _ (s : State) (arena : Arena) (old new : Work) (counts counts' : Counts) 
       | inr ne ↦ node_other n last' s.last m ne ∙ st.last m k (row_other (main m) k (λ h. ne (ap (λ (x : Point). x.node) h)) e)
     ];
     stale = λ m. elim (node_or_other n m) [
-      | inl h ↦ subst (λ (x : NodeId). at_node n false s.stale x ≡ false) h (node_same n false s.stale)
-      | inr ne ↦ node_other n false s.stale m ne ∙ st.stale m
+      | inl h ↦ subst (λ (x : NodeId). at_node n false s.stale x ≡ is_stale_at new.experts x) h (node_same n false s.stale ∙ sym marks.off)
+      | inr ne ↦ node_other n false s.stale m ne ∙ (st.stale m ∙ sym (marks.others m (λ h. ne (sym h))))
     ];
     cutoff = λ m k e. elim (node_or_other n m) [
       | inl h ↦ subst (λ (x : NodeId). s.cutoff x ≡ k.cutoff) h
@@ -111,7 +123,7 @@ module _ (s : State) (arena : Arena) (old new : Work) (counts counts' : Counts) 
           (st.stage (main n) w.row w.was ∙ ap (λ (x : Progress). stage_of x.stage) (row_now k (subst (λ (x : Point). at new.rows x ≡ Some k) (sym h) e)))
       | inr ne ↦ st.stage a k (row_other a k ne e)
     ];
-    owed = st.owed;
+    owed = λ a. st.owed a ∙ sym (owes_staged old new (s.needed a) a (stage_stays a) (marks.links.fresh a.node));
     todo = λ a t. subst (λ (xs : List Point). Among a xs ⊎ ⊥) (sym w.todo) (st.todo a t);
     retries = st.retries ∙ sym w.retries;
     died = λ m. st.died m ∙ sym (died_same old new w.deaths m);
@@ -166,7 +178,8 @@ pub record KeepsRest (old new : Work) : Type 0 where
 
 module _ (F : Functions) (arena : Arena) (old mid new : Work) (n : NodeId) (p : Point) (same : p ≡ main n) (o : Outcome) (before after : Counts)
     (kept : IsKept arena old) (taken : at old.graph.heap (main n) ≡ None)
-    (rest : KeepsRest old mid) (c : Computes F arena (held_at arena old) old.round (noted old.rows old.ran.items before.calls)
+    (rest : KeepsRest old mid) (marks : Unmarks old.experts mid.experts n)
+    (c : Computes F arena (held_at arena old) (is_stale_at old.experts) old.round (noted old.rows old.ran.items before.calls)
     (noted mid.rows mid.ran.items after.calls) n o) (more : IsOfBuilds before after)
     (rewritten : IsRewritten mid.rows new.rows p (with_outcome o mid.round)) (graph : KeepsGraph mid.graph new.graph)
     (tells : TellsReaders mid new p o) (round : KeepsRound mid new) (todo : new.todo ≡ mid.todo) where
@@ -214,7 +227,14 @@ module _ (F : Functions) (arena : Arena) (old mid new : Work) (n : NodeId) (p : 
   is_settled = record {
     row = c.computed.kept;
     was = was;
-    now = now ∙ ap (λ (m : ℕ). Some (record { stage = c.computed.kept.stage; settled = m; outcome = Some o; last = c.last; cutoff = c.computed.kept.cutoff })) round_is;
+    now = now ∙ ap (λ (m : ℕ). Some (record {
+      stage = c.computed.kept.stage;
+      settled = m;
+      outcome = Some o;
+      last = c.last;
+      cutoff = c.computed.kept.cutoff;
+      frozen = c.computed.kept.frozen;
+    })) round_is;
     others = others;
     graph = record {
       links = graph.links ∙ ap (λ (g : NecessaryPart). g.links) graph_is;
@@ -249,17 +269,33 @@ module _ (F : Functions) (arena : Arena) (old mid new : Work) (n : NodeId) (p : 
       unstopped : (IsStopped c.computed.kept.cutoff c.computed.kept.outcome o → ⊥) → Stops mid (main n) o → ⊥
       unstopped told s = told (subst (λ (x : Progress). IsStopped x.cutoff x.outcome o) (sym (its s)) s.2)
 
+  marks_now : Unmarks old.experts new.experts n
+  marks_now = subst (λ (e : List ExpertPlace). Unmarks old.experts e n) (sym round.experts) marks
+
   pub main_settled : MainIsSettled F arena old new n before after
-  main_settled = record { outcome = o; last = c.last; called = c.called; computed = c.computed; settled = is_settled; count = c.count; rest = more }
+  main_settled = record {
+    outcome = o;
+    last = c.last;
+    called = c.called;
+    computed = c.computed;
+    marks = marks_now;
+    settled = is_settled;
+    count = c.count;
+    rest = more;
+  }
 
   pub main_kept : IsInStep new.graph → new ≡ record mid { graph = new.graph; rows = new.rows } → IsKept arena new
+  unfolding is_settled
   main_kept step only = settled_kept arena old new n o c.last (calls_of c.called (cost_at (graph_at arena old) n)) kept is_settled step
       (record { pairs = ap (λ (w : Work). w.pairs) only ∙ rest.lists.pairs; scoped = ap (λ (w : Work). w.scoped) only ∙ rest.lists.scoped })
-      c.typed c.answer_typed
+      marks_now.links
+      (frozen_rests F arena old kept (is_stale_at old.experts) n c.computed.row c.computed.kept c.last c.called c.computed.is_row c.computed.is_kept
+      c.computed.calls) c.typed c.answer_typed
 
 -- so it is where only those are others
-pub only_noted : (work : Work) (places : Rows Progress) (ran : Vec NodeId Global) → KeepsRest work (record work { rows = places; ran = ran })
-only_noted work places ran = assumption
+pub only_noted : (work : Work) (places : Rows Progress) (experts : List ExpertPlace) (ran : Vec NodeId Global)
+    → KeepsRest work (record work { rows = places; experts = experts; ran = ran })
+only_noted work places experts ran = assumption
 
 -- nothing more was built where the tally stays
 pub one_tally : (a b : ℕ) (x y : Tally) → y ≡ x
@@ -270,26 +306,30 @@ one_tally a b x y same = record { builds = ap (λ (t : Tally). min t.builds last
 -- ---- what stays where a main is left
 
 pub left_kept : (arena : Arena) (old new : Work) → IsKept arena old → KeepsRows old.rows new.rows → new.graph ≡ old.graph → new.round ≡ old.round
-    → new.roots ≡ old.roots → new.deaths ≡ old.deaths → KeepsLists old new → IsKept arena new
-left_kept arena old new kept rows graph round roots deaths lists = kept_same arena old new kept rows
+    → new.roots ≡ old.roots → new.deaths ≡ old.deaths → KeepsLists old new → SameLinks old.experts new.experts → IsKept arena new
+left_kept arena old new kept rows graph round roots deaths lists links = kept_same arena old new kept rows
     (record {
       links = ap (λ (g : NecessaryPart). g.links) graph;
       roots = ap (λ (g : NecessaryPart). g.roots) graph;
       heights = ap (λ (g : NecessaryPart). g.heights) graph;
     })
     (subst IsInStep (sym graph) kept.step)
-    (λ p h. kept.heap p (subst (λ (g : NecessaryPart). Holds g.heap p) graph h)) round roots deaths lists
+    (λ p h. kept.heap p (subst (λ (g : NecessaryPart). Holds g.heap p) graph h)) round roots deaths lists links
 
 pub uncomputed_kept : (arena : Arena) (old mid : Work) (n : NodeId) (before after : ℕ) → IsKept arena old → KeepsRest old mid
-    → NotComputed (graph_at arena old) old.round (noted old.rows old.ran.items before) (noted mid.rows mid.ran.items after) n → IsKept arena mid
-uncomputed_kept arena old mid n before after kept rest c =
-    left_kept arena old mid kept c.rows rest.graph rest.round rest.roots rest.deaths rest.lists
+    → SameExperts old.experts mid.experts
+    → NotComputed (graph_at arena old) (is_stale_at old.experts) old.round (noted old.rows old.ran.items before) (noted mid.rows mid.ran.items after) n
+    → IsKept arena mid
+uncomputed_kept arena old mid n before after kept rest same c =
+    left_kept arena old mid kept c.rows rest.graph rest.round rest.roots rest.deaths rest.lists same.links
 
 -- the main is left as it was
 pub main_left : (arena : Arena) (old mid : Work) (n : NodeId) (before after : Counts) → KeepsRest old mid
-    → NotComputed (graph_at arena old) old.round (noted old.rows old.ran.items before.calls) (noted mid.rows mid.ran.items after.calls) n
+    → SameExperts old.experts mid.experts
+    → NotComputed (graph_at arena old) (is_stale_at old.experts) old.round (noted old.rows old.ran.items before.calls)
+    (noted mid.rows mid.ran.items after.calls) n
     → IsOfBuilds before after → MainIsLeft arena old mid n before after
-main_left arena old mid n before after rest c more = assumption (rest, c, more)
+main_left arena old mid n before after rest same c more = assumption (rest, same, c, more)
 
 -- ---- what a main is computed from
 

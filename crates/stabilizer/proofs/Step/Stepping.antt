@@ -5,7 +5,7 @@ use Rattle.inc_value.specs.declared.node.NodeId.{NodeId}
 use Rattle.inc_value.specs.declared.node.Point.{Point}
 use Rattle.inc_value.specs.declared.outcome.Outcome.{Outcome}
 use Rattle.inc_value.specs.Choice.{here, Among}
-use Rattle.inc_terms.specs.Depend.{main}
+use Rattle.inc_terms.specs.Depend.{main, change}
 use Rattle.inc_terms.specs.Term.{Functions}
 use Rattle.point_map.specs.Rows.{Rows, at, Holds, Changes}
 use Rattle.point_map.proofs.Places.{point_cases}
@@ -17,6 +17,7 @@ use Rattle.necessary_graph.specs.Part.{NecessaryPart, Needed}
 use Rattle.node_arena.specs.Arena.{Arena}
 use Rattle.inc_terms.specs.Graph.{Graph}
 use Rattle.wiring.specs.Graph.{graph_at}
+use Rattle.expert_nodes.specs.Experts.{is_stale_at}
 use Rattle.node_outcomes.specs.Computing.{CallsSeen, IsSeenDue}
 use Rattle.stabilize_round.specs.Calling.{cost_at}
 use Rattle.stabilize_round.specs.Counts.{RoseBy, RoseAtMost}
@@ -27,7 +28,9 @@ use Rattle.stabilize_round.specs.State.{State, Call}
 use Rattle.stabilize_round.specs.Steps.{Step, plainly}
 use Rattle.wiring.specs.Kept.{IsKept}
 use Rattle.node_outcomes.specs.Meaning.{Meaning}
-use Rattle.node_outcomes.specs.Row.{settled_in}
+use Rattle.node_outcomes.specs.Row.{kept_in, outcome_in, settled_in}
+use Rattle.node_outcomes.specs.declared.row.Progress.{Progress}
+use Rattle.std.proofs.lemmas.Option.{same_Some}
 use Rattle.stabilizer.specs.Settling.{IsSettled}
 use Rattle.wiring.specs.Stands.{MatchesState, Counts}
 use Rattle.stabilizer.specs.Dying.{TakesLeast}
@@ -37,10 +40,12 @@ use Rattle.wiring.specs.declared.refused.Refused.{Refused}
 use Rattle.wiring.specs.declared.refused.Refused.TheVariants.{Memory}
 use Rattle.wiring.specs.Wiring.{KeepsGraph}
 use Rattle.wiring.specs.declared.work.Work.{Work}
-use Rattle.stabilizer.proofs.Step.Carrying.{needed_now, needed_before, heap_graph, back_kept}
+use Rattle.stabilizer.proofs.Step.Carrying.{needed_now, needed_before, heap_graph, back_kept, settled_flags}
+use Rattle.stabilizer.proofs.Step.Experts.{frozen_rests, graph_seen}
 use Rattle.stabilizer.proofs.Step.Mains.{settled_stands, settled_enqueues, counted}
 use Rattle.wiring.proofs.Sight.{row_is, own_sees, keeps_answers, looks, calls_are, due_is}
-use Rattle.wiring.proofs.Holding.{graph_rows, died_same}
+use Rattle.wiring.proofs.Holding.{died_same}
+use Rattle.wiring.proofs.Staying.{owed_still}
 use Rattle.stabilizer.proofs.Step.Making.{zero_or_more}
 
 -- a main that was settled after it left the heap was settled
@@ -129,12 +134,24 @@ module _ (M : Meaning) (old new : Parts) (g : NecessaryPart) (p : Point) (n : No
   needs : (a : Point) → (Needed new.work.graph a → Needed old.work.graph a) × (Needed old.work.graph a → Needed new.work.graph a)
   needs a = (needed_before old.work.graph new.work.graph w.graph a, needed_now old.work.graph new.work.graph w.graph a)
 
+  -- its flag stays, and what freezes keep
+  flags : (a : NodeId) → kept_in (at new.work.rows (main a)) ≡ kept_in (at old.work.rows (main a))
+  flags = settled_flags old.work new.work n m.outcome m.last (calls_of m.called (cost_at (graph_at arena old.work) n)) w
+      (λ flag. frozen_rests F arena old.work kept (is_stale_at old.work.experts) n m.computed.row m.computed.kept m.last m.called m.computed.is_row
+      m.computed.is_kept m.computed.calls (same_row ∙ flag) ∙ ap (λ (k : Progress). k.last) its_row)
+    where
+      its_row : m.computed.kept ≡ w.row
+      its_row = same_Some m.computed.kept w.row (sym m.computed.is_kept ∙ w.was)
+
+      same_row : m.computed.kept.frozen ≡ w.row.frozen
+      same_row = ap (λ (k : Progress). k.frozen) its_row
+
   pub steps : StepsAt M old new before after p
   steps z s begun quiet st = (
     t,
     made,
     subst (λ (x : Arena). MatchesState x new.work after None t) (sym nodes)
-        (settled_stands s arena old.work new.work before after n m.outcome m.last m.called st m.rest w needs),
+        (settled_stands s arena old.work new.work before after n m.outcome m.last m.called st m.rest w needs m.marks flags),
     sym same,
   )
     where
@@ -162,11 +179,12 @@ module _ (M : Meaning) (old new : Parts) (g : NecessaryPart) (p : Point) (n : No
             ∙ m.computed.own (keeps_answers s arena old.work before kept st F z inv)
             (looks s arena old.work before kept st F z inv quiet n least m.computed.row m.computed.is_row);
         calls = calls_are s arena old.work before kept st n m.computed.kept m.computed.is_kept F m.computed.row.def m.last m.called
-            (subst (λ (G : Graph). CallsSeen F G n old.work.round old.work.rows m.computed.row.def m.computed.kept.last m.last m.called) (sym st.graph)
+            (subst (λ (G : Graph). CallsSeen F G (is_stale_at old.work.experts) n old.work.round old.work.rows m.computed.row.def m.computed.kept.last
+            m.last m.called) (sym st.graph)
             m.computed.calls);
         count = subst (λ (H : Graph). RoseBy s.calls (calls_of m.called (cost_at H n)) after.calls) (sym st.graph)
             (subst (λ (k : ℕ). RoseBy k (calls_of m.called (cost_at (graph_at arena old.work) n)) after.calls) (sym calls_as) m.count);
-        heap = settled_enqueues s arena old.work new.work before after n m.outcome m.last m.called st m.rest w needs no_loop;
+        heap = settled_enqueues s arena old.work new.work before after n m.outcome m.last m.called st m.rest w needs m.marks flags no_loop;
       }
 
       t : State
@@ -230,11 +248,12 @@ module _ (arena : Arena) (old mid : Work) (g g' : NecessaryPart) (p : Point) (n 
   -- the state can't tell
   pub refused_stands : (s : State) → MatchesState arena old before None s → MatchesState arena back before None s
   refused_stands s st = record {
-    graph = st.graph ∙ sym (graph_rows arena old back left.rows left.roots);
+    graph = st.graph ∙ sym (graph_seen arena old back (λ m. ap outcome_in (left.rows (change m))) left.roots (λ m. ap kept_in (left.rows (main m)))
+        left.experts.links);
     out = λ a k e. st.out a k (sym (left.rows a) ∙ e);
     last = λ m k e. st.last m k (sym (left.rows (main m)) ∙ e);
     cutoff = λ m k e. st.cutoff m k (sym (left.rows (main m)) ∙ e);
-    stale = st.stale;
+    stale = λ m. st.stale m ∙ sym (left.experts.stale m);
     links = λ a b. st.links a b ∙ ap (λ (l : Links). times l a b) (sym same_graph.links);
     root = λ a. st.root a ∙ ap (λ (r : Roots). root_times r a) (sym same_graph.roots);
     needed = λ a. (λ t. needed_now old.graph g' same_graph a ((st.needed a).0 t), λ h. (st.needed a).1 (needed_before old.graph g' same_graph a h));
@@ -242,7 +261,7 @@ module _ (arena : Arena) (old mid : Work) (g g' : NecessaryPart) (p : Point) (n 
     heap = λ a. st.heap a ∙ sym (heap_stays a);
     settled = λ a. st.settled a ∙ (ap (settled_in old.round) (sym (left.rows a)) ∙ ap (λ (k : ℕ). settled_in k (at mid.rows a)) (sym left.round));
     stage = λ a k e. st.stage a k (sym (left.rows a) ∙ e);
-    owed = st.owed;
+    owed = λ a. st.owed a ∙ sym (owed_still old back s None left.rows left.experts.links.fresh a);
     todo = λ a t. subst (λ (xs : List Point). Among a xs ⊎ ⊥) (sym left.todo) (st.todo a t);
     retries = st.retries ∙ sym left.retries;
     died = λ m. st.died m ∙ sym (died_same old back left.deaths m);
@@ -262,7 +281,7 @@ module _ (arena : Arena) (old mid : Work) (g g' : NecessaryPart) (p : Point) (n 
       least = least;
       is_row = ap (λ (G : Graph). G.row n) st.graph ∙ k.is_row;
       due = due_is s arena old before kept st n k.kept k.is_kept k.row.def
-          (subst (λ (G : Graph). IsSeenDue G n old.round old.rows k.row.def) (sym st.graph) k.due);
+          (subst (λ (G : Graph). IsSeenDue G (is_stale_at old.experts) n old.round old.rows k.row.def) (sym st.graph) k.due);
       count = subst (λ (G : Graph). RoseAtMost before.calls (cost_at G n) after.calls) (sym st.graph) k.count;
       rest = left.rest;
     })

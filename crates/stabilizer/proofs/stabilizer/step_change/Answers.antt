@@ -8,7 +8,7 @@ use Rattle.wiring.specs.declared.work.Work.{Work}
 use Rattle.wiring.proofs.Raising.{if_refusal}
 use Rattle.stabilizer.specs.Kept.{counts_by}
 use Rattle.stabilizer.specs.Stepping.{ChangeIsLeft, unattached, unwired}
-use Rattle.stabilizer.proofs.Change.Again.{left_again, again_kept, two_points}
+use Rattle.stabilizer.proofs.Change.Again.{left_again, again_kept, graph_round, two_points}
 use Rattle.stabilizer.proofs.Change.Changing.{on_ok, if_err}
 use Rattle.stabilizer.proofs.Change.Lacking.{err_as, waits_lacks, listed_lacks}
 use Rattle.stabilizer.proofs.Step.Staying.{work_moved}
@@ -89,7 +89,7 @@ returns-in-Err-clause-stays g c =
     (counts_by g.F.Functions c.turn_change.new.functions) c.schedule.new.self stays.kept c.requires.taken.needed marked c.schedule.ensures.rest
     c.turn_change.ensures.there c.schedule.ensures.step in
     work_moved g.F.Functions c.args.functions.now old mid c.schedule.new.self stays kept.work
-    (λ p. ap (λ (r : Roots). root_times r p) c.schedule.ensures.scheduled.graph.roots) (ap (λ (w : Work). w.round) c.schedule.ensures.rest)
+    (λ p. ap (λ (r : Roots). root_times r p) c.schedule.ensures.scheduled.graph.roots) (graph_round mid.work c.schedule.new.self c.schedule.ensures.rest)
 
 pub returns-in_err-attach_right-clause-stays : goal.returns-in_err-attach_right-clause-stays
 returns-in_err-attach_right-clause-stays g c =

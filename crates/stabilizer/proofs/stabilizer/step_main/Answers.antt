@@ -10,6 +10,9 @@ use Rattle.stabilizer.proofs.stabilizer.step_main.Goals as goal
 pub compute-computed-requires-clause-types : goal.compute-computed-requires-clause-types
 compute-computed-requires-clause-types g c = types_kept c.args.parts.now.arena c.args.parts.now.work c.requires.may.kept.work
 
+pub compute-computed-requires-clause-experts : goal.compute-computed-requires-clause-experts
+compute-computed-requires-clause-experts g c = c.requires.may.kept.work.experts
+
 pub compute-computed-requires-clause-live : goal.compute-computed-requires-clause-live
 compute-computed-requires-clause-live g c = main_lives c.args.parts.now.arena c.args.parts.now.work c.args.node c.requires.may.kept.work c.requires.row
 
@@ -20,17 +23,17 @@ pub returns-in-Err : goal.returns-in-Err
 returns-in-Err g c =
     let K = g.F.Functions in
     let old = c.args.parts.now.work in
-    let mid : Work = record old { rows = c.compute-computed.new.rows; ran = c.compute-computed.new.ran } in
-    let noted = only_noted old c.compute-computed.new.rows c.compute-computed.new.ran in
+    let mid : Work = record old { rows = c.compute-computed.new.rows; experts = c.compute-computed.new.experts; ran = c.compute-computed.new.ran } in
+    let noted = only_noted old c.compute-computed.new.rows c.compute-computed.new.experts c.compute-computed.new.ran in
     record {
       settled = tt;
       refused = main_left c.args.parts.now.arena old mid c.args.node (counts_by K c.args.functions.now) (counts_by K c.compute-computed.new.functions)
-          noted c.in-Err.ensures.computed (one_tally _ _ _ _ c.compute-computed.ensures.functions.tally);
+          noted c.in-Err.ensures.experts c.in-Err.ensures.computed (one_tally _ _ _ _ c.compute-computed.ensures.functions.tally);
       memory = refl;
       rest = refl;
       kept = record {
         work = uncomputed_kept c.args.parts.now.arena old mid c.args.node (K.calls c.args.functions.now) (K.calls c.compute-computed.new.functions)
-            c.requires.may.kept.work noted c.in-Err.ensures.computed;
+            c.requires.may.kept.work noted c.in-Err.ensures.experts c.in-Err.ensures.computed;
         scopes = c.requires.may.kept.scopes;
         dying = c.requires.may.kept.dying;
         clock = c.requires.may.kept.clock;
@@ -47,21 +50,22 @@ returns-in-Ok g c =
     let before = counts_by K c.args.functions.now in
     let after = counts_by K c.compute-computed.new.functions in
     let old = c.args.parts.now.work in
-    let mid : Work = record old { rows = c.compute-computed.new.rows; ran = c.compute-computed.new.ran } in
-    let noted = only_noted old c.compute-computed.new.rows c.compute-computed.new.ran in
+    let mid : Work = record old { rows = c.compute-computed.new.rows; experts = c.compute-computed.new.experts; ran = c.compute-computed.new.ran } in
+    let noted = only_noted old c.compute-computed.new.rows c.compute-computed.new.experts c.compute-computed.new.ran in
+    let marks = c.in-Ok.ensures.experts in
     let computed = c.in-Ok.ensures.computed in
     let tally = one_tally _ _ _ _ c.compute-computed.ensures.functions.tally in
     let s = c.settle.ensures in
     record {
       settled = main_settled (functions_of K c.args.functions.now) c.args.parts.now.arena old mid c.settle.new.self c.args.node c.main.result c.main.ensures
-          c.in-Ok.outcome before after c.requires.may.kept.work c.requires.taken noted computed tally s.row s.graph s.told s.round s.todo;
+          c.in-Ok.outcome before after c.requires.may.kept.work c.requires.taken noted marks computed tally s.row s.graph s.told s.round s.todo;
       refused = tt;
       memory = tt;
       lacks = tt;
       rest = refl;
       kept = record {
         work = main_kept (functions_of K c.args.functions.now) c.args.parts.now.arena old mid c.settle.new.self c.args.node c.main.result c.main.ensures
-            c.in-Ok.outcome before after c.requires.may.kept.work c.requires.taken noted computed tally s.row s.graph s.told s.round s.todo s.step s.rest;
+            c.in-Ok.outcome before after c.requires.may.kept.work c.requires.taken noted marks computed tally s.row s.graph s.told s.round s.todo s.step s.rest;
         scopes = c.requires.may.kept.scopes;
         dying = c.requires.may.kept.dying;
         clock = c.requires.may.kept.clock;

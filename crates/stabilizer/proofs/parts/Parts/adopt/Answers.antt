@@ -18,14 +18,14 @@ returns-in-Ok-clause-points c =
     let a = c.in_ok-add_scoped.ensures in
     gets_points c.args.self.now.arena c.args.self.now.work c.add_scoped.new.self c.args.node (row_of c.in-Some.row.now) (sym c.in-Some.ensures)
     a.rows a.added.0 a.added.1 a.pairs a.scoped a.others_scoped a.stays.links a.stays.roots a.stays.heap a.stays.step a.stays.todo
-    a.stays.round
+    a.stays.round a.experts c.requires.plain
 
 pub returns-in-Ok-clause-rest : goal.returns-in-Ok-clause-rest
 returns-in-Ok-clause-rest c =
     let a = c.in_ok-add_scoped.ensures in
     gets_rest c.args.self.now.arena c.args.self.now.work c.add_scoped.new.self c.args.node (row_of c.in-Some.row.now) (sym c.in-Some.ensures)
     a.rows a.added.0 a.added.1 a.pairs a.scoped a.others_scoped a.stays.links a.stays.roots a.stays.heap a.stays.step a.stays.todo
-    a.stays.round
+    a.stays.round a.experts c.requires.plain
 
 -- ---- there was no memory for its place in the scope
 
@@ -35,9 +35,9 @@ returns-in-Err-clause-rest c =
     let d = c.drop_node.ensures in
     back_rest c.args.self.now.arena c.args.self.now.work c.add_scoped.new.self c.args.node (row_of c.in-Some.row.now) (sym c.in-Some.ensures)
     a.rows a.added.0 a.added.1 a.pairs a.scoped a.others_scoped a.stays.links a.stays.roots a.stays.heap a.stays.step a.stays.todo
-    a.stays.round
+    a.stays.round a.experts c.requires.plain
     c.requires.step c.requires.no_row c.requires.no_point c.drop_node.new.self d.rows d.dropped d.stays.links d.stays.roots d.heap
-    d.stays.step d.rest d.stays.todo d.stays.round
+    d.stays.step d.rest d.stays.todo d.stays.round d.no_expert c.requires.no_expert
 
 pub returns-in-Err-clause-err_rows : goal.returns-in-Err-clause-err_rows
 returns-in-Err-clause-err_rows c q =

@@ -1,10 +1,18 @@
 use Rattle.necessity.proofs.Sound.{on_err}
-use Rattle.stabilizer.proofs.Building.Adopting.{next_apart, next_given, next_low, adopts_more, adopts_same}
+use Rattle.stabilizer.proofs.Building.Adopting.{next_apart, next_plain, next_no_expert, next_given, next_low, adopts_more, adopts_same}
 use Rattle.stabilizer.proofs.parts.Parts.adopt_since.Goals as goal
 
 pub adopt-requires-clause-apart : goal.adopt-requires-clause-apart
 adopt-requires-clause-apart c = next_apart c.args.self.now c.loop-node.self c.args.bind c.in-Some.node c.args.count c.loop-node.next c.requires.ready
     c.loop-node.invariant.so c.loop-node.invariant.low c.in-Some.ensures.some
+
+pub adopt-requires-clause-plain : goal.adopt-requires-clause-plain
+adopt-requires-clause-plain c = next_plain c.args.self.now c.loop-node.self c.args.bind c.in-Some.node c.args.count c.loop-node.next c.requires.ready
+    c.loop-node.invariant.so c.loop-node.invariant.low c.in-Some.ensures.some
+
+pub adopt-requires-clause-no_expert : goal.adopt-requires-clause-no_expert
+adopt-requires-clause-no_expert c = next_no_expert c.args.self.now c.loop-node.self c.args.bind c.in-Some.node c.args.count c.loop-node.next
+    c.requires.ready c.loop-node.invariant.so c.loop-node.invariant.low c.in-Some.ensures.some
 
 pub returns-in_err-adopt-clause-some : goal.returns-in_err-adopt-clause-some
 returns-in_err-adopt-clause-some c =

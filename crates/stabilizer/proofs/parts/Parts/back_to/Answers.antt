@@ -14,7 +14,7 @@ loop-id-preserved c =
     let d = c.drop_node.ensures in
     let low = c.loop-id.invariant.walked.low in let next = c.in-Some.ensures.some.since in record {
       so_far = dropped_more c.args.self.now c.loop-id.self c.drop_node.new.self c.args.count c.in-Some.id c.loop-id.invariant.so_far
-          (omega (arith, low, next)) d.dropped d.given d.rows d.links d.roots d.heap d.right_sides d.kept d.ready;
+          (omega (arith, low, next)) d.dropped d.given d.rows d.links d.roots d.heap d.right_sides d.experts d.kept d.ready;
       ran = d.ran ∙ c.loop-id.invariant.ran;
       walked = walk_goes_on c.loop-id.self.arena c.args.count c.loop-id.next c.loop-id.invariant.walked c.drop_node.new.self.arena c.in-Some.id
           c.loop-id.invariant.so_far.kept.work.sound c.in-Some.ensures.some d.dropped;

@@ -30,7 +30,7 @@ loop-node-preserved c =
     let d = c.drop_node.ensures in record {
       so = leaving_more c.args.self.now now c.args.bind c.in-Some.node c.requires.ready c.loop-node.invariant.so c.in-Some.ensures.was new
           c.in-Some.ensures.gives c.in-Some.ensures.standing d.rows d.dropped d.stays.links d.stays.roots d.heap d.stays.step d.rest
-          d.stays.todo d.stays.round refl refl refl refl;
+          d.stays.todo d.stays.round d.no_expert refl refl refl refl;
     }
 
 pub returns : goal.returns

@@ -19,7 +19,7 @@ module _ (c : goal.After-forget_roots) where
   abbrev new : Parts
   new = record old { arena = c.drop_node.new.self; timed = c.forget.new.self; work = record mid { roots = c.forget_roots.new.roots } }
 
-  rest : new.work ≡ record old.work { graph = new.work.graph; rows = new.work.rows; roots = new.work.roots }
+  rest : new.work ≡ record old.work { graph = new.work.graph; rows = new.work.rows; roots = new.work.roots; experts = new.work.experts }
   rest = ap (λ (w : Work). record w { roots = c.forget_roots.new.roots }) c.drop_node-2.ensures.rest
 
   rights : ChangesNode old.work.roots new.work.roots c.args.id (λ part. None)
@@ -36,7 +36,8 @@ returns c =
     let d = c.drop_node-2.ensures in
     let right_sides = rights c in
     let kept = dropped_parts (old c) (new c) c.args.id c.requires.kept c.requires.unneeded c.requires.unscoped a.dropped a.given d.rows d.dropped
-    (rights c) d.stays.links d.stays.roots d.heap d.stays.step a.sound (rest c) refl refl (clock c) in
+    (rights c) d.stays.links d.stays.roots d.heap d.stays.step a.sound d.expert (rest c) refl refl (clock c) in
     let ready = dropped_ready (old c) (new c) c.args.id c.requires.kept c.requires.unneeded c.requires.unscoped a.dropped a.given d.rows d.dropped
-    (rights c) d.stays.links d.stays.roots d.heap d.stays.step a.sound (rest c) refl refl (clock c) in
-    assumption (right_sides, kept, ready, a, d)
+    (rights c) d.stays.links d.stays.roots d.heap d.stays.step a.sound d.expert (rest c) refl refl (clock c) in
+    let experts = d.expert.others in
+    assumption (right_sides, experts, kept, ready, a, d)

@@ -1,4 +1,5 @@
-use Rattle.std.proofs.Common.{◌≡◌, ◌<◌, inl, refl, sym, ap, subst}
+use Rattle.std.proofs.Common.{◌≡◌, ◌<◌, List, inl, refl, sym, ap, subst}
+use Rattle.expert_nodes.specs.Experts.{ExpertPlace, KeepsExperts, expert_at}
 use Rattle.inc_value.specs.declared.node.Part.TheVariants.{Main}
 use Rattle.inc_value.specs.Choice.{Among}
 use Rattle.inc_value.specs.declared.node.NodeId.{NodeId}
@@ -12,11 +13,16 @@ use Rattle.stabilizer.specs.Between.{KeepsWork}
 use Rattle.wiring.specs.Places.{for_parts}
 use Rattle.stabilizer.specs.declared.parts.Parts.{Parts}
 use Rattle.wiring.specs.declared.work.Work.{Work}
-use Rattle.stabilizer.proofs.Between.Adding.{given_other, no_row, added_parts, added_ready, back_parts, back_ready, dropped_again, live_below}
+use Rattle.stabilizer.proofs.Between.Adding.{adds_expert, given_other, no_expert, no_row, added_parts, added_ready, back_parts, back_ready, dropped_again, live_below}
 use Rattle.stabilizer.proofs.Between.Alone.{same_todo}
 use Rattle.stabilizer.proofs.Between.Cutting.{added_cutoffs}
 use Rattle.wiring.proofs.Placing.{unsettled, pair_stays}
 use Rattle.stabilizer.proofs.parts.Parts.place.Goals as goal
+
+-- ---- what is called
+
+pub add_node-added-requires-clause-no_expert : goal.add_node-added-requires-clause-no_expert
+add_node-added-requires-clause-no_expert c = no_expert c.args.self.now.arena c.args.self.now.work c.args.id c.requires.kept.work c.requires.next
 
 -- ---- no memory for what is kept of it
 
@@ -30,7 +36,9 @@ module _ (c : goal.After-drop) where
   same : KeepsWork old.work new.work
   same =
       let todo = same_todo old.work new.work c.add_node-added.ensures.stays.todo in
-      assumption (todo, c.in-Err.ensures, c.add_node-added.ensures.stays)
+      let experts : KeepsExperts old.work.experts new.work.experts
+      = (λ n. ap (λ (x : List ExpertPlace). expert_at x n) c.in-Err.ensures.err_experts) in
+      assumption (todo, experts, c.in-Err.ensures, c.add_node-added.ensures.stays)
 
   scoped : (n : NodeId) → IsLive old.arena n → Among n old.work.scoped.nodes → Among n new.work.scoped.nodes
   scoped n live among = subst (λ (l : Listed). Among n l.nodes) (sym c.in-Err.ensures.scoped) among
@@ -74,11 +82,12 @@ returns-in-Ok-insert-clause-placed c =
       roots = a.stays.roots;
       heap = a.stays.heap;
       right_sides = a.stays.round.roots;
+      experts = a.experts;
       ran = refl;
       kept = added_parts (before c) (after c) c.args.id _ a.added.0 c.requires.kept c.requires.next i.added refl i.sound i.given a.rows a.added.1
-          a.pairs a.scoped a.stays.links a.stays.roots a.stays.heap a.stays.step a.stays.round (same_todo (before c).work (after c).work a.stays.todo) refl refl refl;
+          a.pairs a.scoped a.stays.links a.stays.roots a.stays.heap a.stays.step a.stays.round a.experts (same_todo (before c).work (after c).work a.stays.todo) refl refl refl;
       ready = added_ready (before c) (after c) c.args.id _ a.added.0 c.requires.kept c.requires.next i.added refl i.sound i.given a.rows a.added.1
-          a.pairs a.scoped a.stays.links a.stays.roots a.stays.heap a.stays.step a.stays.round (same_todo (before c).work (after c).work a.stays.todo) refl refl refl;
+          a.pairs a.scoped a.stays.links a.stays.roots a.stays.heap a.stays.step a.stays.round a.experts (same_todo (before c).work (after c).work a.stays.todo) refl refl refl;
     }
 
 -- ---- no memory for the node: its points are dropped again
@@ -103,7 +112,9 @@ module _ (c : goal.After-forget_since) where
   dropped = let a = c.in-Ok.ensures in let d = c.drop_node.ensures in
       dropped_again start.arena start.work mid c.args.id (for_parts (def_of c.args.def) (λ part. unsettled))
       (for_parts (def_of c.args.def) a.added.0) c.requires.kept.work c.requires.next a.rows a.added.1 a.stays.links a.stays.roots a.stays.heap
-      a.stays.round (same_todo start.work mid a.stays.todo) gone d.rows d.dropped d.stays.links d.stays.roots d.heap d.stays.round
+      a.stays.round (adds_expert (def_of c.args.def) start.work.experts mid.experts c.args.id
+      (no_expert start.arena start.work c.args.id c.requires.kept.work c.requires.next) a.experts).others
+      (same_todo start.work mid a.stays.todo) gone d.rows d.dropped d.stays.links d.stays.roots d.heap d.stays.round d.expert
       (same_todo mid gone d.stays.todo)
 
   forgotten : KeepsWork start.work last

@@ -38,9 +38,10 @@ returns-in-Ok-clause-stays c =
     let m = c.in-Ok.ensures in
     let rows = ap (λ (x : Work). x.rows) s.rest in
     let right_sides = ap (λ (x : Work). x.roots) s.rest in
+    let experts = ap (λ (x : Work). x.experts) s.rest in
     let kept = set_parts (old c) (new c) c.args.id c.args.value c.requires.kept m.set (not_other c) m.given (marked c) s.step m.sound (rest c) in
     let ready = set_ready (old c) (new c) c.args.id c.args.value c.requires.kept m.set (not_other c) m.given (marked c) s.step m.sound (rest c) in
-    assumption (rows, right_sides, kept, ready, m, s)
+    assumption (rows, right_sides, experts, kept, ready, m, s)
 
 -- ---- it was refused
 

@@ -1,4 +1,5 @@
-use Rattle.std.proofs.Common.{◌≡◌, refl, ap, subst}
+use Rattle.std.proofs.Common.{◌≡◌, ◌++◌, refl, sym, ap, subst}
+use Rattle.stabilizer.specs.Round.{AreRooted}
 use Rattle.inc_value.specs.declared.node.Point.{Point}
 use Rattle.inc_terms.specs.Depend.{main}
 use Rattle.necessary_graph.specs.Sweep.{IsUnrooted}
@@ -27,10 +28,12 @@ returns c =
     record {
       unrooted = off c;
       roots = root_less (old c).work c.root_off.new.self.graph c.args.id (off c);
-      rooted = still_rooted (old c).work c.root_off.new.self.graph c.args.id (off c);
+      rooted = λ since before after all. subst (λ (w : Work). AreRooted (old c).arena w since (before ++ after)) (sym c.root_off.ensures.rest)
+          (still_rooted (old c).work c.root_off.new.self.graph c.args.id (off c) (old c).arena since before after all);
       arena = refl;
       rows = ap (λ (x : Work). x.rows) c.root_off.ensures.rest;
       right_sides = ap (λ (x : Work). x.roots) c.root_off.ensures.rest;
+      experts = ap (λ (x : Work). x.experts) c.root_off.ensures.rest;
       ran = refl;
       kept = unrooted_parts (old c) (new c) c.args.id (off c) c.requires.kept c.root_off.ensures.step (rest c);
       ready = unrooted_ready (old c) (new c) c.args.id (off c) c.requires.kept c.root_off.ensures.step (rest c);
