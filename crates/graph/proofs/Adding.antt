@@ -56,10 +56,18 @@ Passes (Err e) q = q ≡ Err (of_add e)
 pub all_stays : {F : Type 0} (s : GraphView F) → KeepsAll s s
 all_stays s = record {
   beside = record {
-    top = record { functions = refl; rooted = refl; refused = refl; ran = refl; notices = refl };
+    top = record { functions = refl; rooted = refl; since = refl; refused = refl; ran = refl; notices = refl };
     observers = refl;
     need = record { links = λ p q. refl; roots = λ p. refl };
-    of_nodes = record { shown = λ n g. refl; chosen = λ n g. refl; built = λ n g. refl; last = λ n g. refl };
+    of_nodes = record {
+      shown = λ n g. refl;
+      chosen = λ n g. refl;
+      built = λ n g. refl;
+      last = λ n g. refl;
+      frozen = λ n g. refl;
+      lists = λ n g. refl;
+      marks = λ n g. refl;
+    };
     cutoff = λ n g. refl;
     no_more_cutoffs = λ n e. e;
   };

@@ -1,5 +1,5 @@
 -- A node's cutoff is set.
-use Rattle.std.proofs.Common.{◌≡◌, inl, inr, ℕ, List, Option, None, Some, refl, sym, ap, subst, ◌∙◌}
+use Rattle.std.proofs.Common.{◌≡◌, inl, inr, ℕ, ◌+◌, ◌≤◌, List, map, take, Option, None, Some, refl, sym, ap, subst, ◌∙◌}
 use Rattle.std.specs.Prelude.{is_some, IsSome, option_map}
 use Rattle.inc_value.specs.declared.node.NodeId.{NodeId}
 use Rattle.inc_value.specs.declared.node.Point.{Point}
@@ -12,12 +12,15 @@ use Rattle.link_table.specs.Links.{times}
 use Rattle.necessity.specs.Need.{root_times}
 use Rattle.node_arena.specs.Arena.{Arena, row_at}
 use Rattle.stabilize_round.proofs.Points.{same_or_other}
+use Rattle.stabilize_round.specs.State.{count}
+use Rattle.expert_nodes.specs.Experts.{is_stale_at, kids_at}
 use Rattle.node_outcomes.specs.Computing.{seen_of, seen}
 use Rattle.wiring.specs.Kept.{IsKept}
 use Rattle.node_outcomes.specs.Meaning.{Meaning}
-use Rattle.stabilizer.specs.Look.{last_of}
+use Rattle.stabilizer.specs.Kept.{graph_in}
+use Rattle.stabilizer.specs.Look.{freeze_roots, last_of}
 use Rattle.stabilizer.specs.Round.{IsReady}
-use Rattle.node_outcomes.specs.Row.{IsRewritten, with_cutoff, outcome_in, cutoff_in}
+use Rattle.node_outcomes.specs.Row.{IsRewritten, with_cutoff, outcome_in, cutoff_in, kept_in}
 use Rattle.stabilizer.specs.declared.parts.Parts.{Parts}
 use Rattle.wiring.specs.declared.refused.Refused.{Refused}
 use Rattle.node_outcomes.specs.declared.row.Progress.{Progress}
@@ -25,8 +28,9 @@ use Rattle.stabilizer.proofs.Round.Beginning.{main_there}
 use Rattle.graph.specs.Effects.{SetsCutoff}
 use Rattle.graph.specs.Inside.{FitsInside}
 use Rattle.graph.specs.Standing.{GraphView}
+use Rattle.graph.proofs.Freezes.{freezes_as}
 use Rattle.graph.proofs.Seeing.{seen_as, built_still}
-use Rattle.observers.specs.Observers.{ObserversView}
+use Rattle.observers.specs.Observers.{ObserversView, in_use}
 use Rattle.observers.specs.declared.observer.Observer.{Observer}
 use Rattle.graph.proofs.Sound.{ready_built}
 
@@ -60,16 +64,25 @@ module _ (old new : Parts) (id : NodeId) (c : Cutoff) (set : IsRewritten old.wor
   last_still None = refl
   last_still (Some k) = refl
 
+  kept_still : (x : Option Progress) → kept_in (option_map (with_cutoff c) x) ≡ kept_in x
+  kept_still None = refl
+  kept_still (Some k) = refl
+
   arena_as : new.arena ≡ old.arena
   arena_as = ap (λ (p : Parts). p.arena) rest
 
-  pub sound_cut : (M : Meaning) (observers : List Observer) (rooted : ℕ) (refused : Option Refused)
-      → FitsInside M old observers rooted refused → refused ≡ None
+  freezes_still : (since : ℕ) (p : Point) → freeze_roots (graph_in new) since p ≡ freeze_roots (graph_in old) since p
+  freezes_still since = freezes_as (graph_in old) (graph_in new) since (λ n early. ap (λ (a : Arena). row_at a n) arena_as)
+      (λ n early. same_in kept_in kept_still (main n))
+
+  pub sound_cut : (M : Meaning) (observers : List Observer) (rooted since : ℕ) (refused : Option Refused)
+      → FitsInside M old observers rooted since refused → refused ≡ None
       → (IsReady M old → IsReady M new)
-      → FitsInside M new observers rooted refused
-  sound_cut M observers rooted refused sound still ready = record {
+      → FitsInside M new observers rooted since refused
+  sound_cut M observers rooted since refused sound still ready = record {
     few = sound.few;
     earlier = sound.earlier;
+    past = subst (λ (a : Arena). since ≤ a.given) (sym arena_as) sound.past;
     kept = (ready (sound.unbroken still).ready).kept;
     built = ready_built M new (ready (sound.unbroken still).ready);
     inside = (ready (sound.unbroken still).ready).inside;
@@ -77,7 +90,8 @@ module _ (old new : Parts) (id : NodeId) (c : Cutoff) (set : IsRewritten old.wor
     later = sound.later;
     unbroken = λ whole. let can = sound.unbroken whole in record {
       ready = ready can.ready;
-      roots = λ p. ap (λ (x : Parts). root_times x.work.graph.roots p) rest ∙ can.roots p;
+      roots = λ p. ap (λ (x : Parts). root_times x.work.graph.roots p) rest
+          ∙ (can.roots p ∙ ap (λ (k : ℕ). count p (map main (in_use (take rooted observers))) + k) (sym (freezes_still since p)));
       given = λ n among. subst (λ (a : Arena). Given a.given n) (sym arena_as) (can.given n among);
       shown = λ o x among used shown. seen_same (main o.node) ∙ can.shown o x among used shown;
     };
@@ -88,20 +102,20 @@ module _ (old new : Parts) (id : NodeId) (c : Cutoff) (set : IsRewritten old.wor
   cut_at None there = absurd (cc)
   cut_at (Some k) there = refl
 
-  module _ {F : Type 0} (functions : F) (observers : ObserversView) (rooted : ℕ) (refused : Option Refused) where
+  module _ {F : Type 0} (functions : F) (observers : ObserversView) (rooted since : ℕ) (refused : Option Refused) where
     abbrev before : GraphView F
-    before = seen_as functions old observers rooted refused
+    before = seen_as functions old observers rooted since refused
 
     abbrev after : GraphView F
-    after = seen_as functions new observers rooted refused
+    after = seen_as functions new observers rooted since refused
 
     pub sets_cutoff : IsKept old.arena old.work → (at old.work.rows (main id) ≡ None → new ≡ old) → SetsCutoff before after id c
     sets_cutoff kept dead = record {
       set = λ live. ap cutoff_in set.changed ∙ cut_at (at old.work.rows (main id)) (main_there old.arena old.work kept id ∙ live);
       others = λ n other. ap cutoff_in (set.others (main n) (λ e. other (ap (λ (p : Point). p.node) e)));
-      dead = λ not. ap (λ (p : Parts). seen_as functions p observers rooted refused)
+      dead = λ not. ap (λ (p : Parts). seen_as functions p observers rooted since refused)
           (dead (no_row (at old.work.rows (main id)) (row_at old.arena id) (main_there old.arena old.work kept id) not));
-      top = record { functions = refl; rooted = refl; refused = refl; ran = ap (λ (p : Parts). p.ran.items) rest; notices = refl };
+      top = record { functions = refl; rooted = refl; since = refl; refused = refl; ran = ap (λ (p : Parts). p.ran.items) rest; notices = refl };
       nodes = arena_as;
       observers = refl;
       need = record {
@@ -114,5 +128,8 @@ module _ (old new : Parts) (id : NodeId) (c : Cutoff) (set : IsRewritten old.wor
         built = λ n of. built_still old new n (ap (λ (a : Arena). row_at a n) arena_as) (same_in outcome_in outcome_still (change n))
             (ap (λ (p : Parts). at p.work.roots (change n)) rest);
         last = λ n of. same_in last_of last_still (main n);
+        frozen = λ n of. same_in kept_in kept_still (main n);
+        lists = λ n of. ap (λ (p : Parts). kids_at p.work.experts n) rest;
+        marks = λ n of. ap (λ (p : Parts). is_stale_at p.work.experts n) rest;
       };
     }

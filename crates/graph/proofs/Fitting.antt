@@ -61,7 +61,8 @@ module _ (known : FnRef → Bool) (right : FnRef → RightSide) (sides : SidesHo
   known_fits a b ty (graph.Steps v steps) k m = (value_any v, every_step steps)
   known_fits a b ty graph.Now k m = tt
   known_fits a b ty (graph.Every base span) k m = tt
-  known_fits a b ty def k m = absurd m
+  known_fits a b ty (graph.Freeze kid f) k m = (map_fits a f k m.kind, tt)
+  known_fits a b ty (graph.Expert f v ns) k m = (map_fits a f k m.kind, value_any v, every_unit ns)
 
 -- then they list given nodes
 pub calls_fit : (known : FnRef → Bool) (right : FnRef → RightSide) (a : Arena) (def : Def) → IsDefFit known right a def

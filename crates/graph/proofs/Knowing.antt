@@ -143,11 +143,12 @@ module _ (named named' : List ℕ → Option FnRef) (known known' : FnRef → Bo
       search (laws, fits, entry, h)
 
 -- what every graph keeps, it keeps with the further functions
-pub sound_more : (M M' : Meaning) (parts : Parts) (observers : List Observer) (rooted : ℕ) (refused : Option Refused)
-    → FitsInside M parts observers rooted refused → refused ≡ None → (IsReady M parts → IsReady M' parts) → FitsInside M' parts observers rooted refused
-sound_more M M' parts observers rooted refused fits still ready = record {
+pub sound_more : (M M' : Meaning) (parts : Parts) (observers : List Observer) (rooted since : ℕ) (refused : Option Refused)
+    → FitsInside M parts observers rooted since refused → refused ≡ None → (IsReady M parts → IsReady M' parts) → FitsInside M' parts observers rooted since refused
+sound_more M M' parts observers rooted since refused fits still ready = record {
   few = fits.few;
   earlier = fits.earlier;
+  past = fits.past;
   kept = fits.kept;
   built = ready_built M' parts (ready (fits.unbroken still).ready);
   inside = fits.inside;

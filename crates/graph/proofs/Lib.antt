@@ -19,3 +19,7 @@ pub mod Grouping
 pub mod Timing
 pub mod Moving
 pub mod Telling
+pub mod Freezes
+pub mod Linking
+mod Listing
+mod Asking

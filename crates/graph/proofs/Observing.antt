@@ -146,9 +146,6 @@ in_use_split os r = sym (in_use_append (take r os) (drop r os)) ∙ ap in_use (t
 pub front_in : {A : Type 0} (xs : List A) (r : ℕ) (x : A) → Among x (take r xs) → Among x xs
 front_in xs r x h = subst (Among x) (take-append-drop r xs) (among_left x (take r xs) (drop r xs) h)
 
-pub back_in : {A : Type 0} (xs : List A) (r : ℕ) (x : A) → Among x (drop r xs) → Among x xs
-back_in xs r x h = subst (Among x) (take-append-drop r xs) (among_right x (take r xs) (drop r xs) h)
-
 -- ---- who is in use
 
 user_first : (b : Bool) (m n : NodeId) (ns : List NodeId) → b ≡ true → n ≡ m → Among n (cond b (m ∷ ns) ns)

@@ -1,8 +1,9 @@
 -- What a round leaves of the parts, told of the graph.
-use Rattle.std.proofs.Common.{◌≡◌, inl, ℕ, List, length, Option, None, Some, refl, sym, ap, subst, ◌∙◌}
+use Rattle.std.proofs.Common.{◌≡◌, inl, ℕ, false, List, length, Option, None, Some, refl, sym, ap, subst, ◌∙◌}
 use Rattle.std.specs.Prelude.{slice_get}
 use Rattle.inc_value.specs.declared.node.NodeId.{NodeId}
 use Rattle.inc_value.specs.Choice.{here}
+use Rattle.inc_terms.specs.Depend.{main}
 use Rattle.inc_terms.specs.Graph.{Row}
 use Rattle.inc_terms.specs.Term.{Functions}
 use Rattle.inc_terms.specs.Within.{Given}
@@ -26,23 +27,23 @@ use Rattle.graph.proofs.Seeing.{seen_as}
 use Rattle.graph.proofs.Telling.{looked_told}
 
 -- of an unbroken graph it is what can be looked at of its parts between rounds
-look_is : {F : Type 0} (functions : F) (parts : Parts) (observers : ObserversView) (rooted : ℕ) (refused : Option Refused) → refused ≡ None
-    → look_between parts ≡ look (seen_as functions parts observers rooted refused)
-look_is functions parts observers rooted refused still =
-    ap (λ (r : Option Refused). look (seen_as functions parts observers rooted r)) (sym still)
+look_is : {F : Type 0} (functions : F) (parts : Parts) (observers : ObserversView) (rooted since : ℕ) (refused : Option Refused) → refused ≡ None
+    → look_between parts ≡ look (seen_as functions parts observers rooted since refused)
+look_is functions parts observers rooted since refused still =
+    ap (λ (r : Option Refused). look (seen_as functions parts observers rooted since r)) (sym still)
 
-module _ {F : Type 0} (M : Functions) (functions functions' : F) (old new : Parts) (observers : ObserversView) (rooted : ℕ)
+module _ {F : Type 0} (M : Functions) (functions functions' : F) (old new : Parts) (observers : ObserversView) (rooted since : ℕ)
     (refused : Option Refused) (still : refused ≡ None) where
   -- what is said of the parts before is said of the graph
-  before_is : (P : Look → Type 0) → P (look_between old) → P (look (seen_as functions old observers rooted refused))
-  before_is P h = subst P (look_is functions old observers rooted refused still) h
+  before_is : (P : Look → Type 0) → P (look_between old) → P (look (seen_as functions old observers rooted since refused))
+  before_is P h = subst P (look_is functions old observers rooted since refused still) h
 
   -- an accepted round
-  pub accepted : (after : ObserversView) → after.made ≡ told_by (shows_of new) observers.made
+  pub accepted : (after : ObserversView) (count : ℕ) → count ≡ new.arena.given → after.made ≡ told_by (shows_of new) observers.made
       → after.notices ≡ notices_of (shows_of new) 0 observers.made → (all : ℕ) → all ≡ length after.made → GraphStays old.arena.given new.arena.given (graph_in old) (round.left_by old new)
       → round.BuildsAll M old new (in_use observers.made) → round.IsUpToDate M old new (in_use observers.made)
-      → Stabilizes M (seen_as functions old observers rooted refused) (seen_as functions' new after all refused)
-  accepted after told notices all are_all rest builds right = record {
+      → Stabilizes M (seen_as functions old observers rooted since refused) (seen_as functions' new after all count refused)
+  accepted after count is_count told notices all are_all rest builds right = record {
     was = still;
     unbroken = still;
     stays = rest;
@@ -50,13 +51,14 @@ module _ {F : Type 0} (M : Functions) (functions functions' : F) (old new : Part
     observers = told;
     notices = notices;
     rooted = are_all;
+    since = is_count;
     shows = λ o n is.
         let was = sym (looked_told (shows_of new) observers.made o.0)
         ∙ (ap (λ (os : List Observer). looked_at (slice_get os o.0)) (sym told) ∙ is) in
         let s = right.sees n (n, inl (looked_among observers.made o.0 n was), here) in (s.0, s.1, s.2);
     right = subst (λ (a : Look). IsUpToDateIn M (round.left_by old new) (round.died_by old new) (graph_in new)
-        (look (seen_as functions old observers rooted refused)) a (in_use observers.made) new.ran.items)
-        (look_is functions' new after all refused still)
+        (look (seen_as functions old observers rooted since refused)) a (in_use observers.made) new.ran.items)
+        (look_is functions' new after all count refused still)
         (before_is (λ (b : Look). IsUpToDateIn M (round.left_by old new) (round.died_by old new) (graph_in new) b (look_between new)
         (in_use observers.made) new.ran.items) right);
   }
@@ -64,22 +66,26 @@ module _ {F : Type 0} (M : Functions) (functions functions' : F) (old new : Part
   -- a refused one
   module _ (met : Refused) where
     pub few_in : (calls after : ℕ) → round.HasCalledMet M old new (in_use observers.made) calls after
-        → HasCalledMet M (seen_as functions old observers rooted refused) (seen_as functions' new observers rooted (Some met)) calls after
+        → HasCalledMet M (seen_as functions old observers rooted since refused) (seen_as functions' new observers rooted since (Some met)) calls after
     few_in calls after h = before_is (λ (b : Look). HasCalledMetIn M (round.left_by old new) (round.died_by old new) b (look_refused new)
         (in_use observers.made) calls after) h
 
     pub refused_in : (cause : Kept) → kept_of met ≡ cause → GraphStays old.arena.given new.arena.given (graph_in old) (round.left_by old new)
-        → new.ran ≡ old.ran
+        → new.ran ≡ old.ran → ((n : NodeId) → (graph_in new).frozen n ≡ (graph_in old).frozen n)
+        → ((n : NodeId) → (look_refused new).settled (main n) ≡ false → (look_refused new).marked n ≡ (look_between old).marked n)
         → ((n : NodeId) (r : Row) → row_at new.arena n ≡ Some r → cutoff_at new.work n ≡ cutoff_at old.work n)
         → ((n : NodeId) → Given old.arena.given n → round.ShowsStill M old new n)
         → round.IsLawful M old new (in_use observers.made) met → LeavesTried (look_refused new) met
         → round.BuildsAllBut M old new (in_use observers.made) met
-        → IsRefusedFor M (seen_as functions old observers rooted refused) (seen_as functions' new observers rooted (Some met)) cause
-    refused_in cause is rest ran cutoffs shows lawful tried builds = record {
+        → IsRefusedFor M (seen_as functions old observers rooted since refused) (seen_as functions' new observers rooted since (Some met)) cause
+    refused_in cause is rest ran frozen marks cutoffs shows lawful tried builds = record {
       was = still;
       stays = rest;
       observers = refl;
       rooted = refl;
+      since = refl;
+      frozen = frozen;
+      marks = marks;
       notices = refl;
       ran = ap (λ v. v.items) ran;
       cutoff = cutoffs;

@@ -12,7 +12,8 @@ use Rattle.link_table.specs.Links.{Links, times}
 use Rattle.necessary_graph.specs.Part as part
 use Rattle.necessity.specs.Need.{Roots, root_times}
 use Rattle.node_outcomes.specs.Computing.{seen_of}
-use Rattle.node_outcomes.specs.Row.{outcome_in, cutoff_in}
+use Rattle.node_outcomes.specs.Row.{outcome_in, cutoff_in, kept_in}
+use Rattle.expert_nodes.specs.Experts.{Expert, expert_at, expert_in, kids_of_expert}
 use Rattle.node_outcomes.specs.declared.row.Progress.{Progress}
 use Rattle.point_map.specs.Rows.{Rows, at}
 use Rattle.node_arena.specs.Arena.{Arena, row_at, IsSet, IsVariable, with_value}
@@ -37,25 +38,26 @@ equal_still now was (inr equal) e = equal
 
 -- ---- a graph over its parts and its observers
 
-abbrev pub seen_as : {F : Type 0} → F → Parts → ObserversView → ℕ → Option Refused → GraphView F
-seen_as functions parts observers rooted refused = record {
+abbrev pub seen_as : {F : Type 0} → F → Parts → ObserversView → ℕ → ℕ → Option Refused → GraphView F
+seen_as functions parts observers rooted since refused = record {
   functions = functions;
   nodes = parts.arena;
   observers = observers.made;
   rooted = rooted;
+  since = since;
   notices = observers.notices;
   ran = parts.ran.items;
   refused = refused;
   work = parts.work;
 }
 
-module _ {F : Type 0} (functions : F) (parts : Parts) (observers : ObserversView) (rooted : ℕ) (refused : Option Refused) where
+module _ {F : Type 0} (functions : F) (parts : Parts) (observers : ObserversView) (rooted since : ℕ) (refused : Option Refused) where
   -- by the parts
-  pub needed_in : (p : Point) → IsNeeded (seen_as functions parts observers rooted refused) p → part.Needed parts.work.graph p
+  pub needed_in : (p : Point) → IsNeeded (seen_as functions parts observers rooted since refused) p → part.Needed parts.work.graph p
   needed_in p need = record { root = need.root; is_root = need.is_root; leads = need.leads }
 
   -- and back
-  pub needed_out : (p : Point) → part.Needed parts.work.graph p → IsNeeded (seen_as functions parts observers rooted refused) p
+  pub needed_out : (p : Point) → part.Needed parts.work.graph p → IsNeeded (seen_as functions parts observers rooted since refused) p
   needed_out p need = record { root = need.root; is_root = need.is_root; leads = need.leads }
 
 -- ---- what nodes are built for
@@ -83,22 +85,23 @@ module _ (old new : Parts) (id : NodeId) (v : Value) (set : IsSet old.arena new.
       → (n : NodeId) → (graph_in new).built n ≡ (graph_in old).built n
   built_set rows roots n = elim (node_or_other n id) [
     | inl is ↦ subst (λ (x : NodeId). (graph_in new).built x ≡ (graph_in old).built x) (sym is)
-        (built_live new.work.rows new.work.roots id new.arena (with_value set.row v) set.changes.changed
-        ∙ sym (built_live old.work.rows old.work.roots id old.arena set.row set.there
+        (built_live new.work.rows new.work.roots id new.arena new.work.experts (with_value set.row v) set.changes.changed
+        ∙ sym (built_live old.work.rows old.work.roots id old.arena old.work.experts set.row set.there
         ∙ unbuilt old.arena id set.row set.there not_other set.row.def refl (outcome_in (at old.work.rows (change id))) (at old.work.roots (change id))))
     | inr other ↦ built_still old new n (set.changes.others n other) (ap (λ (m : Rows Progress). outcome_in (at m (change n))) rows) (roots n)
   ]
 
 -- ---- what stays beside nodes
 
-module _ {F : Type 0} (functions : F) (old new : Parts) (observers : ObserversView) (rooted : ℕ) (refused : Option Refused) where
+module _ {F : Type 0} (functions : F) (old new : Parts) (observers : ObserversView) (rooted since : ℕ) (refused : Option Refused) where
   pub beside_as : (Of : NodeId → Type 0) → new.ran ≡ old.ran → new.work.graph.links ≡ old.work.graph.links
       → new.work.graph.roots ≡ old.work.graph.roots → ((p : Point) → Of p.node → at new.work.rows p ≡ at old.work.rows p)
       → ((n : NodeId) → Of n → (graph_in new).built n ≡ (graph_in old).built n)
+      → ((n : NodeId) → Of n → expert_at new.work.experts n ≡ expert_at old.work.experts n)
       → ((n : NodeId) → (cutoff_at new.work n ≡ cutoff_at old.work n) ⊎ (cutoff_at new.work n ≡ Equal))
-      → KeepsBeside Of (seen_as functions old observers rooted refused) (seen_as functions new observers rooted refused)
-  beside_as Of ran links roots rows built fewer = record {
-    top = record { functions = refl; rooted = refl; refused = refl; ran = ap (λ v. v.items) ran; notices = refl };
+      → KeepsBeside Of (seen_as functions old observers rooted since refused) (seen_as functions new observers rooted since refused)
+  beside_as Of ran links roots rows built experts fewer = record {
+    top = record { functions = refl; rooted = refl; since = refl; refused = refl; ran = ap (λ v. v.items) ran; notices = refl };
     observers = refl;
     need = record { links = λ p q. ap (λ (l : Links). times l p q) links; roots = λ p. ap (λ (r : Roots). root_times r p) roots };
     of_nodes = record {
@@ -106,6 +109,9 @@ module _ {F : Type 0} (functions : F) (old new : Parts) (observers : ObserversVi
       chosen = λ n of. ap outcome_in (rows (change n) of);
       built = built;
       last = λ n of. ap last_of (rows (main n) of);
+      frozen = λ n of. ap kept_in (rows (main n) of);
+      lists = λ n of. ap (λ (e : Option Expert). kids_of_expert (expert_in e)) (experts n of);
+      marks = λ n of. ap (λ (e : Option Expert). (expert_in e).stale) (experts n of);
     };
     cutoff = λ n of. ap cutoff_in (rows (main n) of);
     no_more_cutoffs = λ n. equal_still (cutoff_at new.work n) (cutoff_at old.work n) (fewer n);

@@ -1,10 +1,10 @@
 -- What every graph keeps, over calls between stabilizes.
-use Rattle.std.proofs.Common.{◌≡◌, ℕ, ◌≤◌, List, take, drop, Bool, true, Option, None, Some, refl, sym, ap, subst, ◌∙◌, arith, ◌+◌, option_map, Ok, Err}
+use Rattle.std.proofs.Common.{◌≡◌, inl, inr, ℕ, ◌≤◌, List, [], ◌∷◌, map, take, drop, Bool, true, Option, None, Some, refl, sym, ap, subst, ◌∙◌, arith, ◌+◌, option_map, Ok, Err}
 use Rattle.std.specs.Prelude.{IsSome, is_some, cond, Result, IfOk, OnOk, OnErr, IsErrOf}
 use Rattle.std.proofs.lemmas.Option.{none-some}
 use Rattle.inc_value.specs.declared.node.NodeId.{NodeId}
 use Rattle.inc_value.specs.declared.node.Point.{Point}
-use Rattle.inc_value.specs.Choice.{Among}
+use Rattle.inc_value.specs.Choice.{Among, Every}
 use Rattle.inc_value.specs.declared.outcome.Outcome.{Outcome}
 use Rattle.inc_value.specs.declared.ty.Ty.{Ty}
 use Rattle.inc_terms.specs.Depend.{main, change, right_of, root_for, subject_of}
@@ -16,9 +16,11 @@ use Rattle.node_arena.specs.Arena.{Arena, row_at, Changes, NamesGiven}
 use Rattle.node_arena.specs.Typing.{Fits, Makes, BindMakes}
 use Rattle.node_outcomes.specs.Computing.{seen, seen_of}
 use Rattle.node_outcomes.specs.Meaning.{Meaning}
-use Rattle.node_outcomes.specs.Row.{outcome_in, cutoff_in}
+use Rattle.node_outcomes.specs.Row.{outcome_in, cutoff_in, kept_in}
+use Rattle.expert_nodes.specs.Experts.{Expert, expert_of, kids_at, kids_of_expert, unlinked}
 use Rattle.node_outcomes.proofs.Held.{built_live, built_parts}
 use Rattle.stabilize_round.specs.Invariant.{Rooted}
+use Rattle.stabilize_round.specs.State.{count}
 use Rattle.stabilizer.specs.Between.{StaysButHeap}
 use Rattle.stabilizer.specs.Kept.{graph_in}
 use Rattle.stabilizer.specs.Round.{IsReady}
@@ -47,7 +49,7 @@ use Rattle.map_nodes.specs.declared.cutoff.Cutoff.TheVariants.{Equal}
 use Rattle.inc_value.specs.declared.node.Part.TheVariants.{Main, Change}
 use Rattle.node_outcomes.specs.Choosing.{built_by, built_in}
 use Rattle.wiring.specs.Places.{ChangesNode, for_parts}
-use Rattle.stabilizer.specs.Look.{last_of}
+use Rattle.stabilizer.specs.Look.{freeze_roots, last_of}
 use Rattle.stabilizer.specs.Weights.{SidesFit}
 use Rattle.graph.specs.Effects.{Adds, KeepsBesideGiven, CallsKnown}
 use Rattle.graph.proofs.Fitting.{known_fits, calls_fit, fit_added}
@@ -58,17 +60,18 @@ use Rattle.graph.proofs.Observing.{front_in, front_is_among, early_among, user_a
 pub ready_built : (M : Meaning) (parts : Parts) → IsReady M parts → Rooted M.functions (graph_in parts)
 ready_built M parts ready = subst (Rooted M.functions) ready.stands.graph ready.entry.rooted
 
-module _ (M : Meaning) (old new : Parts) (observers : List Observer) (rooted : ℕ)
-    (can : CanStabilize M old observers rooted) where
+module _ (M : Meaning) (old new : Parts) (observers : List Observer) (rooted since : ℕ)
+    (can : CanStabilize M old observers rooted since) where
   -- roots, what is shown of rooted nodes and ids that were given stay
   pub can_still : ((o : Observer) → Among o (drop rooted observers) → o.shown ≡ None) → IsReady M new
       → ((p : Point) → root_times new.work.graph.roots p ≡ root_times old.work.graph.roots p)
+      → ((p : Point) → freeze_roots (graph_in new) since p ≡ freeze_roots (graph_in old) since p)
       → (old.arena.given ≤ new.arena.given)
       → ((n : NodeId) → Among n (in_use (take rooted observers)) → at new.work.rows (main n) ≡ at old.work.rows (main n))
-      → CanStabilize M new observers rooted
-  can_still later ready roots given rows = record {
+      → CanStabilize M new observers rooted since
+  can_still later ready roots freezes given rows = record {
     ready = ready;
-    roots = λ p. roots p ∙ can.roots p;
+    roots = λ p. roots p ∙ (can.roots p ∙ ap (λ (k : ℕ). count p (map main (in_use (take rooted observers))) + k) (sym (freezes p)));
     given = λ n among. let g = can.given n among in omega (arith, g, given);
     shown = λ o x among used shown. ap seen_of (rows o.node (user_among (take rooted observers) o (early_among observers rooted later o x among shown) used))
         ∙ can.shown o x among used shown;
@@ -101,20 +104,28 @@ own_root w = ap (λ (b : Bool). cond b w.root None) ((outcome_decides w.outcome 
 pub roots_fit : (arena : Arena) (work : Work) → IsKept arena work → RootsFit arena (graph_at arena work)
 roots_fit arena work kept b r left f captures w root row bind built is =
     let parts = built_parts r.def (outcome_in (at work.rows (change b))) (at work.roots (change b)) w
-    (sym (built_live work.rows work.roots b arena r row) ∙ built) in
+    (sym (built_live work.rows work.roots b arena work.experts r row) ∙ built) in
     let right : right_of (graph_at arena work) b r.def w.outcome ≡ Some root = parts.1 (graph_at arena work) b w.outcome built ∙ (own_root w ∙ is) in
     let k = row_of_outcome (at work.rows (change b)) w.outcome parts.0 in
     let fits = kept.rights b root r k.0 w.outcome row k.1 k.2 right in
     let makes : BindMakes arena left f captures r.ty = subst (λ (d : Def). Makes arena d r.ty) bind (kept.sound.types b r row) in
     (fits.0, subst (λ (t : Ty). Fits arena root t) (sym makes.gives) fits.1)
 
+every_among : (P : NodeId → Type 0) (ns : List NodeId) → Every P ns → (n : NodeId) → Among n ns → P n
+every_among P [] h n among = absurd among
+every_among P (m ∷ ns) h n (inl e) = subst P (sym e) h.0
+every_among P (m ∷ ns) h n (inr rest) = every_among P ns h.1 n rest
+
 -- what callers are told of it
-pub sound_of : {F : Type 0} (functions : F) (M : Meaning) (parts : Parts) (observers : ObserversView) (rooted : ℕ) (refused : Option Refused)
-    → FitsInside M parts observers.made rooted refused → IsSoundGraph M (seen_as functions parts observers rooted refused)
-sound_of functions M parts observers rooted refused fits = record {
+pub sound_of : {F : Type 0} (functions : F) (M : Meaning) (parts : Parts) (observers : ObserversView) (rooted since : ℕ) (refused : Option Refused)
+    → FitsInside M parts observers.made rooted since refused → IsSoundGraph M (seen_as functions parts observers rooted since refused)
+sound_of functions M parts observers rooted since refused fits = record {
   few = fits.few;
   earlier = fits.earlier;
+  past = fits.past;
+  listed = λ n m among. every_among (Given parts.arena.given) (kids_at parts.work.experts n) (fits.kept.work.listed n) m among;
   nodes = fits.kept.work.sound;
+  tops = fits.kept.work.tops;
   scopes = fits.kept.work.scopes;
   built = fits.built;
   inside = fits.inside;
@@ -153,12 +164,13 @@ none_built (Some r) root = by_kind r.def
     by_kind (Bind left function captures) = refl
     by_kind def = refl
 
--- the new node's points have this row: no outcome, no last call, cutoff Equal
+-- the new node's points have this row: no outcome, no last call, cutoff Equal, and it keeps no value
 pub adds_of : {F : Type 0} (s t : GraphView F) (def : Def) (ty : Ty) (result : Result NodeId AddFault) (k : Progress) → k.outcome ≡ None → k.last ≡ None
-    → k.cutoff ≡ Equal → AddAnswers s.nodes t.nodes def ty result
-    → IfOk result (λ (id : NodeId). ChangesNode s.work.rows t.work.rows id (for_parts def (λ part. k))) → KeepsBesideGiven s t
+    → k.cutoff ≡ Equal → kept_in (Some k) ≡ None → AddAnswers s.nodes t.nodes def ty result
+    → IfOk result (λ (id : NodeId). ChangesNode s.work.rows t.work.rows id (for_parts def (λ part. k)))
+    → IfOk result (λ (id : NodeId). expert_of t.work.experts id ≡ unlinked) → KeepsBesideGiven s t
     → IfOk result (λ (id : NodeId). Adds s t id (record { def = def; ty = ty; scope = None }))
-adds_of s t def ty (Ok id) k unshown uncalled equal a row beside = record {
+adds_of s t def ty (Ok id) k unshown uncalled equal unkept a row bare beside = record {
   beside = beside;
   fresh = a.fresh;
   given = a.given;
@@ -169,8 +181,11 @@ adds_of s t def ty (Ok id) k unshown uncalled equal a row beside = record {
       ∙ none_built (row_at t.nodes id) (at t.work.roots (change id));
   uncalled = ap last_of (row.now Main) ∙ uncalled;
   equal = ap cutoff_in (row.now Main) ∙ equal;
+  unfrozen = ap kept_in (row.now Main) ∙ unkept;
+  unlisted = ap kids_of_expert bare;
+  unmarked = ap (λ (e : Expert). e.stale) bare;
 }
-adds_of s t def ty (Err e) k unshown uncalled equal a row beside = tt
+adds_of s t def ty (Err e) k unshown uncalled equal unkept a row bare beside = tt
 
 pub answer_given : (old new : Arena) (def : Def) (ty : Ty) (result : Result NodeId AddFault) → AddAnswers old new def ty result → old.given ≤ new.given
 answer_given old new def ty (Ok id) a = let g = a.given in omega (arith, g)
@@ -201,36 +216,41 @@ answer_fit known right sides old new def ty (Err e) a calls sound keeps work kep
 
 -- ---- all that a call between stabilizes leaves
 
-module _ (M : Meaning) (old new : Parts) (observers : List Observer) (rooted : ℕ)
-    (refused : Option Refused) (sound : FitsInside M old observers rooted refused) where
+module _ (M : Meaning) (old new : Parts) (observers : List Observer) (rooted since : ℕ)
+    (refused : Option Refused) (sound : FitsInside M old observers rooted since refused) where
   -- where the mains of observed nodes keep their rows
   pub sound_observed : refused ≡ None → (IsReady M old → IsReady M new)
       → ((p : Point) → root_times new.work.graph.roots p ≡ root_times old.work.graph.roots p)
+      → (CanStabilize M old observers rooted since → (p : Point) → freeze_roots (graph_in new) since p ≡ freeze_roots (graph_in old) since p)
       → (old.arena.given ≤ new.arena.given)
-      → (CanStabilize M old observers rooted → (n : NodeId) → Among n (in_use (take rooted observers))
+      → (CanStabilize M old observers rooted since → (n : NodeId) → Among n (in_use (take rooted observers))
       → at new.work.rows (main n) ≡ at old.work.rows (main n))
-      → FitsInside M new observers rooted refused
-  sound_observed still ready roots given rows = record {
+      → FitsInside M new observers rooted since refused
+  sound_observed still ready roots freezes given rows = record {
     few = sound.few;
     earlier = sound.earlier;
+    past = let past = sound.past in omega (arith, past, given);
     kept = (ready (sound.unbroken still).ready).kept;
     built = ready_built M new (ready (sound.unbroken still).ready);
     inside = (ready (sound.unbroken still).ready).inside;
     showing = sound.showing;
     later = sound.later;
-    unbroken = λ whole. let can = sound.unbroken whole in can_still M old new observers rooted can sound.later (ready can.ready) roots given (rows can);
+    unbroken = λ whole. let can = sound.unbroken whole in
+        can_still M old new observers rooted since can sound.later (ready can.ready) roots (freezes can) given (rows can);
   }
 
   pub sound_still : refused ≡ None → (IsReady M old → IsReady M new)
       → ((p : Point) → root_times new.work.graph.roots p ≡ root_times old.work.graph.roots p)
+      → ((p : Point) → freeze_roots (graph_in new) since p ≡ freeze_roots (graph_in old) since p)
       → (old.arena.given ≤ new.arena.given)
       → ((n : NodeId) → Given old.arena.given n → at new.work.rows (main n) ≡ at old.work.rows (main n))
-      → FitsInside M new observers rooted refused
-  sound_still still ready roots given rows = sound_observed still ready roots given
+      → FitsInside M new observers rooted since refused
+  sound_still still ready roots freezes given rows = sound_observed still ready roots (λ can. freezes) given
       (λ can n among. rows n (can.given n (front_is_among observers rooted n among)))
 
   -- where all but the heap, and what nodes are, stays
-  pub sound_but_heap : refused ≡ None → StaysButHeap old new → FitsInside M new observers rooted refused
-  sound_but_heap still stays = let given = stays.given in
-      sound_still still (stays.ready M) (λ p. ap (λ (r : Roots). root_times r p) stays.roots) (omega (arith, given))
+  pub sound_but_heap : refused ≡ None → StaysButHeap old new
+      → ((p : Point) → freeze_roots (graph_in new) since p ≡ freeze_roots (graph_in old) since p) → FitsInside M new observers rooted since refused
+  sound_but_heap still stays freezes = let given = stays.given in
+      sound_still still (stays.ready M) (λ p. ap (λ (r : Roots). root_times r p) stays.roots) freezes (omega (arith, given))
       (λ n given. ap (λ (m : Rows Progress). at m (main n)) stays.rows)

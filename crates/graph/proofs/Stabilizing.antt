@@ -1,5 +1,5 @@
 -- What a round gave, over other lists of the same nodes.
-use Rattle.std.proofs.Common.{◌≡◌, inl, inr, ℕ, ◌≤◌, ◌-◌, ◌^◌, true, List, ◌++◌, length, map, take, drop, Option, None, Some, Ok, Err, sym, ap, subst, ◌∙◌, arith}
+use Rattle.std.proofs.Common.{◌≡◌, inl, inr, ℕ, ◌≤◌, ◌+◌, ◌-◌, ◌^◌, true, List, ◌++◌, length, map, take, drop, Option, None, Some, Ok, Err, sym, ap, subst, ◌∙◌, arith}
 use Rattle.std.specs.Prelude.{Result, OnOk, IsSome, is_some}
 use Rattle.std.proofs.Math.Seq.{take-length}
 use Rattle.inc_value.specs.declared.outcome.Outcome.{Outcome}
@@ -16,20 +16,23 @@ use Rattle.node_outcomes.specs.Computing.{seen}
 use Rattle.node_outcomes.specs.Meaning.{Meaning}
 use Rattle.stabilizer.specs.Kept.{graph_in}
 use Rattle.stabilizer.specs.Left.{WasDueIn, WasCalledIn, IsUpToDateIn, IsLawfulIn, IsListedIn, HasCalledMetIn, IsBuiltMetIn, BuildsRightIn}
-use Rattle.stabilizer.specs.Look.{Look, IsNeeded, look_between, look_refused}
-use Rattle.stabilizer.specs.Round.{AreRooted, IsReady, IsUpToDate, IsLawful, HasCalledMet, BuildsAll, BuildsAllBut, left_by, died_by}
+use Rattle.stabilizer.specs.Look.{Look, IsNeeded, freeze_roots, look_between, look_refused}
+use Rattle.stabilizer.specs.Round.{AreNewFreezes, AreRooted, BeginsAt, IsReady, IsUpToDate, IsLawful, HasCalledMet, BuildsAll, BuildsAllBut, left_by, died_by}
 use Rattle.stabilizer.specs.declared.parts.Parts.{Parts}
 use Rattle.wiring.specs.declared.refused.Refused.{Refused}
 use Rattle.wiring.specs.declared.refused.Refused.TheVariants.{Height, Cycle, Full, Memory}
-use Rattle.graph.specs.Inside.{CanStabilize, FitsInside}
+use Rattle.graph.specs.Inside.{AreNewRoots, CanStabilize, FitsInside}
 use Rattle.observers.specs.Observers.{in_use, told_by}
 use Rattle.stabilizer.specs.Telling.{shown_or, shows_of}
 use Rattle.observers.specs.declared.observer.Observer.{Observer}
 use Rattle.graph.proofs.Observing.{in_use_split, among_swapped, count_swapped, front_in, user_among}
+use Rattle.graph.proofs.Freezes.{freeze_root_given}
 use Rattle.graph.proofs.Sound.{ready_built}
 use Rattle.graph.proofs.Telling.{in_use_told, length_told, told_user}
+use Rattle.graph.proofs.Unobserving.{mains_among}
 use Rattle.observers.proofs.Lists.{none_left}
-use Rattle.inc_terms.proofs.Plan.{among_right}
+use Rattle.inc_terms.proofs.Plan.{among_parts, among_right}
+use Rattle.stabilize_round.proofs.Points.{among_count}
 
 module _ (F : Functions) (G : Graph) (died : NodeId → Option NodeId) (xs ys : List NodeId) (same : (n : NodeId) → Among n xs → Among n ys) where
   root_as : (n : NodeId) → IsRoot G xs n → IsRoot G ys n
@@ -55,7 +58,7 @@ module _ (F : Functions) (G : Graph) (died : NodeId → Option NodeId) (old : Lo
   pub up_to_date_as : (after : Graph) (new : Look) (ran : List NodeId) → ((p : Point) → count p (map main xs) ≡ count p (map main ys))
       → IsUpToDateIn F G died after old new xs ran → IsUpToDateIn F G died after old new ys ran
   up_to_date_as after new ran counts u = record {
-    roots = λ p. u.roots p ∙ counts p;
+    roots = λ p. u.roots p ∙ ap (λ (k : ℕ). k + freeze_roots new.graph new.given p) (counts p);
     needs = λ p. (
       (λ n. needed_as F after none_died xs ys to p ((u.needs p).0 n)),
       (λ n. (u.needs p).1 (needed_as F after none_died ys xs back p n)),
@@ -70,6 +73,10 @@ module _ (F : Functions) (G : Graph) (died : NodeId → Option NodeId) (old : Lo
     kept = λ n r row not. elim (u.kept n r row not) [ inl e ↦ inl e | inr c ↦ inr (called_as new n c.0, c.1) ];
     costs = u.costs;
     cutoff = u.cutoff;
+    unmarked = λ n r row need. u.unmarked n r row (needed_as F G died ys xs back (main n) need);
+    renewed = λ n r kids values marked need. u.renewed n r kids values marked (needed_as F G died ys xs back (main n) need);
+    marks = u.marks;
+    froze = u.froze;
     once = u.once;
     called = λ n among. called_as new n (u.called n among);
     work = λ before observers stood all. u.work before observers stood (λ n among. all n (to n among));
@@ -120,8 +127,8 @@ on_ok (Err e) f a = a
 
 -- ---- a round over observers
 
-module _ (M : Meaning) (old new : Parts) (os : List Observer) (rooted : ℕ)
-    (can : CanStabilize M old os rooted) (within : rooted ≤ length os) where
+module _ (M : Meaning) (old new : Parts) (os : List Observer) (rooted since : ℕ)
+    (can : CanStabilize M old os rooted since) (within : rooted ≤ length os) where
   abbrev front : List NodeId
   front = in_use (take rooted os)
 
@@ -137,41 +144,47 @@ module _ (M : Meaning) (old new : Parts) (os : List Observer) (rooted : ℕ)
   counts_all : (p : Point) → count p (map main (rest ++ front)) ≡ count p (map main (in_use os))
   counts_all p = count_swapped p rest front ∙ ap (λ (ns : List NodeId). count p (map main ns)) (in_use_split os rooted)
 
-  -- the nodes of the rest were given
+  -- the nodes of the rest were given, and so were freezes that are new
   pub rest_given : (n : NodeId) → Among n rest → Given old.arena.given n
   rest_given n h = can.given n (subst (Among n) (in_use_split os rooted) (among_right n front rest h))
 
-  pub all_right : ((observed : List NodeId) → AreRooted old.work observed
-      → IsUpToDate M.functions old new (rest ++ observed))
-      → IsUpToDate M.functions old new (in_use os)
-  all_right right = up_to_date_as M.functions (left_by old new) (died_by old new) (look_between old) (rest ++ front) (in_use os) to_all from_all (graph_in new) (look_between new) new.ran.items counts_all
-      (right front can.roots)
+  fresh_given : (freezes : List NodeId) → AreNewFreezes old.arena old.work since freezes → (n : NodeId) → Among n freezes → Given old.arena.given n
+  fresh_given freezes fresh n h =
+      let f = fresh (main n) in
+      let c = among_count (main n) (map main freezes) (mains_among n freezes h) in
+      freeze_root_given (graph_in old) old.arena.given (main n) (omega (arith, f, c))
 
-  pub all_lawful : (e : Refused) → ((observed : List NodeId) → AreRooted old.work observed
-      → IsLawful M.functions old new (rest ++ observed) e)
-      → IsLawful M.functions old new (in_use os) e
-  all_lawful e lawful =
-      let l = lawful front can.roots in
+  module _ (roots : List NodeId) (begins : AreNewRoots old.arena old.work os rooted since roots) where
+    pub roots_given : (n : NodeId) → Among n roots → Given old.arena.given n
+    roots_given n h = elim (among_parts n rest begins.freezes (subst (Among n) begins.all h)) [
+      | inl k ↦ rest_given n k
+      | inr k ↦ fresh_given begins.freezes begins.fresh n k
+    ]
+
+    pub begins_at : BeginsAt old since roots rest begins.freezes front
+    begins_at = record { all = begins.all; fresh = begins.fresh; rooted = can.roots }
+
+  pub all_right : IsUpToDate M.functions old new (rest ++ front) → IsUpToDate M.functions old new (in_use os)
+  all_right right = up_to_date_as M.functions (left_by old new) (died_by old new) (look_between old) (rest ++ front) (in_use os) to_all from_all (graph_in new) (look_between new) new.ran.items counts_all
+      right
+
+  pub all_lawful : (e : Refused) → IsLawful M.functions old new (rest ++ front) e → IsLawful M.functions old new (in_use os) e
+  all_lawful e l =
       (lawful_as M.functions (left_by old new) (died_by old new) (look_between old) (rest ++ front) (in_use os) to_all from_all e l.0, l.1)
 
-  pub all_few : (before after : ℕ) → ((observed : List NodeId) → AreRooted old.work observed
-      → HasCalledMet M.functions old new (rest ++ observed) before after)
+  pub all_few : (before after : ℕ) → HasCalledMet M.functions old new (rest ++ front) before after
       → HasCalledMet M.functions old new (in_use os) before after
-  all_few before after few = few_as M.functions (left_by old new) (died_by old new) (look_between old) (rest ++ front) (in_use os) to_all from_all (look_refused new) before after (few front can.roots)
+  all_few before after few = few_as M.functions (left_by old new) (died_by old new) (look_between old) (rest ++ front) (in_use os) to_all from_all (look_refused new) before after few
 
-  pub all_built : ((observed : List NodeId) → AreRooted old.work observed → BuildsAll M.functions old new (rest ++ observed))
-      → BuildsAll M.functions old new (in_use os)
-  all_built built = builds_as M.functions (left_by old new) (died_by old new) (look_between old) (rest ++ front) (in_use os) to_all from_all None (built front can.roots)
+  pub all_built : BuildsAll M.functions old new (rest ++ front) → BuildsAll M.functions old new (in_use os)
+  all_built built = builds_as M.functions (left_by old new) (died_by old new) (look_between old) (rest ++ front) (in_use os) to_all from_all None built
 
-  pub all_built_but : (e : Refused) → ((observed : List NodeId) → AreRooted old.work observed
-      → BuildsAllBut M.functions old new (rest ++ observed) e)
-      → BuildsAllBut M.functions old new (in_use os) e
-  all_built_but e built =
-      let k = built front can.roots in (
-        k.0,
-        builds_as M.functions (left_by old new) (died_by old new) (look_between old) (rest ++ front) (in_use os) to_all from_all k.0 k.1,
-        k.2,
-      )
+  pub all_built_but : (e : Refused) → BuildsAllBut M.functions old new (rest ++ front) e → BuildsAllBut M.functions old new (in_use os) e
+  all_built_but e k = (
+    k.0,
+    builds_as M.functions (left_by old new) (died_by old new) (look_between old) (rest ++ front) (in_use os) to_all from_all k.0 k.1,
+    k.2,
+  )
 
   -- ---- the observers once they were told of it
 
@@ -182,10 +195,10 @@ module _ (M : Meaning) (old new : Parts) (os : List Observer) (rooted : ℕ)
   showing_again o among used = ap is_some (told_user (shows_of new) os o (front_in told (length told) o among) used).shown
 
   can_again : (M' : Meaning) → old.arena.given ≤ new.arena.given → IsReady M' new → IsUpToDate M.functions old new (in_use os)
-      → CanStabilize M' new told (length told)
+      → CanStabilize M' new told (length told) new.arena.given
   can_again M' later ready right = record {
     ready = ready;
-    roots = subst (AreRooted new.work) (sym (ap in_use (take-length told) ∙ in_use_told (shows_of new) os)) right.roots;
+    roots = subst (AreRooted new.arena new.work new.arena.given) (sym (ap in_use (take-length told) ∙ in_use_told (shows_of new) os)) right.roots;
     given = λ n among. let g = can.given n (subst (Among n) (in_use_told (shows_of new) os) among) in omega (arith, g, later);
     shown = λ o x among used shown.
         let t = told_user (shows_of new) os o among used in
@@ -195,10 +208,11 @@ module _ (M : Meaning) (old new : Parts) (os : List Observer) (rooted : ℕ)
   }
 
   pub sound_again : (M' : Meaning) (refused : Option Refused) → length os ≤ 2 ^ 32 - 1 → old.arena.given ≤ new.arena.given → IsReady M' new
-      → IsUpToDate M.functions old new (in_use os) → FitsInside M' new told (length told) refused
+      → IsUpToDate M.functions old new (in_use os) → FitsInside M' new told (length told) new.arena.given refused
   sound_again M' refused few later ready right = record {
     few = let l = length_told (shows_of new) os in omega (arith, l, few);
     earlier = omega arith;
+    past = omega arith;
     kept = ready.kept;
     built = ready_built M' new ready;
     inside = ready.inside;

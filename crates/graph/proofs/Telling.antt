@@ -1,11 +1,10 @@
 -- Observers once they were told of a round.
 use Rattle.std.proofs.Common.{◌≡◌, inl, inr, ℕ, zero, suc, Bool, true, false, cond, List, [], ◌∷◌, length, None, Some, refl, sym, ap, ◌∙◌}
 use Rattle.std.specs.Prelude.{slice_get}
-use Rattle.std.proofs.lemmas.Option.{none-some}
 use Rattle.inc_value.specs.declared.node.NodeId.{NodeId}
 use Rattle.inc_value.specs.declared.outcome.Outcome.{Outcome}
 use Rattle.inc_value.specs.Choice.{Among}
-use Rattle.observers.specs.Observers.{after, in_use, looked_at, shown_in, told_by, watch_after}
+use Rattle.observers.specs.Observers.{after, in_use, looked_at, told_by, watch_after}
 use Rattle.observers.specs.declared.observer.Observer.{Observer}
 
 -- an observer in use as it shows this
@@ -25,17 +24,6 @@ after_used now o = used_by o.in_use (shows_as now o) o refl
 
 pub after_node : (now : Outcome) (o : Observer) → (after now o).node ≡ o.node
 after_node now o = node_by o.in_use (shows_as now o) o refl
-
-by_true : (b : Bool) (x y : Observer) → b ≡ true → cond b x y ≡ x
-by_true true x y e = refl
-by_true false x y e = absurd (cc)
-
-pub after_is : (now : Outcome) (o : Observer) → o.in_use ≡ true → after now o ≡ shows_as now o
-after_is now o used = by_true o.in_use (shows_as now o) o used
-
-used_of : (b : Bool) (m n : NodeId) → cond b (Some m) None ≡ Some n → (b ≡ true) × (m ≡ n)
-used_of true m n e = (refl, (let s = e in cc))
-used_of false m n e = absurd (none-some n e)
 
 module _ (shows : NodeId → Outcome) where
   -- the same are in use
@@ -82,13 +70,3 @@ module _ (shows : NodeId → Outcome) where
   told_user (p ∷ os) o (inl e) used = first_told p os o p.in_use refl e used
   told_user (p ∷ os) o (inr h) used =
       let t = told_user os o h used in record { one = t.one; among = inr t.among; used = t.used; node = t.node; shown = t.shown }
-
-  -- so by its number
-  pub shown_told : (os : List Observer) (i : ℕ) (n : NodeId) → looked_at (slice_get os i) ≡ Some n
-      → shown_in (slice_get (told_by shows os) i) ≡ Some (shows n)
-  shown_told [] i n e = absurd (none-some n e)
-  shown_told (p ∷ os) zero n e =
-      let u = used_of p.in_use p.node n e in
-      ap (λ (q : Observer). shown_in (Some q)) (after_is (shows p.node) p u.0)
-      ∙ (ap (λ (b : Bool). cond b (Some (shows p.node)) None) u.0 ∙ ap (λ (m : NodeId). Some (shows m)) u.1)
-  shown_told (p ∷ os) (suc i) n e = shown_told os i n e

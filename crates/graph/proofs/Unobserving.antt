@@ -32,14 +32,15 @@ use Rattle.graph.proofs.Observing.{IsLeftOut, left_out, left_is_among, front_set
 use Rattle.graph.proofs.Observing.{set_among, set_front, set_back, watched_among, watched_front, watched_back, in_use_watched}
 use Rattle.inc_terms.proofs.Plan.{among_parts}
 
-module _ (M : Meaning) (parts : Parts) (observers : List Observer) (rooted : ℕ)
-    (refused : Option Refused) (sound : FitsInside M parts observers rooted refused) (node : NodeId) where
+module _ (M : Meaning) (parts : Parts) (observers : List Observer) (rooted since : ℕ)
+    (refused : Option Refused) (sound : FitsInside M parts observers rooted since refused) (node : NodeId) where
   -- an observer more
   pub sound_observed : (length observers < 2 ^ 32 - 1) → Given parts.arena.given node
-      → FitsInside M parts (observers ++ new_observer node ∷ []) rooted refused
+      → FitsInside M parts (observers ++ new_observer node ∷ []) rooted since refused
   sound_observed few given = record {
     few = let l = length-append observers (new_observer node ∷ []) in omega (arith, l, few);
     earlier = let l = length-append observers (new_observer node ∷ []) in omega (arith, l, sound.earlier);
+    past = sound.past;
     kept = sound.kept;
     built = sound.built;
     inside = sound.inside;
@@ -53,7 +54,7 @@ module _ (M : Meaning) (parts : Parts) (observers : List Observer) (rooted : ℕ
         let front : take rooted (observers ++ new_observer node ∷ []) ≡ take rooted observers = take-append-le rooted observers (new_observer node ∷ []) sound.earlier in
         record {
           ready = can.ready;
-          roots = subst (λ (os : List Observer). AreRooted parts.work (in_use os)) (sym front) can.roots;
+          roots = subst (λ (os : List Observer). AreRooted parts.arena parts.work since (in_use os)) (sym front) can.roots;
           given = λ n among. elim (among_parts n (in_use observers) (node ∷ []) (subst (Among n) (in_use_append observers (new_observer node ∷ [])) among)) [
             | inl k ↦ can.given n k
             | inr k ↦ elim k [ inl e ↦ subst (Given parts.arena.given) (sym e) given | inr none ↦ absurd none ]
@@ -66,13 +67,14 @@ module _ (M : Meaning) (parts : Parts) (observers : List Observer) (rooted : ℕ
         };
   }
 
-module _ (M : Meaning) (parts : Parts) (observers : List Observer) (rooted : ℕ)
-    (refused : Option Refused) (sound : FitsInside M parts observers rooted refused) where
+module _ (M : Meaning) (parts : Parts) (observers : List Observer) (rooted since : ℕ)
+    (refused : Option Refused) (sound : FitsInside M parts observers rooted since refused) where
   -- an observer is watched
-  pub sound_watched : (place : ℕ) → FitsInside M parts (watched place observers) rooted refused
+  pub sound_watched : (place : ℕ) → FitsInside M parts (watched place observers) rooted since refused
   sound_watched place = record {
     few = let l = watched_length observers place in omega (arith, l, sound.few);
     earlier = let l = watched_length observers place in omega (arith, l, sound.earlier);
+    past = sound.past;
     kept = sound.kept;
     built = sound.built;
     inside = sound.inside;
@@ -82,7 +84,7 @@ module _ (M : Meaning) (parts : Parts) (observers : List Observer) (rooted : ℕ
     later = λ o among. let w = watched_back observers place rooted o among in w.shown ∙ sound.later w.one w.among;
     unbroken = λ whole. let can = sound.unbroken whole in record {
       ready = can.ready;
-      roots = subst (AreRooted parts.work)
+      roots = subst (AreRooted parts.arena parts.work since)
           (sym (ap in_use (watched_front observers place rooted) ∙ in_use_watched (take rooted observers) place)) can.roots;
       given = λ n among. can.given n (subst (Among n) (in_use_watched observers place) among);
       shown = λ o x among used shown.
@@ -110,21 +112,23 @@ mains_among n (m ∷ ns) (inl e) = inl (ap main e)
 mains_among n (m ∷ ns) (inr h) = inr (mains_among n ns h)
 
 -- a root of an observer that was there at the last round
-pub is_root : (parts : Parts) (observers : List Observer) (rooted : ℕ) (node : NodeId) → AreRooted parts.work (in_use (take rooted observers))
+pub is_root : (parts : Parts) (observers : List Observer) (rooted since : ℕ) (node : NodeId)
+    → AreRooted parts.arena parts.work since (in_use (take rooted observers))
     → Among node (in_use (take rooted observers)) → 0 < root_times parts.work.graph.roots (main node)
-is_root parts observers rooted node roots among =
+is_root parts observers rooted since node roots among =
     let r = roots (main node) in
     let c = among_count (main node) (map main (in_use (take rooted observers))) (mains_among node (in_use (take rooted observers)) among) in
     omega (arith, r, c)
 
-module _ (M : Meaning) (old new : Parts) (observers : List Observer) (rooted place : ℕ)
-    (refused : Option Refused) (sound : FitsInside M old observers rooted refused) (node : NodeId)
+module _ (M : Meaning) (old new : Parts) (observers : List Observer) (rooted place since : ℕ)
+    (refused : Option Refused) (sound : FitsInside M old observers rooted since refused) (node : NodeId)
     (is : looked_at (slice_get observers place) ≡ Some node) where
   -- an observer fewer that wasn't there at the last round
-  pub sound_unmade : rooted ≤ place → FitsInside M old (slice_set observers place (ended node)) rooted refused
+  pub sound_unmade : rooted ≤ place → FitsInside M old (slice_set observers place (ended node)) rooted since refused
   sound_unmade later = record {
     few = let l = set_length observers place (ended node) in omega (arith, l, sound.few);
     earlier = let l = set_length observers place (ended node) in omega (arith, l, sound.earlier);
+    past = sound.past;
     kept = sound.kept;
     built = sound.built;
     inside = sound.inside;
@@ -140,7 +144,7 @@ module _ (M : Meaning) (old new : Parts) (observers : List Observer) (rooted pla
         let front : take rooted (slice_set observers place (ended node)) ≡ take rooted observers = front_stays observers rooted place (ended node) later in
         record {
           ready = can.ready;
-          roots = subst (λ (os : List Observer). AreRooted old.work (in_use os)) (sym front) can.roots;
+          roots = subst (λ (os : List Observer). AreRooted old.arena old.work since (in_use os)) (sym front) can.roots;
           given = λ n among. can.given n (left_is_among node n (in_use observers) (in_use (slice_set observers place (ended node)))
               (left_out observers place node is) among);
           shown = λ o x among used shown. elim (set_among observers place (ended node) o among) [
@@ -152,12 +156,14 @@ module _ (M : Meaning) (old new : Parts) (observers : List Observer) (rooted pla
 
   -- one fewer that was, whose root came off
   pub sound_ended : refused ≡ None → place < rooted → (IsReady M old → IsReady M new)
-      → ((before after : List NodeId) → AreRooted old.work (before ++ node ∷ after) → AreRooted new.work (before ++ after))
+      → ((count : ℕ) (before after : List NodeId) → AreRooted old.arena old.work count (before ++ node ∷ after)
+      → AreRooted new.arena new.work count (before ++ after))
       → new.arena ≡ old.arena → new.work.rows ≡ old.work.rows
-      → FitsInside M new (slice_set observers place (ended node)) rooted refused
+      → FitsInside M new (slice_set observers place (ended node)) rooted since refused
   sound_ended still below ready roots arena rows = record {
     few = let l = set_length observers place (ended node) in omega (arith, l, sound.few);
     earlier = let l = set_length observers place (ended node) in omega (arith, l, sound.earlier);
+    past = subst (λ (a : Arena). since ≤ a.given) (sym arena) sound.past;
     kept = (ready (sound.unbroken still).ready).kept;
     built = ready_built M new (ready (sound.unbroken still).ready);
     inside = (ready (sound.unbroken still).ready).inside;
@@ -173,7 +179,8 @@ module _ (M : Meaning) (old new : Parts) (observers : List Observer) (rooted pla
         let out = front_out observers rooted place node below is in
         record {
           ready = ready can.ready;
-          roots = subst (AreRooted new.work) (sym out.now) (roots out.front out.back (subst (AreRooted old.work) out.was can.roots));
+          roots = subst (AreRooted new.arena new.work since) (sym out.now)
+              (roots since out.front out.back (subst (AreRooted old.arena old.work since) out.was can.roots));
           given = λ n among. subst (λ (a : Arena). Given a.given n) (sym arena)
               (can.given n (left_is_among node n (in_use observers) (in_use (slice_set observers place (ended node)))
               (left_out observers place node is) among));
@@ -191,21 +198,21 @@ at_or_past n zero = inr (omega arith)
 at_or_past zero (suc count) = inl (omega arith)
 at_or_past (suc n) (suc count) = elim (at_or_past n count) [ inl h ↦ inl (omega (arith, h)) | inr h ↦ inr (omega (arith, h)) ]
 
-module _ (M : Meaning) (parts : Parts) (rooted : ℕ) (refused : Option Refused) (old new : ObserversView)
-    (sound : FitsInside M parts old.made rooted refused) where
+module _ (M : Meaning) (parts : Parts) (rooted since : ℕ) (refused : Option Refused) (old new : ObserversView)
+    (sound : FitsInside M parts old.made rooted since refused) where
   pub observe_answer : (node : NodeId) → Given parts.arena.given node → (r : Result ObsId ObserveFault)
       → OnOk r (new.made ≡ old.made ++ new_observer node ∷ []) → IsErrOf r observe.TooMany ↔ (2 ^ 32 - 1 ≤ length old.made) → OnErr r (new ≡ old)
-      → FitsInside M parts new.made rooted refused
-  observe_answer node given (Ok o) made many err = subst (λ (os : List Observer). FitsInside M parts os rooted refused) (sym made)
-      (sound_observed M parts old.made rooted refused sound node
+      → FitsInside M parts new.made rooted since refused
+  observe_answer node given (Ok o) made many err = subst (λ (os : List Observer). FitsInside M parts os rooted since refused) (sym made)
+      (sound_observed M parts old.made rooted since refused sound node
       (elim (at_or_past (length old.made) (2 ^ 32 - 1)) [ inl few ↦ few | inr past ↦ absurd (let e = many.1 past in cc) ]) given)
-  observe_answer node given (Err e) made many err = subst (λ (v : ObserversView). FitsInside M parts v.made rooted refused) (sym err) sound
+  observe_answer node given (Err e) made many err = subst (λ (v : ObserversView). FitsInside M parts v.made rooted since refused) (sym err) sound
 
   pub watch_answer : (place : ℕ) → (r : Result (Unit {0}) UseFault) → OnOk r (new.made ≡ watched place old.made) → OnErr r (new ≡ old)
-      → FitsInside M parts new.made rooted refused
-  watch_answer place (Ok u) made err = subst (λ (os : List Observer). FitsInside M parts os rooted refused) (sym made)
-      (sound_watched M parts old.made rooted refused sound place)
-  watch_answer place (Err e) made err = subst (λ (v : ObserversView). FitsInside M parts v.made rooted refused) (sym err) sound
+      → FitsInside M parts new.made rooted since refused
+  watch_answer place (Ok u) made err = subst (λ (os : List Observer). FitsInside M parts os rooted since refused) (sym made)
+      (sound_watched M parts old.made rooted since refused sound place)
+  watch_answer place (Err e) made err = subst (λ (v : ObserversView). FitsInside M parts v.made rooted since refused) (sym err) sound
 
 -- a root fewer
 pub roots_fewer : (old new : Roots) (p : Point) → OneRootMore new old p → (a : Point) → root_times new a ≤ root_times old a

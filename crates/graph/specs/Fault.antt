@@ -2,6 +2,10 @@
 use Rattle.std.specs.Prelude.{Result, Err}
 use Rattle.clock_nodes.specs.declared.clock.AdvanceFault.{AdvanceFault}
 use Rattle.clock_nodes.specs.declared.clock.AdvanceFault.TheVariants as advance
+use Rattle.expert_nodes.specs.declared.expert.LinkFault.{LinkFault}
+use Rattle.expert_nodes.specs.declared.expert.LinkFault.TheVariants as link
+use Rattle.expert_nodes.specs.declared.expert.UnlinkFault.{UnlinkFault}
+use Rattle.expert_nodes.specs.declared.expert.UnlinkFault.TheVariants as unlink
 use Rattle.graph.specs.declared.fault.Kept.{Kept}
 use Rattle.graph.specs.declared.fault.Kept.TheVariants as kept
 use Rattle.graph.specs.declared.fault.GraphFault.{GraphFault}
@@ -50,3 +54,11 @@ abbrev pub of_set : SetFault → GraphFault
 of_set set.Unknown = fault.Unknown
 of_set set.NotVar = fault.NotVar
 of_set set.WrongType = fault.WrongType
+
+-- why a node isn't put behind an expert's list, or taken off it
+abbrev pub of_link : LinkFault → GraphFault
+of_link link.LinksFull = fault.LinksFull
+of_link link.Memory = fault.Memory
+
+abbrev pub of_unlink : UnlinkFault → GraphFault
+of_unlink unlink.NotLinked = fault.NotLinked

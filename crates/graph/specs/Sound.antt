@@ -15,7 +15,8 @@ use Rattle.node_outcomes.specs.Meaning.{Meaning}
 use Rattle.observers.specs.Observers.{in_use}
 use Rattle.observers.specs.declared.observer.Observer.{Observer}
 use Rattle.stabilize_round.specs.Invariant.{Rooted, ScopesRooted}
-use Rattle.graph.specs.Standing.{GraphView, graph, shown_of, rooted_nodes, AreRooted, IsUnbroken}
+use Rattle.wiring.specs.Kept.{IsTop}
+use Rattle.graph.specs.Standing.{GraphView, graph, listed_by, shown_of, rooted_nodes, AreRooted, IsUnbroken}
 
 -- the root of a bind was given, and is of the type that the bind's function gives, or dead
 abbrev pub RootsFit : Arena → Graph → Type 0
@@ -35,11 +36,15 @@ module _ {F : Type 0} where
 
   -- what every graph keeps, also one that is broken: a node in a scope stands in that of a live bind that is built, and has a root; and each bind that is
   -- built for a value has a root that reads back as its function's term at it and is of the type that this gives, or dead; one that is built for Invalid
-  -- has none; observers in use that were there when a stabilize was accepted last show something, and later ones nothing
+  -- has none; experts list given nodes; freezes and experts stand in no scope; observers in use that were there when a stabilize was accepted last show
+  -- something, and later ones nothing
   pub record IsSoundGraph (M : Meaning) (s : GraphView F) : Type 0 where
     pub few : length s.observers ≤ 2 ^ 32 - 1
     pub earlier : s.rooted ≤ length s.observers
+    pub past : s.since ≤ s.nodes.given
+    pub listed : (n m : NodeId) → Among m (listed_by s n) → Given s.nodes.given m
     pub nodes : arena.IsSoundArena s.nodes
+    pub tops : (n : NodeId) (r : Row) → row_at s.nodes n ≡ Some r → IsTop r.def → r.scope ≡ None
     pub scopes : Scoped (graph s)
     pub built : Rooted M.functions (graph s)
     pub inside : ScopesRooted (graph s)

@@ -1,10 +1,10 @@
 -- What a stabilize does.
-use Rattle.std.specs.Prelude.{◌≡◌, ◌⊎◌, ℕ, length, Option, None, Some, Result, Ok, Err}
+use Rattle.std.specs.Prelude.{◌≡◌, ◌⊎◌, ℕ, false, length, Option, None, Some, Result, Ok, Err}
 use Rattle.inc_value.specs.Counts.{raised}
 use Rattle.inc_value.specs.declared.node.NodeId.{NodeId}
 use Rattle.inc_value.specs.declared.node.ObsId.{ObsId}
 use Rattle.inc_value.specs.declared.outcome.Outcome.{Outcome}
-use Rattle.inc_terms.specs.Depend.{died_in}
+use Rattle.inc_terms.specs.Depend.{died_in, main}
 use Rattle.inc_terms.specs.Evaluate.{NodeGives}
 use Rattle.inc_terms.specs.Graph.{Graph, Row}
 use Rattle.inc_terms.specs.Need.{left_by_call}
@@ -18,7 +18,7 @@ use Rattle.stabilizer.specs.Round.{IsFullBy}
 use Rattle.wiring.specs.Stands.{Counts}
 use Rattle.wiring.specs.declared.refused.Refused.{Refused}
 use Rattle.graph.specs.Fault.{kept_of}
-use Rattle.graph.specs.Standing.{GraphView, look, graph, shown_of, shows_now, cutoff_of, IsUnbroken}
+use Rattle.graph.specs.Standing.{GraphView, frozen_at, is_marked, look, graph, shown_of, shows_now, cutoff_of, IsUnbroken}
 use Rattle.graph.specs.declared.fault.Kept.{Kept}
 use Rattle.graph.specs.declared.fault.Kept.TheVariants as kept
 use Rattle.graph.specs.declared.fault.StabilizeFault.{StabilizeFault}
@@ -42,8 +42,8 @@ module _ {F : Type 0} where
 
   module _ (M : Functions) (G : Graph) (died : NodeId → Option NodeId) where
     -- an accepted stabilize: each observer in use shows what its node gives, evaluated from scratch, and of those that are watched it is told, in the order
-    -- in which they were made; of nodes what a round leaves stays; each bind could be built that was due; and what is needed, linked, shown and called is
-    -- right
+    -- in which they were made; of nodes what a round leaves stays; each bind could be built that was due; and what is needed, linked, shown, called, kept by
+    -- freezes and stale is right. Need begins from now on at all freezes that keep no value
     pub record StabilizesIn (after : Graph) (old new : GraphView F) : Type 0 where
       pub was : IsUnbroken old
       pub unbroken : IsUnbroken new
@@ -52,18 +52,22 @@ module _ {F : Type 0} where
       pub observers : new.observers ≡ told_by (shows_now new) old.observers
       pub notices : new.notices ≡ notices_of (shows_now new) 0 old.observers
       pub rooted : new.rooted ≡ length new.observers
+      pub since : new.since ≡ new.nodes.given
       pub shows : (o : ObsId) (n : NodeId) → node_at new.observers o ≡ Some n → (x : Outcome) × (shown_of new n ≡ Some x) × NodeGives M G n x
       pub right : IsUpToDateIn M G died after (look old) (look new) (in_use old.observers) new.ran
 
     -- a refused stabilize: the graph is broken, with what was met, which is so in the graph, and was tried on what was confirmed; where it met that the
-    -- nodes are full, a build in it found no room for a further node. Observers stay, also what they show and what was told of them last, and cutoffs of nodes
-    -- that live, and of nodes what a round leaves; what is shown of a node that was given before is what was before, or what it gives. One bind couldn't be
-    -- built, for want of room or of memory, or none
+    -- nodes are full, a build in it found no room for a further node. Freezes keep what they kept, and none a value more; what wasn't settled is stale if it
+    -- was. Observers stay, also what they show and what was told of them last, and cutoffs of nodes that live, and of nodes what a round leaves; what is shown
+    -- of a node that was given before is what was before, or what it gives. One bind couldn't be built, for want of room or of memory, or none
     pub record IsRefusedIn (old new : GraphView F) (cause : Kept) : Type 0 where
       pub was : IsUnbroken old
       pub stays : GraphStays old.nodes.given new.nodes.given (graph old) (left_by old new)
       pub observers : new.observers ≡ old.observers
       pub rooted : new.rooted ≡ old.rooted
+      pub since : new.since ≡ old.since
+      pub frozen : (n : NodeId) → frozen_at new n ≡ frozen_at old n
+      pub marks : (n : NodeId) → (look new).settled (main n) ≡ false → is_marked new n ≡ is_marked old n
       pub notices : new.notices ≡ old.notices
       pub ran : new.ran ≡ old.ran
       pub cutoff : (n : NodeId) (r : Row) → G.row n ≡ Some r → cutoff_of new n ≡ cutoff_of old n
@@ -87,10 +91,10 @@ module _ {F : Type 0} where
     abbrev pub IsRefusedFor : Kept → Type 0
     IsRefusedFor cause = IsRefusedIn M (left_by old new) (died_by old new) old new cause
 
-    -- a refused one made at most the calls that it takes to compute each of some live maps and folds once, all of which were due
+    -- a refused one made at most the calls that it takes to compute each of some live nodes once, all of which were due
     abbrev pub HasCalledMet : ℕ → ℕ → Type 0
     HasCalledMet before after = HasCalledMetIn M (left_by old new) (died_by old new) (look old) (look new) (in_use old.observers) before after
 
     -- of nodes it left, accepted or refused, what a round leaves
     abbrev pub LeavesNodes : Counts → Counts → Type 0
-    LeavesNodes before after = left.LeavesNodes M old.nodes.given new.nodes.given (graph old) (graph new) before after
+    LeavesNodes before after = left.LeavesNodes M old.nodes.given new.nodes.given (graph old) (left_by old new) before after

@@ -1,8 +1,9 @@
 -- What a contract sees of a graph.
-use Rattle.std.specs.Prelude.{◌≡◌, ◌⊎◌, ◌-◌, ℕ, List, take, Option, None, Some}
+use Rattle.std.specs.Prelude.{◌≡◌, ◌⊎◌, ◌-◌, ℕ, Bool, List, take, Option, None, Some}
 use Rattle.inc_value.specs.declared.node.NodeId.{NodeId}
 use Rattle.inc_value.specs.declared.node.Point.{Point}
 use Rattle.inc_value.specs.declared.outcome.Outcome.{Outcome}
+use Rattle.inc_value.specs.declared.value.Value.{Value}
 use Rattle.inc_value.specs.Choice.{and_then}
 use Rattle.inc_terms.specs.Graph.{Graph, Row, Built}
 use Rattle.inc_terms.specs.Rebuild.{Inside}
@@ -29,6 +30,8 @@ pub record GraphView (F : Type 0) : Type 0 where
   -- its observers, in the order in which they were made, and how many of them there were when a stabilize was accepted last
   pub observers : List Observer
   pub rooted : ℕ
+  -- how many ids had been given then
+  pub since : ℕ
   -- what the stabilize that was accepted last told of watched observers
   pub notices : List Notice
   -- whose functions were called by the stabilize that was accepted last, each once
@@ -60,6 +63,7 @@ without_functions s = record {
   nodes = s.nodes;
   observers = s.observers;
   rooted = s.rooted;
+  since = s.since;
   notices = s.notices;
   ran = s.ran;
   refused = s.refused;
@@ -98,6 +102,18 @@ module _ {F : Type 0} where
   abbrev pub cutoff_of : GraphView F → NodeId → Cutoff
   cutoff_of s n = (look s).cutoff n
 
+  -- the value that a freeze keeps, if it keeps one
+  abbrev pub frozen_at : GraphView F → NodeId → Option Value
+  frozen_at s n = (look s).graph.frozen n
+
+  -- the nodes that an expert lists, in order
+  abbrev pub listed_by : GraphView F → NodeId → List NodeId
+  listed_by s n = (look s).graph.lists n
+
+  -- whether a node was made stale and not computed since
+  abbrev pub is_marked : GraphView F → NodeId → Bool
+  is_marked s n = (look s).marked n
+
   -- how often a point is linked to another
   abbrev pub times_linked : GraphView F → Point → Point → ℕ
   times_linked s p q = (look s).linked p q
@@ -116,7 +132,7 @@ module _ {F : Type 0} where
   abbrev pub IsBroken : GraphView F → Kept → Type 0
   IsBroken s cause = (r : Refused) × (s.refused ≡ Some r) × (kept_of r ≡ cause)
 
-  -- the nodes as a graph, with what binds are built for. Its evaluation from scratch says what is shown
+  -- the nodes as a graph, with what binds are built for, freezes keep and experts list. Its evaluation from scratch says what is shown
   abbrev pub graph : GraphView F → Graph
   graph s = (look s).graph
 
@@ -128,6 +144,7 @@ module _ {F : Type 0} where
   abbrev pub IsNeeded : GraphView F → Point → Type 0
   IsNeeded s p = seen.IsNeeded (look s) p
 
-  -- need begins at the mains of these nodes, as often at each as it is listed
+  -- need begins at the mains of these nodes, as often at each as it is listed, and at those of freezes that keep no value and were there when a stabilize
+  -- was accepted last
   abbrev pub AreRooted : GraphView F → List NodeId → Type 0
-  AreRooted s nodes = seen.AreRooted (look s) nodes
+  AreRooted s nodes = seen.AreRooted (look s) s.since nodes

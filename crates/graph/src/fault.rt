@@ -1,10 +1,10 @@
 //! Why a call of a graph is refused.
 ghost use Rattle.std.specs.Prelude.{◌≡◌, ◌↔◌};
-ghost use Rattle.graph.specs.Fault.{kept_of, of_add, of_advance, of_set, of_unordered, of_untimed};
+ghost use Rattle.graph.specs.Fault.{kept_of, of_add, of_advance, of_link, of_set, of_unlink, of_unordered, of_untimed};
 
 use inc_value::Ty;
 use node_arena::{AddFault, MoreFault, SetFault};
-use stabilizer::{AdvanceFault, Refused};
+use stabilizer::{AdvanceFault, LinkFault, Refused, UnlinkFault};
 use std::alloc::AllocError;
 use thiserror::Error;
 
@@ -33,6 +33,9 @@ pub enum GraphFault {
     /// The node isn't a live variable.
     #[error("the node isn't a live variable")]
     NotVar,
+    /// The node isn't a live expert.
+    #[error("the node isn't a live expert")]
+    NotExpert,
     /// The types don't fit.
     #[error("the types don't fit")]
     WrongType,
@@ -51,6 +54,12 @@ pub enum GraphFault {
     /// No stabilize was accepted since the observer was made.
     #[error("no stabilize was accepted since the observer was made")]
     NotStabilized,
+    /// The node isn't in the expert's list.
+    #[error("the node isn't in the expert's list")]
+    NotLinked,
+    /// The expert's list has 4,096 nodes.
+    #[error("the expert's list has 4096 nodes")]
+    LinksFull,
     /// There are 4,294,967,295 observers, or as many functions are kept as can be.
     #[error("no further observer can be made, or no further function kept")]
     TooMany,
@@ -125,6 +134,25 @@ pub(crate) fn advance_fault(fault: AdvanceFault) -> GraphFault
     match fault {
         AdvanceFault::Back => GraphFault::Back,
         AdvanceFault::Memory => GraphFault::Memory,
+    }
+}
+
+/// Why a node isn't put behind an expert's list.
+pub(crate) fn link_fault(fault: LinkFault) -> GraphFault
+    ensures { result ≡ of_link fault }
+{
+    match fault {
+        LinkFault::LinksFull => GraphFault::LinksFull,
+        LinkFault::Memory => GraphFault::Memory,
+    }
+}
+
+/// Why a node isn't taken off an expert's list.
+pub(crate) fn unlink_fault(fault: UnlinkFault) -> GraphFault
+    ensures { result ≡ of_unlink fault }
+{
+    match fault {
+        UnlinkFault::NotLinked => GraphFault::NotLinked,
     }
 }
 

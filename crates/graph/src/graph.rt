@@ -1,5 +1,5 @@
 //! Graphs.
-ghost use Rattle.std.specs.Prelude.{◌≡◌, pos, [], None, Some, IfErr, IfSome, IfNone, OnOk, option_copied};
+ghost use Rattle.std.specs.Prelude.{◌≡◌, pos, false, [], None, Some, IfErr, IfSome, IfNone, OnOk, option_copied};
 ghost use Rattle.inc_value.specs.declared.node.NodeId.{NodeId};
 ghost use Rattle.node_arena.specs.Arena.{row_at, live, IsLive};
 ghost use Rattle.inc_value.specs.declared.node.Point.{Point};
@@ -8,12 +8,13 @@ ghost use Rattle.node_outcomes.specs.Meaning.{meaning_of};
 ghost use Rattle.graph.specs.Few.{AreFew, ScopesAreFew};
 ghost use Rattle.graph.specs.Sound.{IsSoundGraph};
 ghost use Rattle.graph.specs.Standing.{IsUnbroken, IsBroken, IsOwner, graph};
-ghost use Rattle.graph.specs.Standing.{called_last, cutoff_of, times_linked, times_rooted};
+ghost use Rattle.graph.specs.Standing.{called_last, cutoff_of, is_marked, times_linked, times_rooted};
 ghost use Rattle.graph.specs.declared.fault.Kept.{Kept as ACause};
 
 mod bind;
 mod build;
 mod edit;
+mod expert;
 mod observe;
 mod stabilize;
 mod timed;
@@ -29,8 +30,8 @@ use std::alloc::Global;
 use std::marker::Model;
 pub use undo::Mark;
 
-/// A graph of constants, variables, maps, folds, ifs, joins and binds over the functions of `F`. What is observed is brought
-/// up to date by `stabilize` and shows until the next one.
+/// A graph of constants, variables, maps, folds, ifs, joins, binds, freezes, experts and nodes that read the clock over the
+/// functions of `F`. What is observed is brought up to date by `stabilize` and shows until the next one.
 ///
 /// A graph whose functions are kept in boxes is made and used by functions that are generic in `F`: its invariant speaks
 /// of `F`, and of a keeper of boxes such a type can't be named. An example is `held` of closure_examples.
@@ -41,6 +42,9 @@ pub struct Graph<F: Functions> {
     observers: Observers,
     /// How many observers had been made when the last stabilize was accepted. Their nodes are roots, where they are in use.
     rooted: usize,
+    /// How many ids had been given when the last stabilize was accepted. Need begins at freezes that were given before, while
+    /// they keep no value.
+    since: u64,
     refused: Option<Refused>,
 }
 
@@ -53,6 +57,7 @@ impl<F: Functions> Drop for Graph<F> {
             parts,
             observers,
             rooted: _,
+            since: _,
             refused,
         } = self;
         drop(functions);
@@ -72,6 +77,7 @@ impl<F: Functions> Model for Graph<F> {
       nodes = g.parts.arena;
       observers = g.observers.made;
       rooted = g.rooted;
+      since = g.since;
       notices = g.observers.notices;
       ran = g.parts.ran.items;
       refused = g.refused;
@@ -82,7 +88,7 @@ impl<F: Functions> Model for Graph<F> {
     ghost use Rattle.stabilizer.specs.Weights.{SidesFit};
     ghost use Rattle.node_outcomes.specs.Meaning.{meaning_of};
 
-    ghost invariant = { λ g. FitsInside (meaning_of F.Functions g.functions) g.parts g.observers.made g.rooted g.refused
+    ghost invariant = { λ g. FitsInside (meaning_of F.Functions g.functions) g.parts g.observers.made g.rooted g.since g.refused
         × F.is_sound g.functions
         × SidesFit (F.known g.functions) (F.right g.functions) g.parts.arena };
 }
@@ -99,6 +105,8 @@ impl<F: Functions> Graph<F> {
         ensures cutoff { (n : NodeId) → cutoff_of result n ≡ Equal }
         ensures observers { result.observers ≡ [] }
         ensures rooted { result.rooted ≡ 0 }
+        ensures since { result.since ≡ 0 }
+        ensures marks { (n : NodeId) → is_marked result n ≡ false }
         ensures notices { result.notices ≡ [] }
         ensures roots { (p : Point) → times_rooted result p ≡ 0 }
         ensures links { (p q : Point) → times_linked result p q ≡ 0 }
@@ -112,6 +120,7 @@ impl<F: Functions> Graph<F> {
             parts: Parts::new(alloc),
             observers: Observers::new(alloc),
             rooted: 0,
+            since: 0,
             refused: None,
         }
     }
@@ -135,6 +144,7 @@ impl<F: Functions> Graph<F> {
             parts,
             observers,
             rooted: _,
+            since: _,
             refused,
         } = self;
         drop(parts);

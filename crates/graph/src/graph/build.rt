@@ -1,10 +1,10 @@
 //! Nodes that are made.
-ghost use Rattle.std.specs.Prelude.{◌≡◌, ◌↔◌, IfOk, IfErr, IsTrue};
+ghost use Rattle.std.specs.Prelude.{◌≡◌, ◌↔◌, [], IfOk, IfErr, IsTrue};
 ghost use Rattle.inc_value.specs.Value.{type_of};
 ghost use Rattle.inc_terms.specs.Clock.{IsTimed};
 ghost use Rattle.inc_terms.specs.Code.{def_of};
-ghost use Rattle.inc_terms.specs.Graph.{Const, Var, Map, Fold, If, Join};
-ghost use Rattle.graph.specs.Effects.{CallsKnown, RefusesList, AnswersAdd, AnswersListed};
+ghost use Rattle.inc_terms.specs.Graph.{Const, Var, Map, Fold, If, Join, Freeze, Expert};
+ghost use Rattle.graph.specs.Effects.{CallsKnown, RefusesList, AnswersAdd, AnswersListed, taken_first};
 
 use super::Graph;
 use crate::fault::{GraphFault, add_fault, untimed_fault};
@@ -96,6 +96,30 @@ impl<F: Functions> Graph<F> {
         self.add(Def::Join(kid), ty)
     }
 
+    /// A node that shows what its child shows, up to the first stabilize in which that is a value on which a predicate, which is
+    /// known, is true: that value it keeps for good, and reads nothing more. Until then it is kept up to date as if it were
+    /// observed.
+    pub fn freeze(&mut self, kid: NodeId, f: FnRef) -> Result<NodeId, GraphFault>
+        requires known { IsTrue (F.known self.old.functions f) }
+        ensures { AnswersAdd self.old self.new (Freeze kid f) (taken_first f) result }
+    {
+        let ty = taken_first(&f);
+        self.add(Def::Freeze { kid, function: f }, ty)
+    }
+
+    /// A node that folds the values of a list of nodes by a function of two arguments, which is known, from the initial value
+    /// on. The list is empty at first; `link` and `unlink` change it.
+    pub fn expert(&mut self, f: FnRef, initial: Value) -> Result<NodeId, GraphFault>
+        requires known { IsTrue (F.known self.old.functions f) }
+        ensures { AnswersAdd self.old self.new (Expert f initial []) f.sig.gives result }
+    {
+        let def = Def::Expert {
+            function: f,
+            initial,
+        };
+        self.add(def, f.sig.gives())
+    }
+
     /// The nodes as a list of a definition, for an unbroken graph.
     pub(super) fn listed(&self, nodes: &[NodeId]) -> Result<Nodes, GraphFault>
         ensures ok { IfOk result (λ list. list ≡ nodes.now) }
@@ -106,6 +130,16 @@ impl<F: Functions> Graph<F> {
             Ok(list) => Ok(list),
             Err(AllocError) => Err(GraphFault::Memory),
         }
+    }
+}
+
+/// The type of the first value that a function takes; of one that takes none, that of what it gives.
+fn taken_first(f: &FnRef) -> Ty
+    ensures { result ≡ taken_first f.now }
+{
+    match f.sig.takes() {
+        [ty, ..] => *ty,
+        [] => f.sig.gives(),
     }
 }
 
@@ -124,6 +158,8 @@ fn is_timed(arena: &Arena, def: &Def) -> bool
         | Def::Bind { .. }
         | Def::At(_)
         | Def::Steps(_, _)
-        | Def::Now => true,
+        | Def::Now
+        | Def::Freeze { .. }
+        | Def::Expert { .. } => true,
     }
 }

@@ -1,5 +1,5 @@
 //! One call that brings what is observed up to date.
-ghost use Rattle.std.specs.Prelude.{◌≡◌, ◌↔◌, None, OnOk, IsErrOf, ◌≤◌, ◌+◌};
+ghost use Rattle.std.specs.Prelude.{◌≡◌, ◌↔◌, None, IfOk, OnOk, IsErrOf, ◌≤◌, ◌+◌};
 ghost use Rattle.inc_value.specs.declared.node.NodeId.{NodeId};
 ghost use Rattle.node_arena.specs.Arena.{live};
 ghost use Rattle.stabilize_round.specs.Calling.{costs_of};
@@ -9,6 +9,7 @@ ghost use Rattle.stabilizer.specs.Giving.{HasBuilt};
 ghost use Rattle.node_outcomes.specs.Meaning.{functions_of};
 ghost use Rattle.stabilizer.specs.Kept.{HasNoBinds, KeepsMeaning, counts_by};
 ghost use Rattle.graph.specs.Few.{IdsAreFew, IsFilled};
+ghost use Rattle.graph.specs.Inside.{AreNewRoots};
 ghost use Rattle.graph.specs.Standing.{IsBroken, IsUnbroken, graph};
 ghost use Rattle.graph.specs.Stabilizes.{Stabilizes, IsRefusedFor, HasCalledMet, LeavesNodes, WantsTell, left_by};
 ghost use Rattle.graph.specs.declared.fault.Kept.{Kept as ACause};
@@ -25,8 +26,8 @@ use std::alloc::AllocError;
 /// What the last accepted stabilize did.
 #[derive(Clone, Copy)]
 pub struct Round<'a> {
-    /// The maps and folds whose functions were called, each once. A fold of no nodes takes no call and isn't
-    /// listed.
+    /// The maps, folds, freezes and experts whose functions were called, each once. A fold or an expert of no nodes takes no
+    /// call and isn't listed.
     pub ran: &'a [NodeId],
     /// What was told of watched observers, in the order in which these were made.
     pub notices: &'a [Notice],
@@ -49,7 +50,7 @@ impl<F: Functions> Graph<F> {
         ensures left { IsUnbroken self.old → LeavesNodes (functions_of F.Functions self.old.functions) self.old self.new
             (counts_by F.Functions self.old.functions) (counts_by F.Functions self.new.functions) }
         ensures builds { OnOk result (BuildsFew (functions_of F.Functions self.old.functions) self.old.nodes.given (graph self.old)
-            (graph self.new) None (counts_by F.Functions self.old.functions).builds
+            (left_by self.old self.new) None (counts_by F.Functions self.old.functions).builds
             (counts_by F.Functions self.new.functions).builds) }
         ensures ids { IdsAreFew (F.right self.new.functions) self.old.nodes.given self.new.nodes }
         ensures full { IsErrOf result (StabilizeFault.Refused kept.Full) → IsFilled (F.right self.new.functions) self.new.nodes
@@ -64,7 +65,7 @@ impl<F: Functions> Graph<F> {
         if let Some(cause) = self.cause() {
             return Err(StabilizeFault::Broken(cause));
         }
-        let roots = match self.observers.in_use(self.rooted) {
+        let roots = match self.new_roots() {
             Ok(roots) => roots,
             Err(AllocError) => {
                 self.refused = Some(Refused::Memory);
@@ -81,12 +82,29 @@ impl<F: Functions> Graph<F> {
         match ended {
             Ok(()) => {
                 self.rooted = self.observers.made().len();
+                self.since = self.parts.arena().given();
                 Ok(())
             }
             Err(refused) => {
                 let cause = cause_of(&refused);
                 self.refused = Some(refused);
                 Err(StabilizeFault::Refused(cause))
+            }
+        }
+    }
+
+    /// Where need begins from the next stabilize on: at the nodes of observers in use that were made since the last one was
+    /// accepted, and at freezes that were made since.
+    fn new_roots(&self) -> Result<Vec<NodeId>, AllocError>
+        ensures { IfOk result (λ roots.
+            AreNewRoots self.now.nodes self.now.work self.now.observers self.now.rooted self.now.since roots.items) }
+    {
+        let mut roots = self.observers.in_use(self.rooted)?;
+        match self.parts.freezes_since(self.since, &mut roots) {
+            Ok(()) => Ok(roots),
+            Err(AllocError) => {
+                drop(roots);
+                Err(AllocError)
             }
         }
     }

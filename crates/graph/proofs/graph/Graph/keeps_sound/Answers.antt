@@ -11,7 +11,7 @@ returns g c =
     let fits = c.self.invariant.0 in
     let right = g.F.Functions.right inside.functions in
     rw (← c.self.view_is) (record {
-      sound = sound_of inside.functions (meaning_of g.F.Functions inside.functions) inside.parts inside.observers inside.rooted inside.refused fits;
+      sound = sound_of inside.functions (meaning_of g.F.Functions inside.functions) inside.parts inside.observers inside.rooted inside.since inside.refused fits;
       functions = c.self.invariant.1;
       few = few_live right inside.parts.arena c.self.invariant.2.scopes fits.kept.work.scopes;
       scopes = scopes_few right inside.parts.arena inside.parts.work c.self.invariant.2.scopes fits.kept.work;

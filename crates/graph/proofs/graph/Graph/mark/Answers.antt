@@ -22,7 +22,7 @@ returns-clause-needed g c p need =
     let whole = rw (← c.self.view_is) at c.in_ok-check.ensures.unbroken in
     let kept = (c.self.invariant.0.unbroken whole).ready.kept.work in
     rw (c.given.ensures, c.arena.ensures) (kept.given p (kept.step.there p (needed_in c.self.inside.functions c.self.inside.parts
-    c.self.inside.observers c.self.inside.rooted c.self.inside.refused p (rw (← c.self.view_is) at need))))
+    c.self.inside.observers c.self.inside.rooted c.self.inside.since c.self.inside.refused p (rw (← c.self.view_is) at need))))
 
 pub returns-clause-unscoped : goal.returns-clause-unscoped
 returns-clause-unscoped g c n r row since =

@@ -17,7 +17,7 @@ invariant_of-self g c =
     let fit : SidesFit (g.F.Functions.known f') (g.F.Functions.right f') c.self.inside.parts.arena
     = fit_more (g.F.Functions.known f) (g.F.Functions.known f') (g.F.Functions.right f) (g.F.Functions.right f') c.self.inside.parts.arena (record { keeps = m.keeps_meanings.known; same = m.keeps_meanings.sides })
     c.self.invariant.2 in (
-      sound_more (meaning_of g.F.Functions f) M' c.self.inside.parts c.self.inside.observers.made c.self.inside.rooted c.self.inside.refused
+      sound_more (meaning_of g.F.Functions f) M' c.self.inside.parts c.self.inside.observers.made c.self.inside.rooted c.self.inside.since c.self.inside.refused
           c.self.invariant.0 (rw (← c.self.view_is) at c.in-Ok.ensures.unbroken) (ready_more (g.F.Functions.named f) (g.F.Functions.named f') (g.F.Functions.known f) (g.F.Functions.known f') (g.F.Functions.value f) (g.F.Functions.value f')
           (g.F.Functions.right f) (g.F.Functions.right f') m.keeps_meanings laws c.self.inside.parts c.self.invariant.2.all fit.all),
       m.sound,

@@ -8,7 +8,7 @@ pub invariant_of-self : goal.invariant_of-self
 invariant_of-self g c = (
   (let a = c.set_cutoff.ensures in
       sound_cut c.self.inside.parts c.set_cutoff.new.self c.args.node c.args.cutoff a.cutoff a.rest _ c.self.inside.observers.made
-      c.self.inside.rooted c.self.inside.refused c.self.invariant.0 (rw (← c.self.view_is) at c.in_ok-check.ensures.unbroken) (a.ready _)),
+      c.self.inside.rooted c.self.inside.since c.self.inside.refused c.self.invariant.0 (rw (← c.self.view_is) at c.in_ok-check.ensures.unbroken) (a.ready _)),
   c.self.invariant.1,
   (let a = c.set_cutoff.ensures in
       subst (SidesFit (g.F.Functions.known c.self.inside.functions) (g.F.Functions.right c.self.inside.functions))
@@ -19,4 +19,4 @@ pub returns-clause-set : goal.returns-clause-set
 returns-clause-set g c =
     let a = c.set_cutoff.ensures in
     rw (← c.self.view_is) (sets_cutoff c.self.inside.parts c.set_cutoff.new.self c.args.node c.args.cutoff a.cutoff a.rest c.self.inside.functions
-    c.self.inside.observers c.self.inside.rooted c.self.inside.refused c.self.invariant.0.kept.work a.dead)
+    c.self.inside.observers c.self.inside.rooted c.self.inside.since c.self.inside.refused c.self.invariant.0.kept.work a.dead)

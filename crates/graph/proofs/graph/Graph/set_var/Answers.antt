@@ -1,4 +1,4 @@
-use Rattle.std.proofs.Common.{inl, Err, refl, sym, ap, subst, ◌∙◌, arith}
+use Rattle.std.proofs.Common.{inl, List, Err, refl, sym, ap, subst, ◌∙◌, arith}
 use Rattle.node_arena.specs.declared.arena.variable.SetFault.TheVariants as set
 use Rattle.node_arena.specs.Arena.{IsSet, IsVariable}
 use Rattle.inc_value.specs.declared.node.NodeId.{NodeId}
@@ -12,6 +12,8 @@ use Rattle.inc_terms.specs.Within.{Given}
 use Rattle.node_outcomes.specs.Row.{cutoff_in}
 use Rattle.graph.proofs.Seeing.{beside_as, built_set}
 use Rattle.graph.proofs.Fitting.{set_answer_fit}
+use Rattle.graph.proofs.Freezes.{freezes_answered}
+use Rattle.expert_nodes.specs.Experts.{ExpertPlace, expert_at}
 use Rattle.graph.proofs.Sound.{sound_but_heap}
 use Rattle.graph.proofs.graph.Graph.set_var.Goals as goal
 use Rattle.graph.proofs.graph.Graph.set_var.Goals.{in-Ok-set_var, in-Err-set_var}
@@ -39,8 +41,11 @@ returns-clause-wrong_type g c = rw (← c.self.view_is) (passed c.set_var.result
 
 pub invariant_of-self : goal.invariant_of-self
 invariant_of-self g c = (
-  sound_but_heap _ c.self.inside.parts c.set_var.new.self c.self.inside.observers.made c.self.inside.rooted c.self.inside.refused c.self.invariant.0
-      (rw (← c.self.view_is) at c.in-Ok.ensures.unbroken) c.set_var.ensures.stays,
+  sound_but_heap _ c.self.inside.parts c.set_var.new.self c.self.inside.observers.made c.self.inside.rooted c.self.inside.since c.self.inside.refused c.self.invariant.0
+      (rw (← c.self.view_is) at c.in-Ok.ensures.unbroken) c.set_var.ensures.stays
+      (let a = c.set_var.ensures in
+      freezes_answered c.self.inside.parts c.set_var.new.self c.args.node c.args.value a.stays.rows c.set_var.result
+      (set_variable _ c.set_var.result a.unknown a.not_var a.set) a.err c.self.inside.since),
   c.self.invariant.1,
   (let a = c.set_var.ensures in
       set_answer_fit (g.F.Functions.known c.self.inside.functions) (g.F.Functions.right c.self.inside.functions) c.self.inside.parts c.set_var.new.self
@@ -52,10 +57,11 @@ returns-clause-set g c =
     let a = c.set_var.ensures in
     let beside = λ (set : IsSet c.self.inside.parts.arena c.set_var.new.self.arena c.args.node c.args.value)
     (variable : (IsVariable c.self.inside.parts.arena c.args.node → ⊥) → ⊥). beside_as c.self.inside.functions
-    c.self.inside.parts c.set_var.new.self c.self.inside.observers c.self.inside.rooted c.self.inside.refused (Given c.self.inside.parts.arena.given)
+    c.self.inside.parts c.set_var.new.self c.self.inside.observers c.self.inside.rooted c.self.inside.since c.self.inside.refused (Given c.self.inside.parts.arena.given)
     a.stays.ran a.stays.links a.stays.roots (λ p given. ap (λ (m : Rows Progress). at m p) a.stays.rows)
     (λ n given. built_set c.self.inside.parts c.set_var.new.self c.args.node c.args.value set variable a.stays.rows
     (λ m. ap (λ (roots : Rows NodeId). at roots (change m)) a.stays.right_sides) n)
+    (λ n given. ap (λ (e : List ExpertPlace). expert_at e n) a.stays.experts)
     (λ n. inl (ap (λ (m : Rows Progress). cutoff_in (at m (main n))) a.stays.rows)) in
     let passes : Passes c.set_var.result c.match-set_var.result = elim c.match-set_var.branch [
       | in-Ok-set_var w ↦ subst (λ r. Passes r c.match-set_var.result) (sym w.in-Ok-set_var.is) w.result-is

@@ -1,11 +1,10 @@
-use Rattle.std.proofs.Common.{◌≡◌, inl, List, None, Some, length, refl, sym, ap, subst, ◌∙◌, ℕ, arith, drop}
+use Rattle.std.proofs.Common.{◌≡◌, inl, List, None, Some, take, drop, length, refl, sym, ap, subst, ◌∙◌, ℕ, arith}
 use Rattle.std.specs.Prelude.{is_some}
-use Rattle.inc_value.specs.Choice.{Among}
-use Rattle.inc_value.specs.declared.node.NodeId.{NodeId}
 use Rattle.inc_terms.specs.Within.{Given}
 use Rattle.node_outcomes.specs.Meaning.{Meaning, functions_of, meaning_of}
 use Rattle.stabilize_round.specs.Invariant.{Rooted}
-use Rattle.graph.specs.Inside.{FitsInside}
+use Rattle.graph.specs.Inside.{AreNewRoots, FitsInside}
+use Rattle.node_arena.specs.Arena.{Arena}
 use Rattle.observers.specs.Observers.{ObserversView, in_use, told_by}
 use Rattle.observers.specs.declared.observer.Observer.{Observer}
 use Rattle.stabilizer.specs.Telling.{shows_of}
@@ -16,7 +15,11 @@ use Rattle.wiring.specs.declared.refused.Refused.TheVariants.{Memory}
 use Rattle.graph.proofs.Observing.{all_of}
 use Rattle.graph.proofs.Grouping.{ids_few, filled_by}
 use Rattle.graph.proofs.Rounding.{accepted, refused_in, few_in}
-use Rattle.graph.proofs.Stabilizing.{rest_given, all_right, all_lawful, all_few, all_built, all_built_but, sound_again}
+use Rattle.graph.proofs.Stabilizing.{begins_at, roots_given, all_right, all_lawful, all_few, all_built, all_built_but, sound_again}
+use Rattle.graph.specs.Stabilizes.{left_by}
+use Rattle.graph.proofs.Seeing.{seen_as}
+use Rattle.stabilize_round.specs.Calling.{costs_of}
+use Rattle.stabilize_round.specs.Counts.{RoseBy}
 use Rattle.graph.proofs.graph.Graph.stabilize.Goals as goal
 
 pub returns-in-Err-clause-refused : goal.returns-in-Err-clause-refused
@@ -24,9 +27,9 @@ returns-in-Err-clause-refused g c cause is =
     let parts = c.self.inside.parts in let kept = c.self.invariant.0.kept.work in
     let still = rw (← c.self.view_is) at c.in_default.ensures.none in
     rw (← c.self.view_is) (refused_in (functions_of g.F.Functions c.self.inside.functions) c.self.inside.functions c.self.inside.functions parts parts
-    c.self.inside.observers c.self.inside.rooted c.self.inside.refused still Memory cause (let e = is in cc)
+    c.self.inside.observers c.self.inside.rooted c.self.inside.since c.self.inside.refused still Memory cause (let e = is in cc)
     (record { given = omega arith; clock = refl; frozen = λ n given. refl; lists = λ n given. refl; rows = λ n given. inl refl })
-    refl (λ n r row. refl) (λ n given. inl refl) (tt, tt) tt (
+    refl (λ n. refl) (λ n settled. refl) (λ n r row. refl) (λ n given. inl refl) (tt, tt) tt (
       None,
       record {
         stays = λ b r given row. inl refl;
@@ -41,12 +44,34 @@ returns-in-Err-clause-refused g c cause is =
 pub run-ended-requires-clause-given : goal.run-ended-requires-clause-given
 run-ended-requires-clause-given g c =
     let M = meaning_of g.F.Functions c.self.inside.functions in
-    let old = c.self.inside.parts in let os = c.self.inside.observers.made in let rooted = c.self.inside.rooted in
+    let old = c.self.inside.parts in let os = c.self.inside.observers.made in let rooted = c.self.inside.rooted in let since = c.self.inside.since in
     let still = rw (← c.self.view_is) at c.in_default.ensures.none in
     let can = c.self.invariant.0.unbroken still in let within = c.self.invariant.0.earlier in
-    let roots : c.deref.result.now ≡ in_use (drop rooted os) = c.deref.ensures.value ∙ c.in-Ok.ensures in
+    let new_roots : AreNewRoots old.arena old.work os rooted since c.deref.result.now
+    = rw (← c.self.view_is, ← c.deref.ensures.value) at c.in-Ok.ensures in
     all_of (Given old.arena.given) c.deref.result.now
-    (λ n among. rest_given M old old os rooted can within n (subst (λ (ns : List NodeId). Among n ns) roots among))
+    (roots_given M old old os rooted since can within c.deref.result.now new_roots)
+
+pub run-ended-requires-clause-begins : goal.run-ended-requires-clause-begins
+run-ended-requires-clause-begins g c =
+    let M = meaning_of g.F.Functions c.self.inside.functions in
+    let old = c.self.inside.parts in let os = c.self.inside.observers.made in let rooted = c.self.inside.rooted in let since = c.self.inside.since in
+    let still = rw (← c.self.view_is) at c.in_default.ensures.none in
+    let can = c.self.invariant.0.unbroken still in let within = c.self.invariant.0.earlier in
+    let new_roots : AreNewRoots old.arena old.work os rooted since c.deref.result.now
+    = rw (← c.self.view_is, ← c.deref.ensures.value) at c.in-Ok.ensures in (
+      since,
+      in_use (drop rooted os),
+      new_roots.freezes,
+      in_use (take rooted os),
+      begins_at M old old os rooted since can within c.deref.result.now new_roots,
+    )
+
+pub returns-in-Ok-ended-clause-calls : goal.returns-in-Ok-ended-clause-calls
+returns-in-Ok-ended-clause-calls g c =
+    let after = seen_as c.run-ended.new.functions c.run-ended.new.parts c.run-ended.new.observers c.self.inside.rooted c.self.inside.since None in
+    subst (λ before. RoseBy (g.F.Functions.calls before.functions) (costs_of (left_by before after) c.run-ended.new.parts.ran.items)
+    (g.F.Functions.calls c.run-ended.new.functions)) c.self.view_is c.in-Ok-ended.ensures.ended.calls
 
 pub run-ended-requires-clause-looks : goal.run-ended-requires-clause-looks
 run-ended-requires-clause-looks g c = let still = rw (← c.self.view_is) at c.in_default.ensures.none in (c.self.invariant.0.unbroken still).given
@@ -58,14 +83,16 @@ pub returns-in-Ok-ended-clause-brought : goal.returns-in-Ok-ended-clause-brought
 returns-in-Ok-ended-clause-brought g c =
     let M = meaning_of g.F.Functions c.self.inside.functions in
     let old = c.self.inside.parts in let new = c.run-ended.new.parts in let os = c.self.inside.observers.made in let rooted = c.self.inside.rooted in
-    let still = rw (← c.self.view_is) at c.in_default.ensures.none in
+    let since = c.self.inside.since in let still = rw (← c.self.view_is) at c.in_default.ensures.none in
     let can = c.self.invariant.0.unbroken still in let within = c.self.invariant.0.earlier in
-    let roots : c.deref.result.now ≡ in_use (drop rooted os) = c.deref.ensures.value ∙ c.in-Ok.ensures in
-    let right = all_right M old new os rooted can within (rw roots at c.in-Ok-ended.ensures.ended.right) in
+    let new_roots : AreNewRoots old.arena old.work os rooted since c.deref.result.now
+    = rw (← c.self.view_is, ← c.deref.ensures.value) at c.in-Ok.ensures in
+    let begins = begins_at M old new os rooted since can within c.deref.result.now new_roots in
+    let right = all_right M old new os rooted since can within (c.in-Ok-ended.ensures.ended.right since _ new_roots.freezes _ begins) in
     let told = c.in-Ok-ended.ensures.told in
-    rw (← c.self.view_is) (accepted M.functions c.self.inside.functions c.run-ended.new.functions old new c.self.inside.observers rooted c.self.inside.refused still
-    c.run-ended.new.observers told c.in-Ok-ended.ensures.notices (length c.made.result.now) (ap length c.made.ensures) c.run-ended.ensures.leaves.left.rest
-    (all_built M old new os rooted can within (rw roots at c.in-Ok-ended.ensures.ended.built)) right)
+    rw (← c.self.view_is) (accepted M.functions c.self.inside.functions c.run-ended.new.functions old new c.self.inside.observers rooted since c.self.inside.refused still
+    c.run-ended.new.observers c.given-self-inside.result (c.given-self-inside.ensures ∙ ap (λ (a : Arena). a.given) c.arena.ensures) told c.in-Ok-ended.ensures.notices (length c.made.result.now) (ap length c.made.ensures) c.run-ended.ensures.leaves.left.rest
+    (all_built M old new os rooted since can within (c.in-Ok-ended.ensures.ended.built since _ new_roots.freezes _ begins)) right)
 
 pub returns-in-Ok-ended-clause-left : goal.returns-in-Ok-ended-clause-left
 returns-in-Ok-ended-clause-left g c unbroken = rw (← c.self.view_is) c.run-ended.ensures.leaves.left.nodes
@@ -92,26 +119,41 @@ pub returns-in-Err-ended-clause-refused : goal.returns-in-Err-ended-clause-refus
 returns-in-Err-ended-clause-refused g c cause is =
     let M = meaning_of g.F.Functions c.self.inside.functions in
     let old = c.self.inside.parts in let new = c.run-ended.new.parts in let os = c.self.inside.observers.made in let rooted = c.self.inside.rooted in
-    let still = rw (← c.self.view_is) at c.in_default.ensures.none in
+    let since = c.self.inside.since in let still = rw (← c.self.view_is) at c.in_default.ensures.none in
     let can = c.self.invariant.0.unbroken still in let within = c.self.invariant.0.earlier in
-    let roots : c.deref.result.now ≡ in_use (drop rooted os) = c.deref.ensures.value ∙ c.in-Ok.ensures in
+    let new_roots : AreNewRoots old.arena old.work os rooted since c.deref.result.now
+    = rw (← c.self.view_is, ← c.deref.ensures.value) at c.in-Ok.ensures in
+    let begins = begins_at M old new os rooted since can within c.deref.result.now new_roots in
     let refused = c.in-Err-ended.refused in
     rw (← c.self.view_is, c.in-Err-ended.ensures.observers)
-    (refused_in M.functions c.self.inside.functions c.run-ended.new.functions old new c.self.inside.observers rooted c.self.inside.refused still refused cause (let e = c.cause_of-cause.ensures in cc) c.run-ended.ensures.leaves.left.rest c.in-Err-ended.ensures.refused.ran c.in-Err-ended.ensures.refused.cutoffs
-    c.in-Err-ended.ensures.refused.shows (all_lawful M old new os rooted can within refused (rw roots at c.in-Err-ended.ensures.refused.lawful))
-    c.in-Err-ended.ensures.refused.tried (all_built_but M old new os rooted can within refused (rw roots at c.in-Err-ended.ensures.refused.unbuilt)))
+    (refused_in M.functions c.self.inside.functions c.run-ended.new.functions old new c.self.inside.observers rooted since c.self.inside.refused still refused cause (let e = c.cause_of-cause.ensures in cc) c.run-ended.ensures.leaves.left.rest c.in-Err-ended.ensures.refused.ran c.in-Err-ended.ensures.refused.frozen c.in-Err-ended.ensures.refused.marks c.in-Err-ended.ensures.refused.cutoffs
+    c.in-Err-ended.ensures.refused.shows (all_lawful M old new os rooted since can within refused (c.in-Err-ended.ensures.refused.lawful since _ new_roots.freezes _ begins))
+    c.in-Err-ended.ensures.refused.tried (all_built_but M old new os rooted since can within refused (c.in-Err-ended.ensures.refused.unbuilt since _ new_roots.freezes _ begins)))
 
 pub returns-in-Err-ended-clause-few : goal.returns-in-Err-ended-clause-few
 returns-in-Err-ended-clause-few g c cause is =
     let M = meaning_of g.F.Functions c.self.inside.functions in
     let old = c.self.inside.parts in let new = c.run-ended.new.parts in let os = c.self.inside.observers.made in let rooted = c.self.inside.rooted in
+    let since = c.self.inside.since in let still = rw (← c.self.view_is) at c.in_default.ensures.none in
+    let can = c.self.invariant.0.unbroken still in let within = c.self.invariant.0.earlier in
+    let new_roots : AreNewRoots old.arena old.work os rooted since c.deref.result.now
+    = rw (← c.self.view_is, ← c.deref.ensures.value) at c.in-Ok.ensures in
+    let begins = begins_at M old new os rooted since can within c.deref.result.now new_roots in
+    let before = g.F.Functions.calls c.self.inside.functions in let after = g.F.Functions.calls c.run-ended.new.functions in
+    rw (← c.self.view_is) (few_in M.functions c.self.inside.functions c.run-ended.new.functions old new c.self.inside.observers rooted since c.self.inside.refused still
+    c.in-Err-ended.refused before after
+    (all_few M old new os rooted since can within before after (c.in-Err-ended.ensures.refused.few since _ new_roots.freezes _ begins)))
+
+pub returns-in-Err-ended-clause-calls_grow : goal.returns-in-Err-ended-clause-calls_grow
+returns-in-Err-ended-clause-calls_grow g c =
+    let M = meaning_of g.F.Functions c.self.inside.functions in
+    let old = c.self.inside.parts in let os = c.self.inside.observers.made in let rooted = c.self.inside.rooted in let since = c.self.inside.since in
     let still = rw (← c.self.view_is) at c.in_default.ensures.none in
     let can = c.self.invariant.0.unbroken still in let within = c.self.invariant.0.earlier in
-    let roots : c.deref.result.now ≡ in_use (drop rooted os) = c.deref.ensures.value ∙ c.in-Ok.ensures in
-    let before = g.F.Functions.calls c.self.inside.functions in let after = g.F.Functions.calls c.run-ended.new.functions in
-    rw (← c.self.view_is) (few_in M.functions c.self.inside.functions c.run-ended.new.functions old new c.self.inside.observers rooted c.self.inside.refused still
-    c.in-Err-ended.refused before after
-    (all_few M old new os rooted can within before after (rw roots at c.in-Err-ended.ensures.refused.few)))
+    let new_roots : AreNewRoots old.arena old.work os rooted since c.deref.result.now
+    = rw (← c.self.view_is, ← c.deref.ensures.value) at c.in-Ok.ensures in
+    let begins = begins_at M old old os rooted since can within c.deref.result.now new_roots in
+    rw (← c.self.view_is) (c.in-Err-ended.ensures.refused.few since _ new_roots.freezes _ begins).count.kept
 
 pub returns-in-Err-ended-clause-left : goal.returns-in-Err-ended-clause-left
 returns-in-Err-ended-clause-left g c unbroken = rw (← c.self.view_is) c.run-ended.ensures.leaves.left.nodes
@@ -150,17 +192,21 @@ pub invariant_of-self-in-Ok-ended : goal.invariant_of-self-in-Ok-ended
 invariant_of-self-in-Ok-ended g c =
     let M = meaning_of g.F.Functions c.self.inside.functions in
     let old = c.self.inside.parts in let new = c.run-ended.new.parts in let os = c.self.inside.observers.made in let rooted = c.self.inside.rooted in
-    let still = rw (← c.self.view_is) at c.in_default.ensures.none in
+    let since = c.self.inside.since in let still = rw (← c.self.view_is) at c.in_default.ensures.none in
     let can = c.self.invariant.0.unbroken still in let within = c.self.invariant.0.earlier in
-    let roots : c.deref.result.now ≡ in_use (drop rooted os) = c.deref.ensures.value ∙ c.in-Ok.ensures in
-    let right = all_right M old new os rooted can within (rw roots at c.in-Ok-ended.ensures.ended.right) in
+    let new_roots : AreNewRoots old.arena old.work os rooted since c.deref.result.now
+    = rw (← c.self.view_is, ← c.deref.ensures.value) at c.in-Ok.ensures in
+    let begins = begins_at M old new os rooted since can within c.deref.result.now new_roots in
+    let right = all_right M old new os rooted since can within (c.in-Ok-ended.ensures.ended.right since _ new_roots.freezes _ begins) in
     let M' = meaning_of g.F.Functions c.run-ended.new.functions in
     let told = c.in-Ok-ended.ensures.told in
-    let again = sound_again M old new os rooted can within M' c.self.inside.refused c.self.invariant.0.few c.run-ended.ensures.leaves.left.rest.given
+    let again = sound_again M old new os rooted since can within M' c.self.inside.refused c.self.invariant.0.few c.run-ended.ensures.leaves.left.rest.given
     c.in-Ok-ended.ensures.ended.ready right in
     let same : length c.made.result.now ≡ length (told_by (shows_of new) os) = ap length c.made.ensures ∙ ap length told in (
-      subst (λ (made : List Observer). FitsInside M' new made (length c.made.result.now) c.self.inside.refused) (sym told)
-          (subst (λ (k : ℕ). FitsInside M' new (told_by (shows_of new) os) k c.self.inside.refused) (sym same) again),
+      subst (λ (made : List Observer). FitsInside M' new made (length c.made.result.now) c.given-self-inside.result c.self.inside.refused) (sym told)
+          (subst (λ (k : ℕ). FitsInside M' new (told_by (shows_of new) os) k c.given-self-inside.result c.self.inside.refused) (sym same)
+          (subst (λ (k : ℕ). FitsInside M' new (told_by (shows_of new) os) (length (told_by (shows_of new) os)) k c.self.inside.refused)
+          (sym (c.given-self-inside.ensures ∙ ap (λ (a : Arena). a.given) c.arena.ensures)) again)),
       c.run-ended.ensures.leaves.functions.sound,
       c.run-ended.ensures.leaves.fit,
     )
@@ -168,9 +214,10 @@ invariant_of-self-in-Ok-ended g c =
 pub invariant_of-self-in-Err-ended : goal.invariant_of-self-in-Err-ended
 invariant_of-self-in-Err-ended g c = (
   subst (λ (observers : ObserversView). FitsInside (meaning_of g.F.Functions c.run-ended.new.functions) c.run-ended.new.parts observers.made
-      c.self.inside.rooted (Some c.in-Err-ended.refused)) (sym c.in-Err-ended.ensures.observers) (record {
+      c.self.inside.rooted c.self.inside.since (Some c.in-Err-ended.refused)) (sym c.in-Err-ended.ensures.observers) (record {
         few = c.self.invariant.0.few;
         earlier = c.self.invariant.0.earlier;
+        past = let past = c.self.invariant.0.past in let later = c.run-ended.ensures.leaves.left.rest.given in omega (arith, past, later);
         kept = c.in-Err-ended.ensures.refused.kept;
         built = subst (λ (M : Meaning). Rooted M.functions (graph_in c.run-ended.new.parts))
             (sym (means_still g.F.Functions c.self.inside.functions c.run-ended.new.functions c.run-ended.ensures.leaves.functions)) c.run-ended.ensures.leaves.left.rooted;
@@ -182,6 +229,3 @@ invariant_of-self-in-Err-ended g c = (
   c.run-ended.ensures.leaves.functions.sound,
   c.run-ended.ensures.leaves.fit,
 )
-
-pub in_use-requires : goal.in_use-requires
-in_use-requires g c = record { within = c.self.invariant.0.earlier }
