@@ -13,6 +13,8 @@ mod boxed;
 #[cfg(test)]
 mod handing;
 #[cfg(test)]
+mod listing;
+#[cfg(test)]
 mod tables;
 #[cfg(test)]
 mod tests;

@@ -28,6 +28,16 @@ pub(crate) enum Act {
     Fold(i64, usize, usize, usize),
     /// Makes the fold from a number on over no nodes.
     FoldNone(i64),
+    /// Makes a freeze of a node by a predicate.
+    Freeze(Function, usize),
+    /// Makes an expert that folds from a number on by a function.
+    Expert(Function, i64),
+    /// Puts the second node behind the list of the first.
+    Link(usize, usize),
+    /// Takes the first link to the second node off the list of the first.
+    Unlink(usize, usize),
+    /// Has an expert called anew.
+    MakeStale(usize),
     /// Makes constants that nothing reads, until so many nodes more fit. All that live must have been made or grabbed.
     Fill(usize),
     /// Makes the negation of a node and the negation of that, and takes both back.

@@ -2,6 +2,7 @@
 
 use crate::bind_tables::{BIND_TABLES, FULL_TABLES};
 use crate::binding::{NO_MEMORY, bind, bind_and_take_back, nested};
+use crate::listing::{LIST_TABLES, list};
 use crate::tables::{Act, TABLES};
 use crate::timing::{TIME_TABLES, make_timed};
 use graph::{Cutoff, Graph, GraphFault, Kept, Refused, StabilizeFault};
@@ -36,6 +37,9 @@ pub(crate) fn code(fault: GraphFault) -> i64 {
         GraphFault::Range => -118,
         GraphFault::Span => -116,
         GraphFault::Order => -119,
+        GraphFault::NotExpert => -125,
+        GraphFault::NotLinked => -126,
+        GraphFault::LinksFull => -127,
         GraphFault::NotStabilized => -105,
         GraphFault::TooMany => -106,
         GraphFault::Full => -107,
@@ -63,7 +67,7 @@ pub(crate) fn made(nodes: &mut Vec<NodeId>, answer: Result<NodeId, GraphFault>) 
 }
 
 /// 0, or the fault's number.
-fn told(answer: Result<(), GraphFault>) -> i64 {
+pub(crate) fn told(answer: Result<(), GraphFault>) -> i64 {
     match answer {
         Ok(()) => 0,
         Err(fault) => code(fault),
@@ -347,6 +351,11 @@ fn perform(alloc: Global, graph: &mut Scripted, nodes: &mut Vec<NodeId>, act: Ac
             look(graph, nodes, act)
         }
         Act::Calls | Act::Builds | Act::Adds | Act::Points | Act::Time => look(graph, nodes, act),
+        Act::Freeze(_, _)
+        | Act::Expert(_, _)
+        | Act::Link(_, _)
+        | Act::Unlink(_, _)
+        | Act::MakeStale(_) => list(graph, nodes, act),
         _ => make_bind(alloc, graph, nodes, act),
     }
 }
@@ -407,6 +416,12 @@ fn binds_answer_their_numbers(rt: HostRuntime) {
 #[test]
 fn clocks_answer_their_numbers(rt: HostRuntime) {
     let other = first_table(rt.alloc(), TIME_TABLES);
+    assert_eq!(rt; other, 0);
+}
+
+#[test]
+fn freezes_and_experts_answer_their_numbers(rt: HostRuntime) {
+    let other = first_table(rt.alloc(), LIST_TABLES);
     assert_eq!(rt; other, 0);
 }
 

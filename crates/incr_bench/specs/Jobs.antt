@@ -4,7 +4,7 @@ use Rattle.std.specs.Str.{bytes_eq}
 use Rattle.std.specs.Str.Parse.{IsNumeral, digits_value, without_leading_plus}
 use Rattle.incr_bench.specs.declared.job.Job.{Job}
 use Rattle.incr_bench.specs.declared.job.Shape.{Shape}
-use Rattle.incr_bench.specs.declared.job.Shape.TheVariants.{Chain, Fan, Tree, Fold, Cut, Never, Idle, Flip, Flipx, Aside, Switch, Bind, Nested, Boxed, Ticks, Watched, Turns, Told, Shown, Ended}
+use Rattle.incr_bench.specs.declared.job.Shape.TheVariants.{Chain, Fan, Tree, Fold, Cut, Never, Idle, Flip, Flipx, Aside, Switch, Bind, Nested, Boxed, Ticks, Watched, Turns, Told, Shown, Ended, Expert, Expertx, Frozen}
 
 -- the shape that a word names
 abbrev pub shape_of : List ℕ → Option Shape
@@ -29,7 +29,10 @@ shape_of name =
     else (if bytes_eq name (codes "told") then Some Told
     else (if bytes_eq name (codes "shown") then Some Shown
     else (if bytes_eq name (codes "ended") then Some Ended
-    else None)))))))))))))))))))
+    else (if bytes_eq name (codes "expert") then Some Expert
+    else (if bytes_eq name (codes "expertx") then Some Expertx
+    else (if bytes_eq name (codes "frozen") then Some Frozen
+    else None))))))))))))))))))))))
 
 -- the largest size of a shape: as long as a chain may be, and as many nodes as a graph may have
 abbrev pub most_of : Shape → ℕ

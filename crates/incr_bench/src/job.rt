@@ -68,6 +68,15 @@ pub enum Shape {
 
     /// Variables whose observers are watched, of which a round ends one.
     Ended,
+
+    /// Variables in the lists of experts, a thousand each, of which a round takes one off and puts it on again.
+    Expert,
+
+    /// The same, where that one changes too.
+    Expertx,
+
+    /// Freezes that keep a value, of a variable that changes.
+    Frozen,
 }
 
 /// What the words ask for.
@@ -100,7 +109,10 @@ fn most(shape: Shape) -> usize
         | Shape::Turns
         | Shape::Told
         | Shape::Shown
-        | Shape::Ended => 1_000_000,
+        | Shape::Ended
+        | Shape::Expert
+        | Shape::Expertx
+        | Shape::Frozen => 1_000_000,
     }
 }
 
@@ -129,6 +141,9 @@ fn shape_named(name: &str) -> Option<Shape>
         "told" => Some(Shape::Told),
         "shown" => Some(Shape::Shown),
         "ended" => Some(Shape::Ended),
+        "expert" => Some(Shape::Expert),
+        "expertx" => Some(Shape::Expertx),
+        "frozen" => Some(Shape::Frozen),
         _ => None,
     }
 }

@@ -178,6 +178,62 @@ impl<F: Functions> Live<F> {
         append(&mut self.nodes, made)
     }
 
+    /// Makes a node that shows what another one of numbers shows, and keeps the first of these that is above 0. It is refused
+    /// where the functions don't know that test.
+    pub fn freeze(&mut self, kid: usize) -> Result<(), Fault>
+        ensures grows { OnOk result (length self.new.nodes.items ≡ length self.old.nodes.items + 1) }
+        ensures uncalled { self.new.graph.functions ≡ self.old.graph.functions }
+    {
+        let pos = Function::Pos.reference();
+        if !self.knows(&pos) {
+            return Err(Fault::Refused);
+        }
+        let kid = self.node(kid);
+        let made = self.graph.freeze(kid, pos);
+        append(&mut self.nodes, made)
+    }
+
+    /// Makes the sum over a list that is empty at first. It is refused where the functions know no sum.
+    pub fn expert(&mut self) -> Result<(), Fault>
+        ensures grows { OnOk result (length self.new.nodes.items ≡ length self.old.nodes.items + 1) }
+        ensures uncalled { self.new.graph.functions ≡ self.old.graph.functions }
+    {
+        let add = Function::Add.reference();
+        if !self.knows(&add) {
+            return Err(Fault::Refused);
+        }
+        let made = self.graph.expert(add, Value::Int(0));
+        append(&mut self.nodes, made)
+    }
+
+    /// Puts a node behind the list of an expert.
+    pub fn link(&mut self, expert: usize, place: usize) -> Result<(), Fault>
+        ensures uncalled { self.new.graph.functions ≡ self.old.graph.functions }
+        ensures same_nodes { self.new.nodes.items ≡ self.old.nodes.items }
+        ensures untold { self.new.notices ≡ self.old.notices }
+    {
+        let expert = self.node(expert);
+        let node = self.node(place);
+        match self.graph.link(expert, node) {
+            Ok(()) => Ok(()),
+            Err(fault) => Err(of_graph(fault)),
+        }
+    }
+
+    /// Takes the first occurrence of a node off the list of an expert.
+    pub fn unlink(&mut self, expert: usize, place: usize) -> Result<(), Fault>
+        ensures uncalled { self.new.graph.functions ≡ self.old.graph.functions }
+        ensures same_nodes { self.new.nodes.items ≡ self.old.nodes.items }
+        ensures untold { self.new.notices ≡ self.old.notices }
+    {
+        let expert = self.node(expert);
+        let node = self.node(place);
+        match self.graph.unlink(expert, node) {
+            Ok(()) => Ok(()),
+            Err(fault) => Err(of_graph(fault)),
+        }
+    }
+
     /// Makes a bind on a node over captured ones, whose right sides a function makes that is known and lists no nodes.
     pub fn bind(&mut self, left: usize, side: FnRef, captures: &[NodeId]) -> Result<(), Fault>
         requires known { IsTrue (F.known self.old.graph.functions side) }

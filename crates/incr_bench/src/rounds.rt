@@ -8,7 +8,7 @@ use crate::counted::Counted;
 use crate::fault::Fault;
 use crate::job::{Job, Shape};
 use crate::live::Live;
-use crate::shapes::TICK;
+use crate::shapes::{TICK, lister};
 use inc_value::{Base, Value};
 use node_arena::Functions;
 use std::time::Clock;
@@ -51,6 +51,15 @@ fn set_all<F: Functions>(live: &mut Live<F>, size: usize, round: u64) -> Result<
     Ok(())
 }
 
+/// Takes a node off an expert's list, where it stands first, and puts it behind the list.
+fn relist<F: Functions>(live: &mut Live<F>, expert: usize, place: usize) -> Result<(), Fault>
+    ensures uncalled { live.new.graph.functions ≡ live.old.graph.functions }
+    ensures untold { live.new.notices ≡ live.old.notices }
+{
+    live.unlink(expert, place)?;
+    live.link(expert, place)
+}
+
 /// Changes what a round of a shape changes. The first observer of `ended` stays.
 fn change<F: Functions>(live: &mut Live<F>, job: Job, round: u64) -> Result<(), Fault>
     ensures uncalled { live.new.graph.functions ≡ live.old.graph.functions }
@@ -71,6 +80,15 @@ fn change<F: Functions>(live: &mut Live<F>, job: Job, round: u64) -> Result<(), 
         Shape::Ticks => live.advance(TICK),
         Shape::Told | Shape::Shown => set_all(live, job.size, round),
         Shape::Ended => live.unobserve(turn(round, job.size).saturating_add(1)),
+        Shape::Expert => {
+            let place = turn(round, job.size);
+            relist(live, lister(job.size, place), place)
+        }
+        Shape::Expertx => {
+            let place = turn(round, job.size);
+            live.set(place, fresh(round))?;
+            relist(live, lister(job.size, place), place)
+        }
         _ => live.set(0, fresh(round)),
     }
 }

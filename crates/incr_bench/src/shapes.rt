@@ -1,5 +1,5 @@
 //! Graphs of the shapes.
-ghost use Rattle.std.specs.Prelude.{◌≡◌, ◌≤◌, ◌<◌, ◌+◌, [], length, OnOk, IsTrue};
+ghost use Rattle.std.specs.Prelude.{◌≡◌, ◌≤◌, ◌<◌, ◌+◌, ◌-◌, ◌/◌, ◌^◌, min, [], length, OnOk, IsTrue};
 
 use crate::fault::Fault;
 use crate::job::Shape;
@@ -13,6 +13,9 @@ const REST_CHAIN: usize = 10;
 
 /// How long one timer is made before the next, and how far a round moves the time on, in nanoseconds.
 pub const TICK: u64 = 1_000_000;
+
+/// How many variables one expert lists.
+const LISTED: usize = 1_000;
 
 /// One variable under a chain of negations, of which the last is observed.
 fn chain<F: Functions>(live: &mut Live<F>, size: usize) -> Result<(), Fault>
@@ -183,6 +186,53 @@ fn watched<F: Functions>(live: &mut Live<F>, size: usize) -> Result<(), Fault>
     Ok(())
 }
 
+/// Variables, each with another number.
+fn numbers<F: Functions>(live: &mut Live<F>, size: usize) -> Result<(), Fault>
+    requires { size ≤ 1000000 }
+    ensures uncalled { live.new.graph.functions ≡ live.old.graph.functions }
+{
+    for place in 0..size {
+        live.var(Value::Int(place as i64))?;
+    }
+    Ok(())
+}
+
+/// The node of the expert that lists a variable, of so many: behind the variables stands one expert for each thousand.
+pub fn lister(variables: usize, place: usize) -> usize
+    ensures { result ≡ min (variables + place / 1000) (2 ^ 64 - 1) }
+{
+    variables.saturating_add(place / LISTED)
+}
+
+/// Variables, each with another number, and behind them experts that list a thousand each, which are observed.
+fn experts<F: Functions>(live: &mut Live<F>, size: usize) -> Result<(), Fault>
+    requires { size ≤ 1000000 }
+    ensures uncalled { live.new.graph.functions ≡ live.old.graph.functions }
+{
+    numbers(live, size)?;
+    for place in 0..size {
+        let expert = lister(size, place);
+        if place % LISTED == 0 {
+            live.expert()?;
+            live.observe(expert)?;
+        }
+        live.link(expert, place)?;
+    }
+    Ok(())
+}
+
+/// A variable, which is observed, and so many freezes of it.
+fn frozen<F: Functions>(live: &mut Live<F>, size: usize) -> Result<(), Fault>
+    ensures uncalled { live.new.graph.functions ≡ live.old.graph.functions }
+{
+    live.var(Value::Int(1))?;
+    live.observe(0)?;
+    for _ in 0..size {
+        live.freeze(0)?;
+    }
+    Ok(())
+}
+
 /// A variable and a bind on it, which is observed, of right sides that a function makes.
 pub fn bind<F: Functions>(live: &mut Live<F>, side: FnRef) -> Result<(), Fault>
     requires known { IsTrue (F.known live.old.graph.functions side) }
@@ -237,6 +287,8 @@ pub fn fill<F: Functions>(live: &mut Live<F>, shape: Shape, size: usize) -> Resu
         Shape::Watched | Shape::Turns | Shape::Told => watched(live, size),
         Shape::Shown => shown(live, size),
         Shape::Ended => watched(live, size + 1),
+        Shape::Expert | Shape::Expertx => experts(live, size),
+        Shape::Frozen => frozen(live, size),
         Shape::Bind | Shape::Nested => Err(Fault::Refused),
     }
 }
