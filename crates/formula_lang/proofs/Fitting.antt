@@ -11,23 +11,22 @@ use Rattle.inc_value.specs.declared.ty.Base.TheVariants as bases
 use Rattle.inc_value.specs.declared.ty.Base.{Base}
 use Rattle.inc_value.specs.declared.ty.Ty.TheVariants as types
 use Rattle.inc_value.specs.declared.ty.Ty.{Ty}
-use Rattle.script_model.specs.Check.{Bound, Command, Declare, Assign, Take, Observe, Unobserve, Watch, Advance, Stabilize, Show, Declared, Names, Reason, NameTaken, ObserverTaken, NotVariable, NotBind, ObserverUnknown, TimeTooLarge, SpanIsZero, BackInTime, TypedFormula, TypedFormulas, TypedValue, first_named, find_declared, is_among, is_bind, is_variable, kind_of, typed, typed_each, typed_name, typed_as, typed_literal, literal_of_type, where_same, applied, are_all, before, branched, element_of, folded, join_of, steps_of_type, command_of, body_as, target_of_body, times_of, spans_of, is_top_form, is_empty_interval, is_past, first_that, is_against, line_order}
+use Rattle.script_model.specs.Check.{Bound, Command, Declare, Assign, Link, Unlink, Stale, Take, Observe, Unobserve, Watch, Advance, Stabilize, Show, Declared, Kind, Expert as AnExpert, Names, Reason, NameTaken, ObserverTaken, NotVariable, NotBind, NotExpert, ObserverUnknown, TimeTooLarge, SpanIsZero, BackInTime, TypedFormula, TypedFormulas, TypedValue, first_named, find_declared, is_among, is_bind, is_variable, kind_of, typed, typed_each, typed_name, typed_as, typed_literal, literal_of_type, where_same, applied, are_all, before, branched, element_of, folded, join_of, steps_of_type, command_of, body_as, expert_of, experts_of, frozen_when, is_expert, link_of, target_of_body, times_of, spans_of, is_top_form, is_empty_interval, is_past, first_that, is_against, line_order}
 use Rattle.inc_value.specs.Choice.{and_then}
 use Rattle.script_model.specs.Formula as model
 use Rattle.script_model.specs.Formula.{Formula, TimedValue, Body, Meanings, nothing_kept}
 use Rattle.script_model.specs.Grammar as grammar
 use Rattle.script_model.specs.Grammar.{Line, Time, TimedLiteral, Tree, Trees, time_of, Call, If, Bind, Join, Fold, End, More}
-use Rattle.script_model.specs.Here.{is_here, is_plain, are_plain}
 use Rattle.script_model.specs.Literals as literals
 use Rattle.script_model.specs.Literals.{Literal, Integer, Referred}
 use Rattle.script_model.specs.Values.{Value, Reference, type_of}
-use Rattle.formula_lang.specs.Fits.{NameFits, ValueFits, FunctionFits, FormulaFits, ArgumentsFit, ElementsFit, StepsFit, BodyFits, TimeFits, FitsNames}
+use Rattle.formula_lang.specs.Fits.{NameFits, ValueFits, FunctionFits, FormulaFits, ArgumentsFit, ElementsFit, StepsFit, FreezeFits, ExpertFits, BodyFits, IsExpertOf, TimeFits, FitsNames}
 use Rattle.formula_lang.specs.NamesView.{AreEarlier}
 use Rattle.line_parser.specs.TreeView.{line_view}
 use Rattle.line_parser.specs.declared.tree.Line as code
 use Rattle.line_parser.specs.declared.tree.Line.TheVariants as variant
 use Rattle.line_parser.specs.declared.tree.Time.TheVariants as code_time
-use Rattle.formula_lang.proofs.Plainness.{both_true, three_true, computed_top}
+use Rattle.formula_lang.proofs.Within.{computed_top}
 use Rattle.formula_lang.proofs.Table.{none_holds}
 
 -- ---- what tests say
@@ -349,39 +348,36 @@ module _ (F : Meanings) (known : FnRef → Bool) (names : Names) (earlier : AreE
   from_zero tys i = let e : 0 + i ≡ i = omega arith in rw e refl
 
   mutual
-    typed_fits : (bounds : List Bound) (tree : Tree) → is_plain tree ≡ true → (t : TypedFormula) → typed F names bounds tree ≡ Some t
+    typed_fits : (bounds : List Bound) (tree : Tree) → (t : TypedFormula) → typed F names bounds tree ≡ Some t
         → Fits (tys_of bounds) t
-    typed_fits bounds (grammar.Literal literal) plain t e =
+    typed_fits bounds (grammar.Literal literal) t e =
         written_fits (tys_of bounds) literal (typed_literal names literal) t (λ x is. typed_value_fits names earlier literal x is) e
-    typed_fits bounds (grammar.Name name) plain t e = named_fits bounds name 0 bounds t (λ i. from_zero (tys_of bounds) i) e
-    typed_fits bounds (Call function arguments) plain t e =
-        call_fits (tys_of bounds) function (F.named function) (typed_each F names bounds arguments) t refl (typed_each_fit bounds arguments plain) e
-    typed_fits bounds (If test a b) plain t e =
-        let all = three_true (is_plain test) (is_plain a) (is_plain b) plain in
+    typed_fits bounds (grammar.Name name) t e = named_fits bounds name 0 bounds t (λ i. from_zero (tys_of bounds) i) e
+    typed_fits bounds (Call function arguments) t e =
+        call_fits (tys_of bounds) function (F.named function) (typed_each F names bounds arguments) t refl (typed_each_fit bounds arguments) e
+    typed_fits bounds (If test a b) t e =
         if_fits (tys_of bounds) (typed F names bounds test) (typed F names bounds a) (typed F names bounds b) t
-        (typed_fits bounds test all.0) (typed_fits bounds a all.1) (typed_fits bounds b all.2) e
-    typed_fits bounds (Bind variable left body) plain t e =
-        let both = both_true (is_plain left) (is_plain body) plain in
+        (typed_fits bounds test) (typed_fits bounds a) (typed_fits bounds b) e
+    typed_fits bounds (Bind variable left body) t e =
         bind_fits (tys_of bounds) (typed F names bounds left) (λ l. typed F names (record { name = variable; ty = l.ty } ∷ bounds) body) t
-        (typed_fits bounds left both.0) (λ l b is. typed_fits (record { name = variable; ty = l.ty } ∷ bounds) body both.1 b is) e
-    typed_fits bounds (Join child) plain t e = join_fits (tys_of bounds) (typed F names bounds child) t (typed_fits bounds child plain) e
-    typed_fits bounds (Fold function first elements) plain t e =
+        (typed_fits bounds left) (λ l b is. typed_fits (record { name = variable; ty = l.ty } ∷ bounds) body b is) e
+    typed_fits bounds (Join child) t e = join_fits (tys_of bounds) (typed F names bounds child) t (typed_fits bounds child) e
+    typed_fits bounds (Fold function first elements) t e =
         fold_fits (tys_of bounds) function first (F.named function) (typed_each F names bounds elements) t refl
-        (typed_each_fit bounds elements plain) e
-    typed_fits bounds (grammar.At time) plain t e = subst (Fits (tys_of bounds)) (some_is _ t e) refl
-    typed_fits bounds grammar.Now plain t e = subst (Fits (tys_of bounds)) (some_is _ t e) refl
-    typed_fits bounds (grammar.Steps first steps) plain t e =
+        (typed_each_fit bounds elements) e
+    typed_fits bounds (grammar.At time) t e = subst (Fits (tys_of bounds)) (some_is _ t e) refl
+    typed_fits bounds grammar.Now t e = subst (Fits (tys_of bounds)) (some_is _ t e) refl
+    typed_fits bounds (grammar.Steps first steps) t e =
         stepped_fits (tys_of bounds) (typed_literal names first) (λ u. steps_of_type names u steps) t
         (λ x is. typed_value_fits names earlier first x is) (λ u ss is. steps_fit names earlier u steps ss is) e
-    typed_fits bounds _ plain t e = absurd (cc)
+    typed_fits bounds _ t e = absurd (cc)
 
-    typed_each_fit : (bounds : List Bound) (trees : Trees) → are_plain trees ≡ true → (ts : TypedFormulas)
+    typed_each_fit : (bounds : List Bound) (trees : Trees) → (ts : TypedFormulas)
         → typed_each F names bounds trees ≡ Some ts → AllFit (tys_of bounds) ts
-    typed_each_fit bounds End plain ts e = subst (AllFit (tys_of bounds)) (some_is _ ts e) tt
-    typed_each_fit bounds (More first rest) plain ts e =
-        let both = both_true (is_plain first) (are_plain rest) plain in
-        more_fit (tys_of bounds) (typed F names bounds first) (typed_each F names bounds rest) ts (typed_fits bounds first both.0)
-        (typed_each_fit bounds rest both.1) e
+    typed_each_fit bounds End ts e = subst (AllFit (tys_of bounds)) (some_is _ ts e) tt
+    typed_each_fit bounds (More first rest) ts e =
+        more_fit (tys_of bounds) (typed F names bounds first) (typed_each F names bounds rest) ts (typed_fits bounds first)
+        (typed_each_fit bounds rest) e
 
   -- ---- commands
 
@@ -470,37 +466,145 @@ module _ (F : Meanings) (known : FnRef → Bool) (names : Names) (earlier : AreE
       (none_holds (Stands l) line_order TimeTooLarge none (inr (inr (inr (inr (inr (inr (inr (inr (inr (inr (inl refl))))))))))))
 
   -- a formula that may stand within others
-  computed_fits : (name : List ℕ) (tree : Tree) (c : Command) → is_plain tree ≡ true → is_top_form tree ≡ false → first_named name names.declared ≡ None
+  computed_fits : (name : List ℕ) (tree : Tree) (c : Command) → is_top_form tree ≡ false → first_named name names.declared ≡ None
       → command_of F names (grammar.Let name tree) ≡ Some c → FitsNames known names c
-  computed_fits name tree c plain inner free e =
+  computed_fits name tree c inner free e =
       let top = computed_top F names tree inner in
       let allowed : and_then (and_then (typed F names [] tree) (λ t. body_as (model.Computed t.formula nothing_kept) t.ty))
       (λ t. Some (Declare name t.ty t.body)) ≡ Some c = rw (← top) e in
-      let_fits name tree (typed F names [] tree) c free (typed_fits [] tree plain) allowed
+      let_fits name tree (typed F names [] tree) c free (typed_fits [] tree) allowed
 
-  formula_fits : (name : List ℕ) (tree : Tree) (c : Command) → is_plain tree ≡ true → first_named name names.declared ≡ None
+  -- a freeze of a formula
+  freeze_fits : (name : List ℕ) (child : Option TypedFormula) (found : Option FnRef) (c : Command) → first_named name names.declared ≡ None
+      → ((t : TypedFormula) → child ≡ Some t → Fits [] t) → ((f : FnRef) → found ≡ Some f → FunctionFits known f)
+      → and_then (and_then child (λ t. and_then found (λ f. frozen_when t f))) (λ t. Some (Declare name t.ty t.body)) ≡ Some c
+      → FitsNames known names c
+  freeze_fits name None found c none fits is_map e = absurd (cc)
+  freeze_fits name (Some t) None c none fits is_map e = absurd (cc)
+  freeze_fits name (Some t) (Some f) c none fits is_map e = go (same_types f.sig.takes (t.ty ∷ [])) (same_ty f.sig.gives types.Bool) refl refl e
+    where
+      go : (p q : Bool) → same_types f.sig.takes (t.ty ∷ []) ≡ p → same_ty f.sig.gives types.Bool ≡ q
+          → and_then (cond p (cond q (body_as (model.Freeze t.formula f None) t.ty) None) None) (λ t. Some (Declare name t.ty t.body)) ≡ Some c
+          → FitsNames known names c
+      go true true takes gives e =
+          let freeze : FreezeFits known names t.formula f t.ty = record {
+            child_fits = fits t refl;
+            predicate_fits = is_map f refl;
+            takes = types_true f.sig.takes (t.ty ∷ []) takes;
+            gives = ty_true f.sig.gives types.Bool gives;
+          } in
+          subst (FitsNames known names) (some_is (Declare name t.ty (model.Freeze t.formula f None)) c e)
+          (record { fresh = none; body_fits = (freeze, refl); earlier = omega arith })
+      go true false takes gives e = absurd (cc)
+      go false q takes gives e = absurd (cc)
+
+  -- ---- experts
+
+  expert_fits : (name : List ℕ) (first : Literal) (found : Option FnRef) (c : Command) → first_named name names.declared ≡ None
+      → ((f : FnRef) → found ≡ Some f → FunctionFits known f)
+      → and_then found (λ f. and_then (expert_of names first f) (λ t. Some (Declare name t.ty t.body))) ≡ Some c → FitsNames known names c
+  expert_fits name first None c none is_map e = absurd (cc)
+  expert_fits name first (Some f) c none is_map e = over (element_of f f.sig.takes) refl e
+    where
+      from : (u : Ty) → element_of f f.sig.takes ≡ Some u → (o : Option Value) → ((v : Value) → o ≡ Some v → ValueFits names v f.sig.gives)
+          → and_then (and_then o (λ v. body_as (model.Expert f v [] 0) f.sig.gives)) (λ t. Some (Declare name t.ty t.body)) ≡ Some c
+          → FitsNames known names c
+      from u at None fits e = absurd (cc)
+      from u at (Some v) fits e =
+          let expert : ExpertFits known names f v f.sig.gives = record {
+            element = u;
+            function_fits = is_map f refl;
+            folds = (takes_pair f f.sig.takes u at, refl);
+            first_fits = fits v refl;
+          } in
+          subst (FitsNames known names) (some_is (Declare name f.sig.gives (model.Expert f v [] 0)) c e)
+          (record { fresh = none; body_fits = (expert, refl, refl); earlier = omega arith })
+
+      over : (element : Option Ty) → element_of f f.sig.takes ≡ element
+          → and_then (and_then element (λ u. and_then (literal_of_type names f.sig.gives first) (λ v. body_as (model.Expert f v [] 0) f.sig.gives)))
+          (λ t. Some (Declare name t.ty t.body)) ≡ Some c → FitsNames known names c
+      over None at e = absurd (cc)
+      over (Some u) at e = from u at (literal_of_type names f.sig.gives first) (λ v is. literal_fits names earlier f.sig.gives first v is) e
+
+  -- how what a name stands for was declared
+  abbrev kind_at : Option Declared → Option Kind
+  kind_at found = and_then found (λ d. and_then (slice_get names.declared d.target) (λ t. Some t.kind))
+
+  expert_kind : (k : Option Kind) → is_expert k ≡ true → (t : Ty) × (k ≡ Some (AnExpert t))
+  expert_kind (Some (AnExpert t)) e = (t, refl)
+  expert_kind k e = absurd (cc)
+
+  expert_is : (name : List ℕ) (x : Declared) → find_declared names name ≡ Some x → (t : Ty) → kind_at (Some x) ≡ Some (AnExpert t)
+      → IsExpertOf names x.target t
+  expert_is name x found t at = record { ty = x.ty; name = name_fits names earlier name x found; kind = at }
+
+  link_fits : (on name : List ℕ) (expert found : Option Declared) (c : Command) → find_declared names on ≡ expert → find_declared names name ≡ found
+      → and_then expert (λ x. and_then found (λ d. link_of (kind_at expert) x.target d)) ≡ Some c → FitsNames known names c
+  link_fits on name None found c there is e = absurd (cc)
+  link_fits on name (Some x) None c there is e = absurd (cc)
+  link_fits on name (Some x) (Some d) c there is e = go (kind_at (Some x)) refl e
+    where
+      same : (t : Ty) → kind_at (Some x) ≡ Some (AnExpert t) → (b : Bool) → same_ty d.ty t ≡ b → cond b (Some (Link x.target d.target)) None ≡ Some c
+          → FitsNames known names c
+      same t at true fits e =
+          let linked = subst (λ u. NameFits names d.target u) (ty_true d.ty t fits) (name_fits names earlier name d is) in
+          subst (FitsNames known names) (some_is (Link x.target d.target) c e)
+          (record { element = t; is_expert = expert_is on x there t at; linked = linked })
+      same t at false fits e = absurd (cc)
+
+      go : (k : Option Kind) → kind_at (Some x) ≡ k → link_of k x.target d ≡ Some c → FitsNames known names c
+      go (Some (AnExpert t)) at e = same t at (same_ty d.ty t) refl e
+      go k at e = absurd (cc)
+
+  unlink_fits : (on name : List ℕ) (expert found : Option Declared) (c : Command) → find_declared names on ≡ expert → find_declared names name ≡ found
+      → is_expert (kind_at expert) ≡ true
+      → and_then expert (λ x. and_then found (λ d. Some (Unlink x.target d.target))) ≡ Some c → FitsNames known names c
+  unlink_fits on name None found c there is kind e = absurd (cc)
+  unlink_fits on name (Some x) None c there is kind e = absurd (cc)
+  unlink_fits on name (Some x) (Some d) c there is kind e =
+      let at = expert_kind (kind_at (Some x)) kind in
+      subst (FitsNames known names) (some_is (Unlink x.target d.target) c e)
+      (record { element = at.0; is_expert = expert_is on x there at.0 at.1; ty = d.ty; linked = name_fits names earlier name d is })
+
+  stale_fits : (on : List ℕ) (expert : Option Declared) (c : Command) → find_declared names on ≡ expert → is_expert (kind_at expert) ≡ true
+      → and_then expert (λ x. Some (Stale x.target)) ≡ Some c → FitsNames known names c
+  stale_fits on None c there kind e = absurd (cc)
+  stale_fits on (Some x) c there kind e =
+      let at = expert_kind (kind_at (Some x)) kind in
+      subst (FitsNames known names) (some_is (Stale x.target) c e) (at.0, expert_is on x there at.0 at.1)
+
+  -- what a line asks of an expert, where it isn't refused
+  is_that_expert : (l : Line) (name : List ℕ) → experts_of l ≡ name ∷ [] → first_that (Stands l) line_order ≡ None
+      → is_expert (kind_of names name) ≡ true
+  is_that_expert l name one none =
+      let other = none_holds (Stands l) line_order NotExpert none (inr (inr (inr (inr (inr (inr (inr (inr (inl refl))))))))) in
+      let that : (not (is_expert (kind_of names name)) || false) ≡ false = rw one at other in
+      not_false (is_expert (kind_of names name)) (or_false (not (is_expert (kind_of names name))) that)
+
+  formula_fits : (name : List ℕ) (tree : Tree) (c : Command) → first_named name names.declared ≡ None
       → first_that (Stands (grammar.Let name tree)) line_order ≡ None → command_of F names (grammar.Let name tree) ≡ Some c → FitsNames known names c
-  formula_fits name (grammar.After span) c plain free none e =
+  formula_fits name (grammar.After span) c free none e =
       let fit = times_fit (grammar.Let name (grammar.After span)) none in
       timed_fits name types.Bool (model.After (names.now + unwrap_or span 0)) c free
       (refl, not_past names.now span (or_false (is_past names.now span) fit.1)) (omega arith) e
-  formula_fits name (grammar.Every span) c plain free none e =
+  formula_fits name (grammar.Every span) c free none e =
       let fit = times_fit (grammar.Let name (grammar.Every span)) none in
       let some = none_holds (Stands (grammar.Let name (grammar.Every span))) line_order SpanIsZero none
       (inr (inr (inr (inr (inr (inr (inr (inr (inr (inr (inr (inr (inl refl))))))))))))) in
       timed_fits name types.Int (model.Every names.now (unwrap_or span 0)) c free
       (refl, refl, not_empty span (or_false (is_none span) fit.0) (or_false (is_empty_interval (grammar.Every span)) some)) (omega arith) e
-  formula_fits name (grammar.Freeze child predicate) c plain free none e = absurd (cc)
-  formula_fits name (grammar.Literal l) c plain free none e = computed_fits name (grammar.Literal l) c plain refl free e
-  formula_fits name (grammar.Name n) c plain free none e = computed_fits name (grammar.Name n) c plain refl free e
-  formula_fits name (Call f arguments) c plain free none e = computed_fits name (Call f arguments) c plain refl free e
-  formula_fits name (If test a b) c plain free none e = computed_fits name (If test a b) c plain refl free e
-  formula_fits name (Bind v left body) c plain free none e = computed_fits name (Bind v left body) c plain refl free e
-  formula_fits name (Join child) c plain free none e = computed_fits name (Join child) c plain refl free e
-  formula_fits name (Fold f first elements) c plain free none e = computed_fits name (Fold f first elements) c plain refl free e
-  formula_fits name (grammar.At time) c plain free none e = computed_fits name (grammar.At time) c plain refl free e
-  formula_fits name grammar.Now c plain free none e = computed_fits name grammar.Now c plain refl free e
-  formula_fits name (grammar.Steps first steps) c plain free none e = computed_fits name (grammar.Steps first steps) c plain refl free e
+  formula_fits name (grammar.Freeze child predicate) c free none e =
+      freeze_fits name (typed F names [] child) (F.named predicate) c free (typed_fits [] child) (λ f is. maps predicate f is) e
+  formula_fits name (grammar.Literal l) c free none e = computed_fits name (grammar.Literal l) c refl free e
+  formula_fits name (grammar.Name n) c free none e = computed_fits name (grammar.Name n) c refl free e
+  formula_fits name (Call f arguments) c free none e = computed_fits name (Call f arguments) c refl free e
+  formula_fits name (If test a b) c free none e = computed_fits name (If test a b) c refl free e
+  formula_fits name (Bind v left body) c free none e = computed_fits name (Bind v left body) c refl free e
+  formula_fits name (Join child) c free none e = computed_fits name (Join child) c refl free e
+  formula_fits name (Fold f first elements) c free none e = computed_fits name (Fold f first elements) c refl free e
+  formula_fits name (grammar.At time) c free none e = computed_fits name (grammar.At time) c refl free e
+  formula_fits name grammar.Now c free none e = computed_fits name grammar.Now c refl free e
+  formula_fits name (grammar.Steps first steps) c free none e = computed_fits name (grammar.Steps first steps) c refl free e
 
   -- the clock is moved on to a time that it may come to
   advance_fits : (time : ℕ) (c : Command) → TimeFits names time → Some (Advance time) ≡ Some c → FitsNames known names c
@@ -511,49 +615,58 @@ module _ (F : Meanings) (known : FnRef → Bool) (names : Names) (earlier : AreE
   advance_to_fits None c has large back e = absurd (cc)
   advance_to_fits (Some time) c has large back e = advance_fits time c (not_back names.now time back, has) e
 
-  pub check_fits : (l : Line) (c : Command) → is_here l ≡ true → HasTime l → first_that (Stands l) line_order ≡ None → command_of F names l ≡ Some c
+  pub check_fits : (l : Line) (c : Command) → HasTime l → first_that (Stands l) line_order ≡ None → command_of F names l ≡ Some c
       → FitsNames known names c
-  check_fits (grammar.Var name t first) c plain has none e =
+  check_fits (grammar.Var name t first) c has none e =
       let taken = none_holds (Stands (grammar.Var name t first)) line_order NameTaken none (inl refl) in
       var_fits name t first (literal_of_type names t first) c (fresh name taken)
       (λ v at. literal_fits names earlier t first v at) e
-  check_fits (grammar.Set name literal) c plain has none e =
+  check_fits (grammar.Set name literal) c has none e =
       let other = none_holds (Stands (grammar.Set name literal)) line_order NotVariable none (inr (inr (inr (inr (inr (inr (inl refl))))))) in
       let variable : is_variable (kind_of names name) ≡ true =
       not_false (is_variable (kind_of names name)) (or_false (not (is_variable (kind_of names name))) other) in
       set_fits name literal (find_declared names name) c refl variable e
-  check_fits (grammar.Let name tree) c plain has none e =
+  check_fits (grammar.Let name tree) c has none e =
       let taken = none_holds (Stands (grammar.Let name tree)) line_order NameTaken none (inl refl) in
-      formula_fits name tree c plain (fresh name taken) none e
-  check_fits (grammar.Grab name bind) c plain has none e =
+      formula_fits name tree c (fresh name taken) none e
+  check_fits (grammar.Grab name bind) c has none e =
       let taken = none_holds (Stands (grammar.Grab name bind)) line_order NameTaken none (inl refl) in
       let other = none_holds (Stands (grammar.Grab name bind)) line_order NotBind none (inr (inr (inr (inr (inr (inr (inr (inl refl)))))))) in
       let kind : is_bind (kind_of names bind) ≡ true =
       not_false (is_bind (kind_of names bind)) (or_false (not (is_bind (kind_of names bind))) other) in
       grab_fits name bind (find_declared names bind) c (fresh name taken) refl kind e
-  check_fits (grammar.Observe observer name) c plain has none e =
+  check_fits (grammar.Observe observer name) c has none e =
       let taken = none_holds (Stands (grammar.Observe observer name)) line_order ObserverTaken none (inr (inl refl)) in
       observe_fits observer name (find_declared names name) c refl (or_false (is_among names.observers observer) taken) e
-  check_fits (grammar.Unobserve observer) c plain has none e =
+  check_fits (grammar.Unobserve observer) c has none e =
       let unknown = none_holds (Stands (grammar.Unobserve observer)) line_order ObserverUnknown none (inr (inr (inr (inl refl)))) in
       subst (FitsNames known names) (some_is (Unobserve observer) c e)
       (not_false (is_among names.observers observer) (or_false (not (is_among names.observers observer)) unknown))
-  check_fits (grammar.Watch observer) c plain has none e =
+  check_fits (grammar.Watch observer) c has none e =
       let unknown = none_holds (Stands (grammar.Watch observer)) line_order ObserverUnknown none (inr (inr (inr (inl refl)))) in
       subst (FitsNames known names) (some_is (Watch observer) c e)
       (not_false (is_among names.observers observer) (or_false (not (is_among names.observers observer)) unknown))
-  check_fits (grammar.Advance span) c plain has none e =
+  check_fits (grammar.Advance span) c has none e =
       let fit = times_fit (grammar.Advance span) none in
       advance_fits (names.now + unwrap_or span 0) c
       (omega arith, not_past names.now span (or_false (is_past names.now span) fit.1)) e
-  check_fits (grammar.AdvanceTo time) c plain has none e =
+  check_fits (grammar.AdvanceTo time) c has none e =
       let fit = times_fit (grammar.AdvanceTo time) none in
       let back = none_holds (Stands (grammar.AdvanceTo time)) line_order BackInTime none
       (inr (inr (inr (inr (inr (inr (inr (inr (inr (inr (inr (inr (inr (inl refl)))))))))))))) in
       advance_to_fits time c has (or_false (is_none time) fit.0) back e
-  check_fits grammar.Stabilize c plain has none e = subst (FitsNames known names) (some_is Stabilize c e) tt
-  check_fits (grammar.Show observer) c plain has none e =
+  check_fits grammar.Stabilize c has none e = subst (FitsNames known names) (some_is Stabilize c e) tt
+  check_fits (grammar.Show observer) c has none e =
       let unknown = none_holds (Stands (grammar.Show observer)) line_order ObserverUnknown none (inr (inr (inr (inl refl)))) in
       subst (FitsNames known names) (some_is (Show observer) c e)
       (not_false (is_among names.observers observer) (or_false (not (is_among names.observers observer)) unknown))
-  check_fits _ c plain has none e = absurd (cc)
+  check_fits (grammar.Expert name function first) c has none e =
+      let taken = none_holds (Stands (grammar.Expert name function first)) line_order NameTaken none (inl refl) in
+      expert_fits name first (F.named function) c (fresh name taken) (λ f is. maps function f is) e
+  check_fits (grammar.Link expert name) c has none e =
+      link_fits expert name (find_declared names expert) (find_declared names name) c refl refl e
+  check_fits (grammar.Unlink expert name) c has none e =
+      unlink_fits expert name (find_declared names expert) (find_declared names name) c refl refl
+      (is_that_expert (grammar.Unlink expert name) expert refl none) e
+  check_fits (grammar.Stale expert) c has none e =
+      stale_fits expert (find_declared names expert) c refl (is_that_expert (grammar.Stale expert) expert refl none) e

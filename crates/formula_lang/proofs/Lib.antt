@@ -1,6 +1,6 @@
 mod Fitting
 mod Listing
-mod Plainness
+mod Within
 mod Table
 mod TypedArguments
 mod TypedSteps

@@ -1,35 +1,20 @@
 -- The table of refusals, as the code goes by it.
 use Rattle.std.proofs.Common.{◌≡◌, ℕ, ◌+◌, ◌<◌, Bool, true, false, cond, List, [], ◌∷◌, length, map, drop, get_or, inl, inr, is_none, Option, None, Some, Result, Ok, Err, IfOk, refl, ap, sym, ◌∙◌}
 use Rattle.std.proofs.lemmas.List.{drop_more}
-use Rattle.script_model.specs.Check.{Names, Reason, NameTaken, ObserverTaken, NameUnknown, ObserverUnknown, FunctionUnknown, NotWhole, NotVariable, NotBind, NotExpert, IllTyped, TimeTooLarge, TimesNotRising, SpanIsZero, BackInTime, command_of, first_that, is_against, line_order}
+use Rattle.script_model.specs.Check.{Names, Reason, IllTyped, command_of, first_that, is_against, line_order}
 use Rattle.inc_value.specs.Choice.{Among}
 use Rattle.script_model.specs.Formula.{Meanings}
 use Rattle.script_model.specs.Grammar.{Line}
-use Rattle.script_model.specs.Here.{is_here}
 use Rattle.formula_lang.specs.Verdict.{reason_view}
 use Rattle.formula_lang.specs.declared.refusal.Reason as code
 use Rattle.formula_lang.specs.declared.refusal.Reason.TheVariants as reason
-use Rattle.formula_lang.proofs.Plainness.{not_expert}
 
--- the rows that can hold for a line of forms that are here, in order
-abbrev pub rows_here : List Reason
-rows_here =
-    NameTaken ∷ ObserverTaken ∷ NameUnknown ∷ ObserverUnknown ∷ FunctionUnknown ∷ NotWhole ∷ NotVariable ∷ NotBind ∷ IllTyped ∷ TimeTooLarge
-    ∷ TimesNotRising ∷ SpanIsZero ∷ BackInTime ∷ []
-
--- the same as the code has them
+-- the rows in the order in which the code looks at them
 abbrev pub code_order : List code.Reason
 code_order =
     reason.NameTaken ∷ reason.ObserverTaken ∷ reason.NameUnknown ∷ reason.ObserverUnknown ∷ reason.FunctionUnknown ∷ reason.NotWhole
-    ∷ reason.NotVariable ∷ reason.NotBind ∷ reason.IllTyped ∷ reason.TimeTooLarge ∷ reason.TimesNotRising ∷ reason.SpanIsZero
+    ∷ reason.NotVariable ∷ reason.NotBind ∷ reason.NotExpert ∷ reason.IllTyped ∷ reason.TimeTooLarge ∷ reason.TimesNotRising ∷ reason.SpanIsZero
     ∷ reason.BackInTime ∷ []
-
-skips : (h : Reason → Bool) → h NotExpert ≡ false → first_that h rows_here ≡ first_that h line_order
-skips h a = rw a refl
-
-pub table_same : (F : Meanings) (names : Names) (l : Line) → is_here l ≡ true
-    → first_that (is_against F names l) rows_here ≡ first_that (is_against F names l) line_order
-table_same F names l plain = skips (is_against F names l) (not_expert F names l plain)
 
 -- where none holds, each one doesn't
 pub none_holds : (h : Reason → Bool) (rs : List Reason) (r : Reason) → first_that h rs ≡ None → Among r rs → h r ≡ false

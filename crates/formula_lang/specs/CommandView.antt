@@ -1,5 +1,5 @@
 -- Checked commands as the model of scripts sees them.
-use Rattle.std.specs.Prelude.{List, [], ◌∷◌, map}
+use Rattle.std.specs.Prelude.{List, [], ◌∷◌, map, None}
 use Rattle.script_model.specs.Check as model
 use Rattle.script_model.specs.Formula as formula
 use Rattle.script_model.specs.Formula.{nothing_kept}
@@ -56,6 +56,8 @@ body_view (declaration.Variable value) = formula.Variable (constant_view value)
 body_view (declaration.Computed f) = formula.Computed (formula_view f) nothing_kept
 body_view (declaration.After time) = formula.After time
 body_view (declaration.Every base span) = formula.Every base span
+body_view (declaration.Frozen child predicate) = formula.Freeze (formula_view child) predicate None
+body_view (declaration.Expert function first) = formula.Expert function (constant_view first) [] 0
 
 -- a command with its positions
 abbrev pub command_view : Command → model.Command
@@ -65,6 +67,9 @@ command_view (command.Assign target value) = model.Assign target (constant_view 
 command_view (command.Observe observer target) = model.Observe observer target
 command_view (command.Unobserve observer) = model.Unobserve observer
 command_view (command.Watch observer) = model.Watch observer
+command_view (command.Link expert target) = model.Link expert target
+command_view (command.Unlink expert target) = model.Unlink expert target
+command_view (command.Stale expert) = model.Stale expert
 command_view (command.Advance time) = model.Advance time
 command_view command.Stabilize = model.Stabilize
 command_view (command.Show observer) = model.Show observer

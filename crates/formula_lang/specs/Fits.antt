@@ -1,6 +1,5 @@
 -- What is true of every command that is allowed: its names, functions and types fit together.
 use Rattle.std.specs.Prelude.{◌≡◌, ◌<◌, ◌≤◌, ◌^◌, ℕ, Bool, List, [], ◌∷◌, length, None, Some, slice_get, IsTrue, IsFalse}
-use Rattle.formula_lang.specs.Here.{OtherFits}
 use Rattle.inc_value.specs.Sig.{IsMapSig}
 use Rattle.inc_value.specs.Ty.{IsBase, type_of_base}
 use Rattle.inc_value.specs.declared.function.FnKind.TheVariants.{Map}
@@ -8,9 +7,9 @@ use Rattle.inc_value.specs.declared.function.FnRef.{FnRef}
 use Rattle.inc_value.specs.declared.ty.Base.{Base}
 use Rattle.inc_value.specs.declared.ty.Ty.{Ty}
 use Rattle.inc_value.specs.declared.ty.Ty.TheVariants as types
-use Rattle.script_model.specs.Check.{Command, Declare, Assign, Take, Observe, Unobserve, Watch, Advance, Stabilize, Show, Declared, Names, first_named, is_among, is_bind, is_variable, target_of_body}
+use Rattle.script_model.specs.Check.{Command, Declare, Assign, Link, Unlink, Stale, Take, Observe, Unobserve, Watch, Advance, Stabilize, Show, Declared, Expert as AnExpert, Names, first_named, is_among, is_bind, is_variable, target_of_body}
 use Rattle.inc_value.specs.Choice.{Every as Each, and_then}
-use Rattle.script_model.specs.Formula.{Formula, Formulas, TimedValue, Body, Literal, Name, Bound, Apply, Fold, If, Join, Bind, At, Steps, Now, End, More, Variable, Computed, After, Every, nothing_kept}
+use Rattle.script_model.specs.Formula.{Formula, Formulas, TimedValue, Body, Literal, Name, Bound, Apply, Fold, If, Join, Bind, At, Steps, Now, End, More, Variable, Computed, Freeze, After, Every, Expert, Grab, nothing_kept}
 use Rattle.script_model.specs.Valid.{FoldsOver}
 use Rattle.script_model.specs.Values.{Value, Reference, type_of}
 
@@ -43,8 +42,8 @@ abbrev pub StepsFit : Names → List TimedValue → Ty → Type 0
 StepsFit names steps ty = Each (λ (s : TimedValue). ValueFits names s.value ty) steps
 
 abbrev mutual
-  -- within binds whose variables have these types, the innermost first, the formula is of forms that are here and has the
-  -- type, and each of its functions, names and references fits
+  -- within binds whose variables have these types, the innermost first, the formula has the type, and each of its functions,
+  -- names and references fits
   pub FormulaFits : (FnRef → Bool) → Names → List Ty → Formula → Ty → Type 0
   FormulaFits known names bounds (Literal v) ty = ValueFits names v ty
   FormulaFits known names bounds (Name position) ty = NameFits names position ty
@@ -78,13 +77,29 @@ abbrev mutual
   ElementsFit known names bounds (More f rest) ty =
       FormulaFits known names bounds f ty × ElementsFit known names bounds rest ty
 
--- what is declared is of forms that are here and has the type, and nothing is kept of it
+-- a formula of the type, and a predicate on its values
+pub record FreezeFits (known : FnRef → Bool) (names : Names) (child : Formula) (predicate : FnRef) (ty : Ty) : Type 0 where
+  pub child_fits : FormulaFits known names [] child ty
+  pub predicate_fits : FunctionFits known predicate
+  pub takes : predicate.sig.takes ≡ ty ∷ []
+  pub gives : predicate.sig.gives ≡ types.Bool
+
+-- a function that folds elements of a type from the first value on
+pub record ExpertFits (known : FnRef → Bool) (names : Names) (f : FnRef) (first : Value) (ty : Ty) : Type 0 where
+  pub element : Ty
+  pub function_fits : FunctionFits known f
+  pub folds : FoldsOver f ty element
+  pub first_fits : ValueFits names first ty
+
+-- what is declared has the type, and nothing is kept of it
 abbrev pub BodyFits : (FnRef → Bool) → Names → Body → Ty → Type 0
 BodyFits known names (Variable v) ty = ValueFits names v ty
 BodyFits known names (Computed f kept) ty = FormulaFits known names [] f ty × (kept ≡ nothing_kept)
 BodyFits known names (After time) ty = (types.Bool ≡ ty) × (time < 2 ^ 63)
 BodyFits known names (Every base span) ty = (types.Int ≡ ty) × (base ≡ names.now) × (0 < span)
-BodyFits known names body ty = OtherFits
+BodyFits known names (Freeze child predicate frozen) ty = FreezeFits known names child predicate ty × (frozen ≡ None)
+BodyFits known names (Expert f first links stale) ty = ExpertFits known names f first ty × (links ≡ []) × (stale ≡ 0)
+BodyFits known names (Grab bind v is_live) ty = ⊥
 
 -- a new name that may be declared; the name that it stands for comes no later
 pub record DeclarationFits (known : FnRef → Bool) (names : Names) (name : List ℕ) (ty : Ty) (body : Body) : Type 0 where
@@ -113,7 +128,26 @@ pub record ObserverFits (names : Names) (observer : List ℕ) (target : ℕ) : T
   pub fresh : IsFalse (is_among names.observers observer)
   pub earlier : target < length names.declared
 
--- the names, functions and types of a command fit together, and it is of forms that are here
+-- a name stands for the declaration at the position, which is an expert whose elements have the type
+pub record IsExpertOf (names : Names) (expert : ℕ) (element : Ty) : Type 0 where
+  pub ty : Ty
+  pub name : NameFits names expert ty
+  pub kind : and_then (slice_get names.declared expert) (λ d. Some d.kind) ≡ Some (AnExpert element)
+
+-- a declaration of the type that the expert takes
+pub record LinkFits (names : Names) (expert target : ℕ) : Type 0 where
+  pub element : Ty
+  pub is_expert : IsExpertOf names expert element
+  pub linked : NameFits names target element
+
+-- a declaration, and an expert
+pub record UnlinkFits (names : Names) (expert target : ℕ) : Type 0 where
+  pub element : Ty
+  pub is_expert : IsExpertOf names expert element
+  pub ty : Ty
+  pub linked : NameFits names target ty
+
+-- the names, functions and types of a command fit together
 abbrev pub FitsNames : (FnRef → Bool) → Names → Command → Type 0
 FitsNames known names (Declare name ty body) = DeclarationFits known names name ty body
 FitsNames known names (Take name ty bind) = GrabFits names name ty bind
@@ -124,4 +158,6 @@ FitsNames known names (Watch observer) = IsTrue (is_among names.observers observ
 FitsNames known names (Advance time) = TimeFits names time
 FitsNames known names Stabilize = Unit {0}
 FitsNames known names (Show observer) = IsTrue (is_among names.observers observer)
-FitsNames known names command = OtherFits
+FitsNames known names (Link expert target) = LinkFits names expert target
+FitsNames known names (Unlink expert target) = UnlinkFits names expert target
+FitsNames known names (Stale expert) = (element : Ty) × IsExpertOf names expert element

@@ -1,6 +1,6 @@
 pub mod CommandView
 pub mod Fits
-pub mod Here
+pub mod Within
 pub mod NamesView
 pub mod Rows
 pub mod Typing

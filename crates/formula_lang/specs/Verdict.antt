@@ -12,6 +12,7 @@ reason_view reason.FunctionUnknown = model.FunctionUnknown
 reason_view reason.NotWhole = model.NotWhole
 reason_view reason.NotVariable = model.NotVariable
 reason_view reason.NotBind = model.NotBind
+reason_view reason.NotExpert = model.NotExpert
 reason_view reason.IllTyped = model.IllTyped
 reason_view reason.TimeTooLarge = model.TimeTooLarge
 reason_view reason.TimesNotRising = model.TimesNotRising

@@ -2,8 +2,7 @@
 ghost use Rattle.std.specs.Prelude.{◌≡◌, ◌+◌, ℕ, false, true, IfOk, IsErrOf, None, Some, option_map, unwrap_or};
 ghost use Rattle.script_model.specs.Check.{Declare, Names as AllNames, Reason as AReason, command_of, first_that, is_against, is_top_form, line_order, reason_number};
 ghost use Rattle.script_model.specs.Formula.{Meanings, meanings_of};
-ghost use Rattle.script_model.specs.Grammar.{Var, Set, Let, Grab, Observe, Show, Unobserve, Watch};
-ghost use Rattle.script_model.specs.Here.{is_here, is_plain};
+ghost use Rattle.script_model.specs.Grammar.{Var, Set, Let, Freeze, Expert, Link, Unlink, Stale, Grab, Observe, Show, Unobserve, Watch};
 ghost use Rattle.formula_lang.specs.CommandView.{body_view, command_view};
 ghost use Rattle.formula_lang.specs.Fits.{FitsNames};
 ghost use Rattle.formula_lang.specs.Verdict.{reason_view};
@@ -13,9 +12,9 @@ ghost use Rattle.line_parser.specs.View.{literal_view, time_view};
 
 use crate::command::{Command, Declaration};
 use crate::mentioning::mentions_unknown;
-use crate::names::Names;
+use crate::names::{Kind, Names};
 use crate::refusal::{Reason, first_reason};
-use crate::typing::{declared_as, literal_of_type, typed};
+use crate::typing::{declared_as, element_of, is_same_type, literal_of_type, typed};
 use inc_value::Ty;
 use line_parser::{Line, Literal, Name, Time, Tree};
 use line_times::nanoseconds_of;
@@ -28,8 +27,9 @@ use thiserror::Error;
 pub enum CheckFault {
     /// It is refused, with the number that is printed: 3 for a name that is taken, 4 for one that
     /// is unknown, 5 for an unknown function, 6 for types that don't fit, 7 for a `set` of what is
-    /// no variable, 8 for a `grab` of what is no bind, 11 for an unknown observer, 12 for one
-    /// that is in use, 14 for an `after` or an `every` within a formula, 15 for a time that is past,
+    /// no variable, 8 for a `grab` of what is no bind, 10 for a `link`, an `unlink` or a `stale` of
+    /// what is no expert, 11 for an unknown observer, 12 for one that is in use, 14 for a `freeze`,
+    /// an `after` or an `every` within a formula, 15 for a time that is past,
     /// 16 for one beyond the greatest, 17 for steps whose times don't rise, and 18 for an empty span.
     #[error("refused {0}")]
     Refusal(u8),
@@ -53,14 +53,13 @@ impl From<AllocError> for CheckFault {
 /// reason in the order of refusals that stands against the line. Each is looked at over the whole
 /// line before the next. Names, functions and types of what comes back fit together.
 ///
-/// The line is of forms that are here. `Memory` may come at any point.
+/// `Memory` may come at any point.
 pub fn check<L: Library>(
     alloc: Global,
     line: &Line,
     names: &Names,
     library: &L,
 ) -> Result<Command, CheckFault>
-    requires { is_here (line_view line.now) ≡ true }
     ensures allowed { IfOk result (λ c. let F = meanings_of (L.named library.now) (L.value library.now) in
         (first_that (is_against F names.entry.now (line_view line.now)) line_order ≡ None)
         × (command_of F names.entry.now (line_view line.now) ≡ Some (command_view c))) }
@@ -102,7 +101,6 @@ fn command_of<L: Library>(
     names: &Names,
     library: &L,
 ) -> Result<Option<Command>, AllocError>
-    requires { is_here (line_view line.now) ≡ true }
     ensures { IfOk result (λ c. option_map command_view c
         ≡ command_of (meanings_of (L.named library.now) (L.value library.now)) names.entry.now (line_view line.now)) }
 {
@@ -114,6 +112,14 @@ fn command_of<L: Library>(
         Line::Observe { observer, name } => observation(alloc, names, observer, name),
         Line::Unobserve { observer } => ending(alloc, observer),
         Line::Watch { observer } => watching(alloc, observer),
+        Line::Expert {
+            name,
+            function,
+            first,
+        } => expert(alloc, names, library, name, function, first),
+        Line::Link { expert, name } => Ok(linking(names, expert, name)),
+        Line::Unlink { expert, name } => Ok(unlinking(names, expert, name)),
+        Line::Stale { expert } => Ok(renewal(names, expert)),
         Line::Advance { span } => Ok(Some(Command::Advance {
             time: after(names, *span),
         })),
@@ -122,7 +128,6 @@ fn command_of<L: Library>(
         })),
         Line::Stabilize => Ok(Some(Command::Stabilize)),
         Line::Show { observer } => showing(alloc, observer),
-        _ => unreachable!(),
     }
 }
 
@@ -176,7 +181,6 @@ fn definition<L: Library>(
     name: &Name,
     formula: &Tree,
 ) -> Result<Option<Command>, AllocError>
-    requires { is_plain (tree_view formula.now) ≡ true }
     ensures { IfOk result (λ c. option_map command_view c
         ≡ command_of (meanings_of (L.named library.now) (L.value library.now)) names.entry.now (Let name.now (tree_view formula.now))) }
 {
@@ -200,11 +204,103 @@ fn definition<L: Library>(
         | Tree::Join { .. }
         | Tree::At(_)
         | Tree::Steps { .. } => computed(alloc, names, library, name, formula),
-        Tree::Freeze { .. } => unreachable!(),
+        Tree::Freeze {
+            child,
+            predicate,
+            around,
+        } => match around.as_slice() {
+            [] => freeze(alloc, names, library, name, child, predicate),
+            // (a freeze within a freeze)
+            [_, ..] => Ok(None),
+        },
     }
 }
 
-/// The declaration of a name for what reads the clock.
+/// The declaration of a name for the first value of a formula on which a predicate is true.
+fn freeze<L: Library>(
+    alloc: Global,
+    names: &Names,
+    library: &L,
+    name: &Name,
+    child: &Tree,
+    predicate: &Name,
+) -> Result<Option<Command>, AllocError>
+    ensures { IfOk result (λ c. option_map command_view c
+        ≡ command_of (meanings_of (L.named library.now) (L.value library.now)) names.entry.now (Let name.now (Freeze (tree_view child.now) predicate.now))) }
+{
+    let Some(predicate) = library.find(predicate.bytes()) else {
+        return Ok(None);
+    };
+    match typed(alloc, names, library, &[], child) {
+        Ok(Some(child)) => child.frozen(alloc, name, predicate),
+        Ok(None) => Ok(None),
+        Err(fault) => Err(fault),
+    }
+}
+
+/// The declaration of a name for the fold of a list that commands change.
+fn expert<L: Library>(
+    alloc: Global,
+    names: &Names,
+    library: &L,
+    name: &Name,
+    function: &Name,
+    first: &Literal,
+) -> Result<Option<Command>, AllocError>
+    ensures { IfOk result (λ c. option_map command_view c
+        ≡ command_of (meanings_of (L.named library.now) (L.value library.now)) names.entry.now
+        (Expert name.now function.now (literal_view first.now))) }
+{
+    let Some(function) = library.find(function.bytes()) else {
+        return Ok(None);
+    };
+    if element_of(&function).is_none() {
+        return Ok(None);
+    }
+    let ty = function.sig.gives();
+    let first = match literal_of_type(alloc, names, ty, first) {
+        Ok(Some(first)) => first,
+        Ok(None) => return Ok(None),
+        Err(fault) => return Err(fault),
+    };
+    timed(alloc, name, ty, Declaration::Expert { function, first })
+}
+
+/// The linking of a declaration to an expert, if it has the type that the expert takes.
+fn linking(names: &Names, expert: &Name, name: &Name) -> Option<Command>
+    ensures { (F : Meanings) → option_map command_view result ≡ command_of F names.entry.now (Link expert.now name.now) }
+{
+    let expert = declared_as(names, expert)?.target;
+    let linked = declared_as(names, name)?;
+    match names.get(expert).kind {
+        Kind::Expert { takes } if is_same_type(linked.ty, takes) => Some(Command::Link {
+            expert,
+            target: linked.target,
+        }),
+        _ => None,
+    }
+}
+
+/// The unlinking of a declaration from an expert.
+fn unlinking(names: &Names, expert: &Name, name: &Name) -> Option<Command>
+    ensures { (F : Meanings) → option_map command_view result ≡ command_of F names.entry.now (Unlink expert.now name.now) }
+{
+    Some(Command::Unlink {
+        expert: declared_as(names, expert)?.target,
+        target: declared_as(names, name)?.target,
+    })
+}
+
+/// The renewal of an expert.
+fn renewal(names: &Names, expert: &Name) -> Option<Command>
+    ensures { (F : Meanings) → option_map command_view result ≡ command_of F names.entry.now (Stale expert.now) }
+{
+    Some(Command::Stale {
+        expert: declared_as(names, expert)?.target,
+    })
+}
+
+/// The declaration of a name for what is no formula of others.
 fn timed(
     alloc: Global,
     name: &Name,

@@ -1,8 +1,11 @@
 //! Commands whose names, functions and types are checked.
 ghost use Rattle.std.specs.Prelude.{◌≡◌};
-ghost use Rattle.script_model.specs.Check.{target_of_body};
+ghost use Rattle.script_model.specs.Check.{kind_of_body, target_of_body};
 ghost use Rattle.formula_lang.specs.CommandView.{body_view};
+ghost use Rattle.formula_lang.specs.NamesView.{kind_view};
 
+use crate::names::Kind;
+use crate::typing::element_of;
 use inc_value::{Base, FnRef, Text, Ty};
 use line_parser::Name;
 use line_times::Nanoseconds;
@@ -95,6 +98,16 @@ pub enum Declaration {
         base: Nanoseconds,
         span: Nanoseconds,
     },
+    /// The first value of a formula on which a predicate is true, and until then the formula.
+    Frozen {
+        child: Formula,
+        predicate: FnRef,
+    },
+    /// The fold of a function from a first value over a list of declarations, which commands change.
+    Expert {
+        function: FnRef,
+        first: Constant,
+    },
 }
 
 // (written out: whoever drops one proves one call, and no drop of its parts)
@@ -103,6 +116,11 @@ impl Drop for Declaration {
         match self {
             Declaration::Variable(first) => drop(first),
             Declaration::Computed(formula) => drop(formula),
+            Declaration::Frozen {
+                child,
+                predicate: _,
+            } => drop(child),
+            Declaration::Expert { function: _, first } => drop(first),
             Declaration::After(_) | Declaration::Every { base: _, span: _ } => {}
         }
     }
@@ -130,7 +148,37 @@ impl Declaration {
             )
             | Declaration::Variable(_)
             | Declaration::After(_)
-            | Declaration::Every { .. } => own,
+            | Declaration::Every { .. }
+            | Declaration::Frozen { .. }
+            | Declaration::Expert { .. } => own,
+        }
+    }
+
+    /// How a name is declared with it.
+    pub fn kind(&self) -> Kind
+        ensures { kind_view result ≡ kind_of_body (body_view self.now) }
+    {
+        match self {
+            Declaration::Variable(_) => Kind::Var,
+            Declaration::Computed(Formula::Bind { .. }) => Kind::Bind,
+            Declaration::Computed(
+                Formula::Literal(_)
+                | Formula::Name(_)
+                | Formula::Bound(_)
+                | Formula::Apply { .. }
+                | Formula::Fold { .. }
+                | Formula::If { .. }
+                | Formula::Join(_)
+                | Formula::At(_)
+                | Formula::Steps { .. }
+                | Formula::Now,
+            )
+            | Declaration::After(_)
+            | Declaration::Every { .. }
+            | Declaration::Frozen { .. } => Kind::Let,
+            Declaration::Expert { function, .. } => Kind::Expert {
+                takes: element_of(function).unwrap_or(Ty::Int),
+            },
         }
     }
 }
@@ -167,6 +215,20 @@ pub enum Command {
     Watch {
         observer: Name,
     },
+    /// Puts a declaration behind the list of an expert.
+    Link {
+        expert: usize,
+        target: usize,
+    },
+    /// Takes a declaration off the list of an expert.
+    Unlink {
+        expert: usize,
+        target: usize,
+    },
+    /// Has an expert's function called anew.
+    Stale {
+        expert: usize,
+    },
     /// Moves the clock on to a time, in nanoseconds.
     Advance {
         time: u64,
@@ -200,7 +262,17 @@ impl Drop for Command {
             Command::Unobserve { observer }
             | Command::Watch { observer }
             | Command::Show { observer } => drop(observer),
-            Command::Advance { time: _ } | Command::Stabilize => {}
+            Command::Link {
+                expert: _,
+                target: _,
+            }
+            | Command::Unlink {
+                expert: _,
+                target: _,
+            }
+            | Command::Stale { expert: _ }
+            | Command::Advance { time: _ }
+            | Command::Stabilize => {}
         }
     }
 }

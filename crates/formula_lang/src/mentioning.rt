@@ -1,10 +1,9 @@
 //! Names that lines read.
-ghost use Rattle.std.specs.Prelude.{◌≡◌, ◌∷◌, map, true, IfOk};
+ghost use Rattle.std.specs.Prelude.{◌≡◌, ◌∷◌, map, IfOk};
 ghost use Rattle.std.specs.List.{list_any};
 ghost use Rattle.script_model.specs.Check.{is_among, read_names, referred_names};
-ghost use Rattle.script_model.specs.Here.{is_here};
 ghost use Rattle.script_model.specs.Parsing.{trees_of};
-ghost use Rattle.formula_lang.specs.Here.{names_here, names_here_in_all, referred_in};
+ghost use Rattle.formula_lang.specs.Within.{names_within, names_within_all, referred_in};
 ghost use Rattle.formula_lang.specs.Rows.{is_unknown};
 ghost use Rattle.line_parser.specs.TreeView.{line_view, tree_view};
 ghost use Rattle.line_parser.specs.View.{literal_view, timed_view};
@@ -15,14 +14,12 @@ use crate::typing::is_declared;
 use line_parser::{Line, Literal, Name, TimedLiteral, Tree};
 use std::alloc::{AllocError, Global};
 
-/// Whether a name that the line reads isn't declared, and is no variable of a bind where it stands. Like the next ones it
-/// is of forms that are here.
+/// Whether a name that the line reads isn't declared, and is no variable of a bind where it stands.
 pub(crate) fn mentions_unknown(
     alloc: Global,
     line: &Line,
     names: &Names,
 ) -> Result<bool, AllocError>
-    requires { is_here (line_view line.now) ≡ true }
     ensures { IfOk result (λ is_unknown_read. is_unknown_read
         ≡ list_any (is_unknown names.entry.now) (read_names (line_view line.now))) }
 {
@@ -52,7 +49,7 @@ fn has_unknown_name(
     variables: &[Name],
     tree: &Tree,
 ) -> Result<bool, AllocError>
-    ensures { IfOk result (λ unknown. unknown ≡ list_any (is_unknown names.entry.now) (names_here variables.now (tree_view tree.now))) }
+    ensures { IfOk result (λ unknown. unknown ≡ list_any (is_unknown names.entry.now) (names_within variables.now (tree_view tree.now))) }
 {
     match tree {
         Tree::Literal(literal) => Ok(has_unknown_reference(names, literal)),
@@ -89,8 +86,8 @@ fn has_unknown_name(
         Tree::Steps { first, steps } => {
             Ok(has_unknown_reference(names, first) | have_unknown_reference(names, steps))
         }
+        Tree::Freeze { child, .. } => has_unknown_name(alloc, names, variables, child),
         Tree::At(_) | Tree::Now | Tree::After(_) | Tree::Every(_) => Ok(false),
-        Tree::Freeze { .. } => Ok(false),
     }
 }
 
@@ -104,7 +101,7 @@ fn has_unknown_name_within(
     body: &Tree,
 ) -> Result<bool, AllocError>
     ensures { IfOk result (λ unknown. unknown
-        ≡ list_any (is_unknown names.entry.now) (names_here (variable.now ∷ variables.now) (tree_view body.now))) }
+        ≡ list_any (is_unknown names.entry.now) (names_within (variable.now ∷ variables.now) (tree_view body.now))) }
 {
     match named_within(alloc, variable, variables) {
         Ok(variables) => {
@@ -125,7 +122,7 @@ fn have_unknown_name(
     trees: &[Tree],
 ) -> Result<bool, AllocError>
     ensures { IfOk result (λ unknown. unknown
-        ≡ list_any (is_unknown names.entry.now) (names_here_in_all variables.now (trees_of (map tree_view trees.now)))) }
+        ≡ list_any (is_unknown names.entry.now) (names_within_all variables.now (trees_of (map tree_view trees.now)))) }
 {
     for tree in trees {
         if has_unknown_name(alloc, names, variables, tree)? {

@@ -1,12 +1,11 @@
 //! Why commands are refused: the rows that are looked at, in order.
-ghost use Rattle.std.specs.Prelude.{◌≡◌, true, is_none, map, option_map};
+ghost use Rattle.std.specs.Prelude.{◌≡◌, is_none, map, option_map};
 ghost use Rattle.std.specs.List.{list_any};
-ghost use Rattle.script_model.specs.Check.{binds_of, command_of, first_that, functions_in, is_against, is_among, is_bind, is_declared, is_variable, kind_of, line_order, new_names, new_observers, observers_of, read_names, reason_number, variables_of};
+ghost use Rattle.script_model.specs.Check.{binds_of, command_of, experts_of, first_that, functions_in, is_against, is_among, is_bind, is_declared, is_expert, is_variable, kind_of, line_order, new_names, new_observers, observers_of, read_names, reason_number, variables_of};
 ghost use Rattle.script_model.specs.Formula.{meanings_of};
-ghost use Rattle.script_model.specs.Here.{is_here};
 ghost use Rattle.line_parser.specs.TreeView.{line_view};
 ghost use Rattle.formula_lang.specs.Verdict.{reason_view};
-ghost use Rattle.formula_lang.specs.Rows.{is_no_bind, is_no_observer, is_no_variable, is_unknown as is_unknown_in, lacks};
+ghost use Rattle.formula_lang.specs.Rows.{is_no_bind, is_no_expert, is_no_observer, is_no_variable, is_unknown as is_unknown_in, lacks};
 
 use crate::names::{Kind, Names};
 use crate::typing::{declared_as, has_unknown_function, is_declared};
@@ -25,6 +24,7 @@ pub(crate) enum Reason {
     NotWhole,
     NotVariable,
     NotBind,
+    NotExpert,
     IllTyped,
     TimeTooLarge,
     TimesNotRising,
@@ -33,7 +33,7 @@ pub(crate) enum Reason {
 }
 
 /// The order in which they are looked at.
-const ORDER: [Reason; 13] = [
+const ORDER: [Reason; 14] = [
     Reason::NameTaken,
     Reason::ObserverTaken,
     Reason::NameUnknown,
@@ -42,6 +42,7 @@ const ORDER: [Reason; 13] = [
     Reason::NotWhole,
     Reason::NotVariable,
     Reason::NotBind,
+    Reason::NotExpert,
     Reason::IllTyped,
     Reason::TimeTooLarge,
     Reason::TimesNotRising,
@@ -61,6 +62,7 @@ impl Reason {
             Reason::IllTyped => 6,
             Reason::NotVariable => 7,
             Reason::NotBind => 8,
+            Reason::NotExpert => 10,
             Reason::ObserverUnknown => 11,
             Reason::ObserverTaken => 12,
             Reason::NotWhole => 14,
@@ -80,7 +82,6 @@ pub(crate) fn first_reason<L: Library>(
     is_unknown: bool,
     is_ill_typed: bool,
 ) -> Option<Reason>
-    requires here { is_here (line_view line.now) ≡ true }
     requires read { is_unknown ≡ list_any (is_unknown_in names.now) (read_names (line_view line.now)) }
     requires typed { is_ill_typed ≡ is_none (command_of (meanings_of (L.named library.now) (L.value library.now)) names.now (line_view line.now)) }
     ensures { option_map reason_view result
@@ -103,7 +104,6 @@ fn is_against<L: Library>(
     is_ill_typed: bool,
     reason: Reason,
 ) -> bool
-    requires here { is_here (line_view line.now) ≡ true }
     requires read { is_unknown ≡ list_any (is_unknown_in names.now) (read_names (line_view line.now)) }
     requires typed { is_ill_typed ≡ is_none (command_of (meanings_of (L.named library.now) (L.value library.now)) names.now (line_view line.now)) }
     ensures { result
@@ -118,6 +118,7 @@ fn is_against<L: Library>(
         Reason::NotWhole => is_not_whole(line),
         Reason::NotVariable => is_no_variable(line, names),
         Reason::NotBind => is_no_bind(line, names),
+        Reason::NotExpert => is_no_expert(line, names),
         Reason::IllTyped => is_ill_typed,
         Reason::TimeTooLarge => is_time_too_large(line, names.clock()),
         Reason::TimesNotRising => is_not_rising(line),
@@ -163,7 +164,6 @@ fn is_observer_unknown(line: &Line, names: &Names) -> bool
 
 /// Whether the library has no function of a name.
 fn is_function_unknown<L: Library>(line: &Line, library: &L) -> bool
-    requires { is_here (line_view line.now) ≡ true }
     ensures { result ≡ list_any (lacks (L.named library.now)) (functions_in (line_view line.now)) }
 {
     match line {
@@ -193,6 +193,18 @@ fn is_no_bind(line: &Line, names: &Names) -> bool
     }
 }
 
+/// Whether what is linked, unlinked or renewed is no expert.
+fn is_no_expert(line: &Line, names: &Names) -> bool
+    ensures { result ≡ list_any (is_no_expert names.entry.now) (experts_of (line_view line.now)) }
+{
+    match line {
+        Line::Link { expert, .. } | Line::Unlink { expert, .. } | Line::Stale { expert } => {
+            !is_expert(names, expert)
+        }
+        _ => false,
+    }
+}
+
 /// Whether the name stands for a variable.
 fn is_variable(names: &Names, name: &Name) -> bool
     ensures { result ≡ is_variable (kind_of names.entry.now name.now) }
@@ -209,6 +221,16 @@ fn is_bind(names: &Names, name: &Name) -> bool
 {
     match declared_as(names, name) {
         Some(declared) => matches!(names.get(declared.target).kind, Kind::Bind),
+        None => false,
+    }
+}
+
+/// Whether the name stands for an expert.
+fn is_expert(names: &Names, name: &Name) -> bool
+    ensures { result ≡ is_expert (kind_of names.entry.now name.now) }
+{
+    match declared_as(names, name) {
+        Some(declared) => matches!(names.get(declared.target).kind, Kind::Expert { .. }),
         None => false,
     }
 }

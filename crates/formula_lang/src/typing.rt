@@ -1,8 +1,8 @@
 //! Names, functions and types of formulas.
 ghost use Rattle.std.specs.Prelude.{◌≡◌, ◌<◌, ◌++◌, ◌∷◌, [], length, map, option_map, Some, IfOk, IfSome, OnOk};
 ghost use Rattle.std.specs.List.{list_any};
-ghost use Rattle.script_model.specs.Check.{Declare, applied as applied_to, are_all, branched, element_of, find_declared, folded, is_declared, join_of, literal_of_type, steps_of_type, typed, typed_as, typed_each, typed_literal, typed_name};
-ghost use Rattle.formula_lang.specs.Here.{functions_here, functions_here_in_all};
+ghost use Rattle.script_model.specs.Check.{Declare, applied as applied_to, are_all, branched, element_of, find_declared, folded, frozen_when, is_declared, join_of, literal_of_type, steps_of_type, typed, typed_as, typed_each, typed_literal, typed_name};
+ghost use Rattle.formula_lang.specs.Within.{functions_within, functions_within_all};
 ghost use Rattle.script_model.specs.Literals.{Referred};
 ghost use Rattle.script_model.specs.Parsing.{trees_of};
 ghost use Rattle.script_model.specs.Formula.{At, Bind, Computed, Literal as Held, Now, Steps, meanings_of, nothing_kept};
@@ -49,6 +49,38 @@ impl TypedFormula {
             name,
             ty,
             body: Declaration::Computed(formula),
+        }
+    }
+
+    /// The declaration of a name for the first value of the formula on which the predicate is true, if the predicate takes
+    /// the formula's type alone and gives a truth value.
+    pub(crate) fn frozen(
+        self,
+        alloc: Global,
+        name: &Name,
+        predicate: FnRef,
+    ) -> Result<Option<Command>, AllocError>
+        ensures { IfOk result (λ c. option_map command_view c
+            ≡ option_map (λ t. Declare name.now t.ty t.body) (frozen_when (typed_view self) predicate)) }
+    {
+        let TypedFormula { formula, ty } = self;
+        if !is_same_type(predicate.sig.gives(), Ty::Bool) || !takes_types(&predicate, &[ty]) {
+            drop(formula);
+            return Ok(None);
+        }
+        match Name::new(alloc, name.bytes()) {
+            Ok(name) => Ok(Some(Command::Declare {
+                name,
+                ty,
+                body: Declaration::Frozen {
+                    child: formula,
+                    predicate,
+                },
+            })),
+            Err(fault) => {
+                drop(formula);
+                Err(fault)
+            }
         }
     }
 
@@ -234,10 +266,10 @@ pub(crate) fn is_declared(names: &Names, name: &Name) -> bool
     declared_as(names, name).is_some()
 }
 
-/// Whether the library lacks a function of the formula. Like the next ones it is of forms that are here.
+/// Whether the library lacks a function of the formula.
 #[cycle(functions_in)]
 pub(crate) fn has_unknown_function<L: Library>(library: &L, tree: &Tree) -> bool
-    ensures { result ≡ list_any (lacks (L.named library.now)) (functions_here (tree_view tree.now)) }
+    ensures { result ≡ list_any (lacks (L.named library.now)) (functions_within (tree_view tree.now)) }
 {
     match tree {
         Tree::Literal(_) | Tree::Name(_) => false,
@@ -263,15 +295,35 @@ pub(crate) fn has_unknown_function<L: Library>(library: &L, tree: &Tree) -> bool
         Tree::Bind { left, body, .. } => {
             has_unknown_function(library, left) | has_unknown_function(library, body)
         }
+        Tree::Freeze {
+            child,
+            predicate,
+            around,
+        } => {
+            let outside = library.find(predicate.bytes()).is_none()
+                | lacks_predicate(library, around);
+            outside | has_unknown_function(library, child)
+        }
         Tree::At(_) | Tree::Now | Tree::Steps { .. } | Tree::After(_) | Tree::Every(_) => false,
-        Tree::Freeze { .. } => false,
     }
+}
+
+/// Whether the library lacks one of the predicates of freezes round another.
+fn lacks_predicate<L: Library>(library: &L, around: &[Name]) -> bool
+    ensures { result ≡ list_any (lacks (L.named library.now)) around.now }
+{
+    for predicate in around {
+        if library.find(predicate.bytes()).is_none() {
+            return true;
+        }
+    }
+    false
 }
 
 /// Whether the library lacks a function of the formulas.
 #[cycle(functions_in)]
 fn have_unknown_function<L: Library>(library: &L, trees: &[Tree]) -> bool
-    ensures { result ≡ list_any (lacks (L.named library.now)) (functions_here_in_all (trees_of (map tree_view trees.now))) }
+    ensures { result ≡ list_any (lacks (L.named library.now)) (functions_within_all (trees_of (map tree_view trees.now))) }
 {
     for tree in trees {
         if has_unknown_function(library, tree) {
@@ -339,8 +391,8 @@ pub(crate) fn typed<L: Library>(
         Tree::Now => Ok(Some(now())),
         Tree::Steps { first, steps } => typed_steps(alloc, names, first, steps),
         // As the whole of a declared formula they have a type.
-        Tree::After(_) | Tree::Every(_) => Ok(None),
         Tree::Freeze { .. } => Ok(None),
+        Tree::After(_) | Tree::Every(_) => Ok(None),
     }
 }
 
@@ -627,7 +679,7 @@ fn steps_of_type(
 }
 
 /// The type of the elements that the function folds; none where it doesn't take what it gives and an element.
-fn element_of(function: &FnRef) -> Option<Ty>
+pub(crate) fn element_of(function: &FnRef) -> Option<Ty>
     ensures { result ≡ element_of function.now function.now.sig.takes }
 {
     match function.sig.takes() {
@@ -656,7 +708,7 @@ fn takes_types(function: &FnRef, tys: &[Ty]) -> bool
 }
 
 /// Whether both types are the same.
-fn is_same_type(left: Ty, right: Ty) -> bool
+pub(crate) fn is_same_type(left: Ty, right: Ty) -> bool
     ensures { result ≡ same_ty left right }
 {
     left == right

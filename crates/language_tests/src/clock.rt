@@ -1,7 +1,7 @@
 //! Lines with times and spans, as they are checked by the clock.
 use crate::elaboration::names;
 use formula_lang::{CheckFault, Names, check};
-use line_parser::{is_here, parse};
+use line_parser::parse;
 use std::alloc::Global;
 use std_library::StdLib;
 
@@ -74,17 +74,13 @@ fn refusal(alloc: Global, line: &str, names: &Names) -> Option<u8> {
     let Ok(line) = parse(alloc, line.as_bytes()) else {
         return None;
     };
-    let number = if is_here(&line) {
-        match check(alloc, &line, names, &StdLib::new()) {
-            Ok(command) => {
-                drop(command);
-                Some(0)
-            }
-            Err(CheckFault::Refusal(number)) => Some(number),
-            Err(CheckFault::Memory) => None,
+    let number = match check(alloc, &line, names, &StdLib::new()) {
+        Ok(command) => {
+            drop(command);
+            Some(0)
         }
-    } else {
-        None
+        Err(CheckFault::Refusal(number)) => Some(number),
+        Err(CheckFault::Memory) => None,
     };
     drop(line);
     number

@@ -1,5 +1,5 @@
-//! Lines that no session hands on as they are, and the grammar of forms that no script may have yet.
-use line_parser::{Line, ParseFault, Time, is_here, parse};
+//! Lines that no session hands on as they are, and the grammar of times, freezes and experts.
+use line_parser::{Line, ParseFault, Time, parse};
 use node_arena::Library;
 use std::alloc::{AllocError, Global};
 use std_library::StdLib;
@@ -8,8 +8,8 @@ const FORM: Option<ParseFault> = Some(ParseFault::Form);
 
 const LEVEL: Option<ParseFault> = Some(ParseFault::Level);
 
-/// Lines of forms that aren't here yet.
-const LATER: &[&str] = &[
+/// Lines of freezes and experts.
+const READ: &[&str] = &[
     "let y freeze x when pos",
     "let y freeze freeze x when pos when not",
     "let y f(freeze x when pos)",
@@ -22,8 +22,8 @@ const LATER: &[&str] = &[
     "stale e",
 ];
 
-/// What is no line, though it begins as one of such a form.
-const NOT_LATER: &[&str] = &[
+/// What is no line, though it begins as one of times, freezes, experts or watches.
+const NOT_READ: &[&str] = &[
     "let y at",
     "let y at -5",
     "let y at x",
@@ -95,7 +95,7 @@ const UNCUT: &[&str] = &[
     "let y fold f from 0 \n]",
 ];
 
-/// Lines that are longer than a session takes, or of a form that isn't here yet, as a front, a piece and how often it
+/// Lines, most of them longer than a session takes, as a front, a piece and how often it
 /// stands, a middle, and an end that stands as often, with the fault of each.
 const LONG: &[(&str, &str, usize, &str, &str, Option<ParseFault>)] = &[
     ("let y ", "f(", 10_000, "1", "", LEVEL),
@@ -138,17 +138,11 @@ const TIMES: &[(&str, Option<u64>)] = &[
     ("000000000000000000000000000001s", Some(1_000_000_000)),
 ];
 
-/// Whether each line is read, and is of a form that isn't here yet.
-fn are_later(alloc: Global, lines: &[&str]) -> bool {
+/// Whether each line is read.
+fn are_read(alloc: Global, lines: &[&str]) -> bool {
     for line in lines {
         match parse(alloc, line.as_bytes()) {
-            Ok(parsed) => {
-                let here = is_here(&parsed);
-                drop(parsed);
-                if here {
-                    return false;
-                }
-            }
+            Ok(parsed) => drop(parsed),
             Err(_) => return false,
         }
     }
@@ -245,8 +239,8 @@ fn are_times(alloc: Global, rows: &[(&str, Option<u64>)]) -> bool {
 
 #[test]
 fn reads_lines(rt: HostRuntime) {
-    assert!(rt; are_later(rt.alloc(), LATER));
-    assert!(rt; are_none(rt.alloc(), NOT_LATER));
+    assert!(rt; are_read(rt.alloc(), READ));
+    assert!(rt; are_none(rt.alloc(), NOT_READ));
     assert!(rt; are_none(rt.alloc(), UNCUT));
     assert!(rt; tells_long_lines(rt.alloc()));
     assert!(rt; are_times(rt.alloc(), TIMES));

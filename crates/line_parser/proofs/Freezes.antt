@@ -3,7 +3,6 @@ use Rattle.std.proofs.Common.{◌≡◌, ◌≢◌, ℕ, zero, suc, ◌+◌, ◌
 use Rattle.std.proofs.lemmas.Slice.Eq.{bytes_eq-Decides}
 use Rattle.std.specs.Str.{bytes_eq}
 use Rattle.script_model.specs.Grammar.{Tree, Freeze}
-use Rattle.script_model.specs.Here.{is_plain}
 use Rattle.script_model.specs.Parsing.{Read, then_read, read, is_word, when_front, formula_front, formula_read}
 use Rattle.script_model.specs.Tokens.{Token, Word}
 use Rattle.line_parser.specs.Reading.{count_of_word, whens_front, frozen_front, unfrozen_front}
@@ -102,11 +101,6 @@ frozen_again n child tokens =
 then_none_round : (o : Read Tree) → o ≡ then_read o (frozen_front 0)
 then_none_round None = refl
 then_none_round (Some p) = none_frozen 0 p.0 p.1 refl
-
--- no freeze is here
-pub never_plain : (child : Tree) (names : List (List ℕ)) → is_plain child ≡ false → is_plain (frozen child names) ≡ false
-never_plain child [] none = none
-never_plain child (name ∷ names) none = never_plain (Freeze child name) names refl
 
 -- ---- the whole
 

@@ -1,10 +1,9 @@
 -- What is looked for in formulas is what the table of refusals asks of their times, spans and forms of the top.
-use Rattle.std.proofs.Common.{◌≡◌, ℕ, Bool, true, false, not, ◌&&◌, ◌||◌, List, [], ◌∷◌, ◌++◌, drop, is_none, Some, None, refl, ap, sym, ◌∙◌, flat_map}
+use Rattle.std.proofs.Common.{◌≡◌, ◌≤◌, ℕ, Bool, true, false, ◌||◌, List, [], ◌∷◌, length, drop, is_none, Some, None, refl, ap, sym, arith, ◌∙◌, flat_map}
 use Rattle.std.proofs.lemmas.List.Folds.{list_any-append}
 use Rattle.std.specs.List.{list_any}
-use Rattle.script_model.specs.Check.{has_falling_times, is_empty_interval, is_past, is_top_form, own_times, trees_in, trees_in_all}
-use Rattle.script_model.specs.Grammar.{Tree, Time, Literal, Name, Call, If, Bind, Join, Fold, At, Now, Steps, Freeze, After, Every}
-use Rattle.script_model.specs.Here.{is_plain}
+use Rattle.script_model.specs.Check.{has_falling_times, is_empty_interval, is_past, is_top_form, own_times, trees_in}
+use Rattle.script_model.specs.Grammar.{Tree, Time, At, Freeze, After, Every}
 use Rattle.line_times.specs.Sought.{freeze_has, is_sought}
 use Rattle.line_times.specs.declared.search.Sought.{Sought}
 use Rattle.line_times.specs.declared.search.Sought.TheVariants as sought
@@ -22,10 +21,6 @@ any_flat : {A : Type 0} (P : A → Bool) (part : Tree → List A) (ts : List Tre
 any_flat P part [] = refl
 any_flat P part (t ∷ ts) = list_any-append P (part t) (flat_map part ts) ∙ ap (λ b. list_any P (part t) || b) (any_flat P part ts)
 
-top_same : (t : Tree) → is_sought sought.TopForm t ≡ is_top_form t
-top_same (At time) = refl
-top_same _ = refl
-
 large_same : (t : Tree) → is_sought sought.LargeTime t ≡ list_any is_none (own_times t)
 large_same (At time) = sym (or_nothing (is_none time))
 large_same (After span) = sym (or_nothing (is_none span))
@@ -41,9 +36,6 @@ empty_same (Every None) = refl
 empty_same (Every (Some span)) = refl
 empty_same _ = refl
 
-pub top_forms : (ts : List Tree) → list_any (is_sought sought.TopForm) ts ≡ list_any is_top_form ts
-top_forms ts = any_same (is_sought sought.TopForm) is_top_form top_same ts
-
 pub large_times : (ts : List Tree) → list_any (is_sought sought.LargeTime) ts ≡ list_any is_none (flat_map own_times ts)
 large_times ts =
     any_same (is_sought sought.LargeTime) (λ t. list_any is_none (own_times t)) large_same ts ∙ sym (any_flat is_none own_times ts)
@@ -56,22 +48,17 @@ empty_spans ts = any_same (is_sought sought.EmptySpan) is_empty_interval empty_s
 
 -- ---- forms of the top
 
--- one that isn't the whole formula
-pub inner_top : (t : Tree) → is_plain t ≡ true
-    → (not (is_top_form t) && list_any (is_sought sought.TopForm) (trees_in t)) ≡ list_any is_top_form (drop 1 (trees_in t))
-inner_top (Literal l) h = refl
-inner_top (Name name) h = refl
-inner_top (Call function arguments) h = top_forms (trees_in_all arguments)
-inner_top (If test a b) h = top_forms (trees_in test ++ trees_in a ++ trees_in b)
-inner_top (Bind variable left body) h = top_forms (trees_in left ++ trees_in body)
-inner_top (Join child) h = top_forms (trees_in child)
-inner_top (Fold function first elements) h = top_forms (trees_in_all elements)
-inner_top (At time) h = refl
-inner_top Now h = refl
-inner_top (Steps first steps) h = refl
-inner_top (After span) h = refl
-inner_top (Every span) h = refl
-inner_top (Freeze child predicate) h = absurd (cc)
+-- a freeze within freezes
+frozen_inside : (t : Tree) (name : List ℕ) (names : List (List ℕ)) → list_any is_top_form (trees_in t) ≡ true
+    → list_any is_top_form (drop 1 (trees_in (frozen (Freeze t name) names))) ≡ true
+frozen_inside t name [] h = h
+frozen_inside t name (next ∷ names) h = frozen_inside (Freeze t name) next names refl
+
+-- so is one of two freezes round one another
+pub inner_freeze : (child : Tree) (name : List ℕ) (names : List (List ℕ)) → 1 ≤ length names
+    → list_any is_top_form (drop 1 (trees_in (frozen (Freeze child name) names))) ≡ true
+inner_freeze child name [] some = absurd (omega (arith, some))
+inner_freeze child name (next ∷ names) some = frozen_inside (Freeze child name) next names refl
 
 -- ---- freezes
 

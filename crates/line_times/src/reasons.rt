@@ -3,7 +3,6 @@ ghost use Rattle.std.specs.Prelude.{◌≡◌, ◌||◌, true, ℕ, List, is_non
 ghost use Rattle.std.specs.List.{list_any};
 ghost use Rattle.script_model.specs.Check.{has_falling_times, inner_trees, is_back, is_empty_interval, is_past, is_top_form, spans_of, times_of, trees_of};
 ghost use Rattle.script_model.specs.Grammar.{Let};
-ghost use Rattle.script_model.specs.Here.{is_here};
 ghost use Rattle.line_parser.specs.TreeView.{line_view, tree_view};
 
 use crate::nanoseconds::{Nanoseconds, is_past, is_too_large, nanoseconds_of};
@@ -32,15 +31,34 @@ pub fn is_top_form(tree: &Tree) -> bool
 
 /// Whether a form that has to be the whole of a declared formula stands elsewhere.
 pub fn is_not_whole(line: &Line) -> bool
-    requires { is_here (line_view line.now) ≡ true }
     ensures { result ≡ list_any is_top_form (inner_trees (line_view line.now)) }
 {
     match line {
-        Line::Let { formula, .. } => {
-            let inside = holds(Sought::TopForm, formula);
-            !is_top_form(formula) & inside
-        }
+        Line::Let { formula, .. } => holds_top_form(formula),
         _ => false,
+    }
+}
+
+/// Whether a form that has to be the whole of a declared formula stands within a formula.
+fn holds_top_form(tree: &Tree) -> bool
+    ensures { (name : List ℕ) → result ≡ list_any is_top_form (inner_trees (Let name (tree_view tree.now))) }
+{
+    match tree {
+        Tree::Freeze { child, around, .. } => match around.as_slice() {
+            [] => holds(Sought::TopForm, child),
+            [_, ..] => true,
+        },
+        Tree::After(_) | Tree::Every(_) => false,
+        Tree::Literal(_)
+        | Tree::Name(_)
+        | Tree::Now
+        | Tree::Call { .. }
+        | Tree::Fold { .. }
+        | Tree::If { .. }
+        | Tree::Bind { .. }
+        | Tree::Join { .. }
+        | Tree::At(_)
+        | Tree::Steps { .. } => holds(Sought::TopForm, tree),
     }
 }
 

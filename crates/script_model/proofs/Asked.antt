@@ -3,7 +3,6 @@ use Rattle.std.proofs.Common.{◌≡◌, ℕ, ◌≤◌, Bool, true, false, cond
 use Rattle.std.proofs.lemmas.Bool.{ltb-true, ltb-false}
 use Rattle.script_model.specs.Grammar.{Line, IsLine, WriteNothing}
 use Rattle.script_model.specs.GrammarLaws.{WhatIsReadIsWritten}
-use Rattle.script_model.specs.Here.{is_here}
 use Rattle.script_model.specs.Language.{without_return, is_blank}
 use Rattle.script_model.specs.Laws.{EveryLineAsks}
 use Rattle.script_model.specs.Parsing.{command_read}
@@ -19,13 +18,9 @@ what_is_read_is_written c tokens = (command_found tokens c, command_written c to
 
 -- ---- what a line of these tokens asks for
 
-abbrev command_or_not : Bool → Line → Request
-command_or_not true c = Asks c
-command_or_not false c = Malformed
-
 abbrev line_read : Option Line → Request
 line_read None = Malformed
-line_read (Some c) = command_or_not (is_here c) c
+line_read (Some c) = Asks c
 
 abbrev level_read : Bool → List Token → Request
 level_read true tokens = TooDeep
@@ -50,16 +45,11 @@ read_line : (content : List ℕ) (tokens : List Token) (c : Line) → AreSpelled
     → command_read tokens ≡ Some c → IsLine content c
 read_line content tokens c spelled shallow is = record { tokens = tokens; spelled = spelled; level = λ deep. absurd (cc); writes = command_found tokens c is }
 
-here_asks : (content : List ℕ) (c : Line) (here : Bool) → is_here c ≡ here → is_blank content ≡ false → IsLine content c
-    → ContentAsks content (command_or_not here c)
-here_asks content c true here some line = (some, record { line = line; here = here })
-here_asks content c false here some line = (some, inr (c, line, here))
-
 line_asks : (content : List ℕ) (tokens : List Token) (c : Option Line) → is_blank content ≡ false → AreSpelled tokens content
     → is_too_deep 0 0 tokens ≡ false
     → command_read tokens ≡ c → ContentAsks content (line_read c)
-line_asks content tokens None some spelled shallow is = (some, inl (inr (tokens, spelled, (λ deep. absurd (cc)), none_writes tokens is)))
-line_asks content tokens (Some c) some spelled shallow is = here_asks content c (is_here c) refl some (read_line content tokens c spelled shallow is)
+line_asks content tokens None some spelled shallow is = (some, inr (tokens, spelled, (λ deep. absurd (cc)), none_writes tokens is))
+line_asks content tokens (Some c) some spelled shallow is = (some, read_line content tokens c spelled shallow is)
 
 level_asks : (content : List ℕ) (tokens : List Token) (deep : Bool) → is_blank content ≡ false → AreSpelled tokens content
     → is_too_deep 0 0 tokens ≡ deep → ContentAsks content (level_read deep tokens)
@@ -68,7 +58,7 @@ level_asks content tokens false some spelled is = line_asks content tokens (comm
 
 tokens_ask : (content : List ℕ) (tokens : Option (List Token)) → is_blank content ≡ false → ReadsAs content [] tokens
     → ContentAsks content (tokens_read tokens)
-tokens_ask content None some reads = (some, inl (inl reads))
+tokens_ask content None some reads = (some, inl reads)
 tokens_ask content (Some tokens) some reads = level_asks content tokens (is_too_deep 0 0 tokens) some reads refl
 
 content_asks : (content : List ℕ) → ContentAsks content (content_read content)

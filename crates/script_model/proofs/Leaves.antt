@@ -37,9 +37,9 @@ module _ (P Q R S : ℕ → Type 0) (more : (n : ℕ) → P n → Q n) (refers :
     leaves_more_of_all End fine = tt
     leaves_more_of_all (More f rest) fine = (leaves_more f fine.0, leaves_more_of_all rest fine.1)
 
-  names_more : (names : List ℕ) → Each P names → Each Q names
+  names_more : (names : List ℕ) → Each R names → Each S names
   names_more [] fine = tt
-  names_more (n ∷ names) fine = (more n fine.0, names_more names fine.1)
+  names_more (n ∷ names) fine = (refers n fine.0, names_more names fine.1)
 
   pub leaves_more_of : (body : Body) → EveryLeafOf P R body → EveryLeafOf Q S body
   leaves_more_of (Variable v) fine = reference_more R S refers v fine

@@ -1,16 +1,13 @@
--- Turns of lines that ask for no stabilize: they end alike, and make no call. No turn asks for a form that isn't here.
-use Rattle.std.proofs.Common.{◌≡◌, ℕ, false, List, [], ◌∷◌, Option, None, Some, refl, ap, subst}
-use Rattle.inc_value.specs.Choice.{Every}
+-- Turns of lines that ask for no stabilize: they end alike, and make no call.
+use Rattle.std.proofs.Common.{◌≡◌, ℕ, false, List, [], ◌∷◌, Option, None, Some, refl, ap}
 use Rattle.script_model.specs.Check as check
 use Rattle.script_model.specs.Check.{Command, command_of, names_of, first_that}
 use Rattle.script_model.specs.Formula.{Meanings}
 use Rattle.script_model.specs.Grammar as grammar
-use Rattle.script_model.specs.Grammar.{Line}
-use Rattle.script_model.specs.Here.{is_here}
-use Rattle.script_model.specs.Laws.{OnlyStabilizesCall, OnlyHereIsAsked}
+use Rattle.script_model.specs.Laws.{OnlyStabilizesCall}
 use Rattle.script_model.specs.Request.{Request, TooLong, Blank, Malformed, TooDeep, Asks, IsRequest}
-use Rattle.script_model.specs.Run.{Turn, IsTurn, MayCall, Chain}
-use Rattle.script_model.specs.Step.{Refusal, LineTooLong, NoCommand, LineTooDeep, Cycle, Height, breaks, Verdict, Refuse, Settle, Act, Reply, Refused, Moment, Follows, Answers, verdict_of, holds, order, shows, reply_to, shown_by, first_moment}
+use Rattle.script_model.specs.Run.{Turn, IsTurn, MayCall}
+use Rattle.script_model.specs.Step.{Refusal, LineTooLong, NoCommand, LineTooDeep, Cycle, Height, breaks, Verdict, Refuse, Settle, Act, Reply, Refused, Moment, Follows, Answers, verdict_of, holds, order, shows, reply_to, shown_by}
 use Rattle.script_model.specs.Values.{Outcome}
 use Rattle.script_model.proofs.Requests.{every_plain_line_has_one_effect}
 use Rattle.script_model.proofs.Steps.{IsPlain, plain_verdict, only_stabilize, verdict_is_plain}
@@ -52,20 +49,6 @@ answer_calls F m after (Asks l) replies calls other h due =
 
 pub only_stabilizes_call : OnlyStabilizesCall
 only_stabilizes_call F t other h = answer_calls F t.before t.after t.request t.replies t.work (λ is. other (rw is at h.asks)) h.answers h.due
-
--- ---- only what is here
-
-chain_asks_here : (F : Meanings) (m end : Moment) (turns : List Turn) (line : Line) → Chain F m turns end → is_here line ≡ false
-    → Every (λ (t : Turn). t.request ≡ Asks line → ⊥) turns
-chain_asks_here F m end [] line chain absent = tt
-chain_asks_here F m end (t ∷ turns) line chain absent = (
-  (λ is. let asks : IsRequest t.line (Asks line) = subst (IsRequest t.line) is chain.1.asks in
-      let here = asks.1.1.here in absurd (cc)),
-  chain_asks_here F t.after end turns line chain.2 absent,
-)
-
-pub only_here_is_asked : OnlyHereIsAsked
-only_here_is_asked F lines turns line run absent = chain_asks_here F first_moment run.end turns line run.chain absent
 
 -- ---- one end
 

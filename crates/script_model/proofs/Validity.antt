@@ -291,7 +291,7 @@ module _ (F : Meanings) (keep : KeepToTypes F) (m after : Moment) (replies : Lis
   answers_valid bytes Blank asks h = rw h.0 valid
   answers_valid bytes Malformed asks h = rw h.0 valid
   answers_valid bytes TooDeep asks h = rw h.0 valid
-  answers_valid bytes (Asks l) asks h = line_valid l (line_proper _ l asks.1.1.line) h
+  answers_valid bytes (Asks l) asks h = line_valid l (line_proper _ l asks.1.1) h
 
 pub steps_keep_validity : StepsKeepValidity
 steps_keep_validity F m after line replies keep valid h = answers_valid F keep m after replies valid line h.0 h.1 h.2

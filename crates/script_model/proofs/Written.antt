@@ -9,7 +9,7 @@ use Rattle.script_model.specs.Grammar as grammar
 use Rattle.script_model.specs.Grammar.{Tree, Trees, TimedLiteral, Line, Call, If, Bind, Join, Fold, At, Now, Steps, Freeze, After, Every, End, More, WritesSpan, WritesTime, WritesType, WritesLiteral, WritesSteps, WritesAnySteps, Writes, WritesEach, WritesAny, WritesLine, count_of}
 use Rattle.script_model.specs.Literals as literals
 use Rattle.script_model.specs.Literals.{Literal, Integer, Referred}
-use Rattle.script_model.specs.GrammarLaws.{OneWriting, OneLine, LinesAreShallow, LinesAreWellFormed, OneCommand, CommandsAreShallow, CommandsAreWellFormed, DeepLinesAreWellFormed}
+use Rattle.script_model.specs.GrammarLaws.{OneWriting, OneLine, LinesAreShallow, LinesAreWellFormed, DeepLinesAreWellFormed}
 use Rattle.script_model.specs.Parsing.{Read, trees_of, tally, span_front, time_front, type_front, literal_front, step_front, list_front, any_front, named_front, formula_front, formula_read, command_read}
 use Rattle.script_model.specs.Tokens.{Token, Word, Punctuation, Open, Close, OpenBracket, CloseBracket, Comma, Colon}
 use Rattle.script_model.proofs.TokenLaws.{one_spelling}
@@ -261,23 +261,8 @@ lines_are_well_formed bytes c h (inl none) = none h.tokens h.spelled
 lines_are_well_formed bytes c h (inr other) =
     let same = one_spelling h.tokens other.0 bytes h.spelled other.1 in other.3 c (rw (← same) h.writes)
 
-pub one_command : OneCommand
-one_command bytes c d first second = one_line bytes c d first.line second.line
-
-pub commands_are_shallow : CommandsAreShallow
-commands_are_shallow bytes c h deep = lines_are_shallow bytes c h.line deep
-
-pub commands_are_well_formed : CommandsAreWellFormed
-commands_are_well_formed bytes c h (inl none) = lines_are_well_formed bytes c h.line none
-commands_are_well_formed bytes c h (inr other) =
-    let same : c ≡ other.0 = one_line bytes c other.0 h.line other.1 in
-    let here = rw same at h.here in
-    let missing = other.2 in
-    cc
-
 pub deep_lines_are_well_formed : DeepLinesAreWellFormed
-deep_lines_are_well_formed bytes h (inl (inl none)) = none h.tokens h.spelled
-deep_lines_are_well_formed bytes h (inl (inr other)) =
+deep_lines_are_well_formed bytes h (inl none) = none h.tokens h.spelled
+deep_lines_are_well_formed bytes h (inr other) =
     let same = one_spelling h.tokens other.0 bytes h.spelled other.1 in
     other.2 (rw (← same) h.level)
-deep_lines_are_well_formed bytes h (inr other) = lines_are_shallow bytes other.0 other.1 h

@@ -11,7 +11,6 @@ use Rattle.script_model.specs.Grammar.{Line, IsLine, Stabilize, Grab}
 use Rattle.script_model.specs.Need.{Item, Named, Needed, ItemGives, WithinWork, Met, Visit, IsVisit, Edge, Inside, Place, Reads}
 use Rattle.script_model.specs.Blocked.{OnCycle, Holds, InTheWay}
 use Rattle.script_model.specs.Valid.{HasType, BoundsFit, OutcomeHasType, Valid, KeepToTypes, LibraryKeepsToTypes}
-use Rattle.script_model.specs.Here.{is_here}
 use Rattle.script_model.specs.Request.{Request, Asks, IsRequest}
 use Rattle.script_model.specs.Run.{Turn, IsRun, Halts, IsTurn, bytes_of, transcript}
 use Rattle.script_model.specs.Step.{Moment, Reply, Refusal, Refused, Stabilizes, Step, breaks, number_of, first_moment, Follows, verdict_of}
@@ -245,9 +244,3 @@ abbrev pub BlockedIsRefused : Type 0
 BlockedIsRefused =
     (F : Meanings) (m after : Moment) (replies : List Reply) (i : Item) → Stabilizes F m after replies → Needed F m.present i → InTheWay F m.present i
     → (why : Refusal) × (replies ≡ Refused why ∷ []) × (breaks why ≡ true)
-
--- a line of a form that isn't here is asked for in no turn; so where no grab is here, the premise about grabs holds in every run
-abbrev pub OnlyHereIsAsked : Type 0
-OnlyHereIsAsked =
-    (F : Meanings) (lines : List (List ℕ)) (turns : List Turn) (line : Line) → IsRun F lines turns → is_here line ≡ false
-    → Every (λ (t : Turn). t.request ≡ Asks line → ⊥) turns

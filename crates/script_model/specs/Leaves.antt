@@ -30,12 +30,12 @@ abbrev mutual
   EveryLeafOfAll P R End = Unit {0}
   EveryLeafOfAll P R (More f rest) = EveryLeaf P R f × EveryLeafOfAll P R rest
 
--- so for what is declared: an expert reads the names that it is linked to, and a grab that of its bind
+-- so for what is declared: what an expert is linked to is referred to, as commands name it; a grab reads the name of its bind
 abbrev pub EveryLeafOf : (ℕ → Type 0) → (ℕ → Type 0) → Body → Type 0
 EveryLeafOf P R (Variable v) = EveryReference R v
 EveryLeafOf P R (Computed f kept) = EveryLeaf P R f
 EveryLeafOf P R (Freeze child predicate frozen) = EveryLeaf P R child × IfSome frozen (EveryReference R)
 EveryLeafOf P R (After time) = Unit {0}
 EveryLeafOf P R (Every base span) = Unit {0}
-EveryLeafOf P R (Expert function first links stale) = EveryReference R first × Each P links
+EveryLeafOf P R (Expert function first links stale) = EveryReference R first × Each R links
 EveryLeafOf P R (Grab bind v is_live) = P bind × EveryReference R v

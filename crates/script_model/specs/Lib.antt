@@ -7,7 +7,6 @@ pub mod Evaluate
 pub mod Formula
 pub mod Grammar
 pub mod GrammarLaws
-pub mod Here
 pub mod Language
 pub mod Laws
 pub mod Leaves

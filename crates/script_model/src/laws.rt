@@ -1,6 +1,6 @@
 //! Laws of the definitions. Each function does nothing: its contract is the law.
-ghost use Rattle.script_model.specs.GrammarLaws.{OneWriting, OneLine, LinesAreShallow, LinesAreWellFormed, OneCommand, CommandsAreShallow, CommandsAreWellFormed, DeepLinesAreWellFormed, WhatIsReadIsWritten};
-ghost use Rattle.script_model.specs.Laws.{FewBinds, NothingDueAfterSettling, EveryDepthAgrees, OneOutcome, RefusalsChangeNothing, RefusedStabilizesBreak, OneRequest, OneEffect, StartIsValid, StepsKeepValidity, LinesKeepValidity, HaltsKeepValidity, RunsAreValid, ValuesHaveTypes, DeclarationsHaveTypes, CallsAreTyped, VisitsCountCalls, NeededGives, GivenIsOnNoCycle, LibrariesKeepToTypes, EveryLineAsks, OnlyStabilizesCall, OneVisit, MeetsOnce, ReadsSuffice, OneTranscript, OneBeginning, OneTranscriptPastRefusals, OneEnd, UnblockedIsAccepted, BlockedIsRefused, OnlyHereIsAsked};
+ghost use Rattle.script_model.specs.GrammarLaws.{OneWriting, OneLine, LinesAreShallow, LinesAreWellFormed, DeepLinesAreWellFormed, WhatIsReadIsWritten};
+ghost use Rattle.script_model.specs.Laws.{FewBinds, NothingDueAfterSettling, EveryDepthAgrees, OneOutcome, RefusalsChangeNothing, RefusedStabilizesBreak, OneRequest, OneEffect, StartIsValid, StepsKeepValidity, LinesKeepValidity, HaltsKeepValidity, RunsAreValid, ValuesHaveTypes, DeclarationsHaveTypes, CallsAreTyped, VisitsCountCalls, NeededGives, GivenIsOnNoCycle, LibrariesKeepToTypes, EveryLineAsks, OnlyStabilizesCall, OneVisit, MeetsOnce, ReadsSuffice, OneTranscript, OneBeginning, OneTranscriptPastRefusals, OneEnd, UnblockedIsAccepted, BlockedIsRefused};
 ghost use Rattle.script_model.specs.TokenLaws.{OneSpelling};
 ghost use Rattle.script_model.specs.Row.{SumIsShown, SumIsOneCall, BindIsShown, BindIsOneCall, NameIsOnCycle, GrabDies, ChainIsTooDeep, GrabStateIsValid};
 
@@ -64,21 +64,6 @@ pub fn lines_are_well_formed()
     ensures { LinesAreWellFormed }
 {}
 
-/// The bytes of a line are at most one command.
-pub fn one_command()
-    ensures { OneCommand }
-{}
-
-/// No line is a command and nested too deep.
-pub fn commands_are_shallow()
-    ensures { CommandsAreShallow }
-{}
-
-/// No line is a command and malformed.
-pub fn commands_are_well_formed()
-    ensures { CommandsAreWellFormed }
-{}
-
 /// No line is nested too deep and malformed.
 pub fn deep_lines_are_well_formed()
     ensures { DeepLinesAreWellFormed }
@@ -95,7 +80,7 @@ pub fn what_is_read_is_written()
 {}
 
 /// Every line asks for something: it is too long, blank, malformed or nested too deep, or it is a
-/// command of the forms that are here.
+/// line of the grammar.
 pub fn every_line_asks()
     ensures { EveryLineAsks }
 {}
@@ -202,7 +187,7 @@ pub fn steps_keep_validity()
     ensures { StepsKeepValidity }
 {}
 
-/// So does what any line of the whole grammar comes to, also one of a form that isn't here yet.
+/// So does what any line of the grammar comes to.
 pub fn lines_keep_validity()
     ensures { LinesKeepValidity }
 {}
@@ -252,9 +237,4 @@ pub fn unblocked_is_accepted()
 /// A stabilize is refused where something that is needed stands in the way.
 pub fn blocked_is_refused()
     ensures { BlockedIsRefused }
-{}
-
-/// A line of a form that isn't here is asked for in no turn.
-pub fn only_here_is_asked()
-    ensures { OnlyHereIsAsked }
 {}

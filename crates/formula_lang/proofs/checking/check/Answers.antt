@@ -33,6 +33,6 @@ returns-clause-fits g c =
     check_fits F (g.L.Library.known c.args.library.now) c.args.names.now c.keeps_order.ensures
     (λ name f is. let maps = g.met.L.Library.names_maps c.args.library.now name f is in
     record { is_known = maps.0; kind = maps.1; signature = maps.2 })
-    (line_view c.args.line.now) (command_view command) c.requires (line_has_time c.args.line.now)
+    (line_view c.args.line.now) (command_view command) (line_has_time c.args.line.now)
     (sym c.first_reason-against.ensures ∙ ap (option_map reason_view) e.1)
     (sym c.in_ok-command.ensures ∙ ap (option_map command_view) e.0))

@@ -25,3 +25,12 @@ returns-in-Unobserve g c = rw c.in-Unobserve.is (c.ending.ensures
 pub returns-in-Watch : goal.returns-in-Watch
 returns-in-Watch g c = rw c.in-Watch.is (c.watching.ensures
     (meanings_of (g.L.Library.named c.args.library.now) (g.L.Library.value c.args.library.now)) c.args.names.now)
+
+pub returns-in-Link : goal.returns-in-Link
+returns-in-Link g c = rw c.in-Link.is (c.linking.ensures (meanings_of (g.L.Library.named c.args.library.now) (g.L.Library.value c.args.library.now)))
+
+pub returns-in-Unlink : goal.returns-in-Unlink
+returns-in-Unlink g c = rw c.in-Unlink.is (c.unlinking.ensures (meanings_of (g.L.Library.named c.args.library.now) (g.L.Library.value c.args.library.now)))
+
+pub returns-in-Stale : goal.returns-in-Stale
+returns-in-Stale g c = rw c.in-Stale.is (c.renewal.ensures (meanings_of (g.L.Library.named c.args.library.now) (g.L.Library.value c.args.library.now)))

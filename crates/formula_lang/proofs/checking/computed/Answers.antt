@@ -1,7 +1,7 @@
 use Rattle.std.proofs.Common.{refl}
 use Rattle.script_model.specs.Formula.{meanings_of}
 use Rattle.line_parser.specs.TreeView.{tree_view}
-use Rattle.formula_lang.proofs.Plainness.{computed_top}
+use Rattle.formula_lang.proofs.Within.{computed_top}
 use Rattle.formula_lang.proofs.checking.computed.Goals as goal
 
 pub returns-in-Ok-None : goal.returns-in-Ok-None

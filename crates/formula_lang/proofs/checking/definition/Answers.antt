@@ -1,17 +1,18 @@
-use Rattle.std.proofs.Common.{◌≡◌, true, false, sym, ap, ◌∙◌}
+use Rattle.std.proofs.Common.{◌≤◌, length, refl, sym, ap, subst, ◌∙◌}
+use Rattle.script_model.specs.Formula.{meanings_of}
 use Rattle.script_model.specs.Grammar.{Tree}
 use Rattle.line_parser.specs.TreeView.{level_view, tree_view}
 use Rattle.line_parser.specs.declared.tree.Tree.TheFolds.{fold-roll-Tree}
 use Rattle.line_parser.specs.declared.tree.Tree.TheOpen as level
 use Rattle.line_parser.specs.declared.tree.Tree.TheVariants.{rolls-Freeze}
-use Rattle.line_times.proofs.Freezes.{never_plain}
+use Rattle.formula_lang.proofs.Within.{no_top_frozen}
 use Rattle.formula_lang.proofs.checking.definition.Goals as goal
 
-pub unreachable-requires : goal.unreachable-requires
-unreachable-requires g c =
+pub returns-in-len1-up : goal.returns-in-len1-up
+returns-in-len1-up g c =
+    let F = meanings_of (g.L.Library.named c.args.library.now) (g.L.Library.value c.args.library.now) in
     let f = c.in-Freeze in
     let written = ap tree_view (f.is ∙ sym (rolls-Freeze f.child f.predicate f.around))
     ∙ fold-roll-Tree Tree level_view (level.Freeze f.child f.predicate f.around) in
-    let plain = rw written at c.requires in
-    let both : true ≡ false = sym plain ∙ never_plain (tree_view f.child.value) f.predicate f.around.items in
-    cc
+    let some = subst (λ xs. 1 ≤ length xs) c.as_slice.ensures.value c.in-len1-up.len_at_least in
+    rw (written, no_top_frozen F c.args.names.now (tree_view f.child.value) f.predicate f.around.items some) refl

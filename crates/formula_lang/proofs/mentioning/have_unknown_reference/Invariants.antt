@@ -1,6 +1,6 @@
 use Rattle.std.proofs.Common.{◌≡◌, drop, map}
 use Rattle.std.specs.List.{list_any}
-use Rattle.formula_lang.specs.Here.{referred_in}
+use Rattle.formula_lang.specs.Within.{referred_in}
 use Rattle.formula_lang.specs.Rows.{is_unknown}
 use Rattle.line_parser.specs.View.{timed_view}
 use Rattle.formula_lang.proofs.mentioning.have_unknown_reference.Given as goal

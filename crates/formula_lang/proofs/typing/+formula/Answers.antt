@@ -6,7 +6,7 @@ use Rattle.line_parser.specs.declared.tree.Tree.TheOpen as level
 use Rattle.line_parser.specs.declared.tree.Tree.TheVariants.{rolls-Fold, rolls-Freeze}
 use Rattle.script_model.specs.Formula.{meanings_of}
 use Rattle.formula_lang.specs.Typing.{bound_view}
-use Rattle.formula_lang.proofs.Plainness.{not_typed_frozen}
+use Rattle.formula_lang.proofs.Within.{not_typed_frozen}
 use Rattle.formula_lang.proofs.TypedArguments.{step_done, all_done}
 use Rattle.formula_lang.proofs.typing.+formula.Goals as goal
 
