@@ -13,6 +13,7 @@ use Rattle.formula_elab.specs.Opened.{Planned}
 use Rattle.formula_elab.specs.Today.{IsLaidOut, AreLaidOut, IsLaidOutBody}
 use Rattle.formula_elab.specs.Types.{formula_ty, joined_ty}
 use Rattle.formula_elab.specs.Writing.{body_of, with_named, written, written_body, written_each}
+use Rattle.formula_elab.specs.declared.opened.Open.TheVariants as opened
 use Rattle.formula_elab.specs.declared.opened.Open.TheVariants.{Map, Fold, If, Join, Bind}
 use Rattle.formula_elab.specs.declared.plan.Planned.TheVariants.{Body as Function, Node}
 
@@ -117,4 +118,9 @@ module _ (nodes : ℕ → NodeId) (tys : ℕ → Ty) where
   few_bodies (Computed f kept) is_laid = few 0 f is_laid
   few_bodies (After time) is_laid = omega arith
   few_bodies (script.Every base span) is_laid = omega arith
-  few_bodies body is_laid = absurd is_laid
+  few_bodies (script.Freeze child predicate frozen) is_laid =
+      let under = laid nodes tys 0 child in
+      let size = bodies_behind under.makes (Node (opened.Freeze (formula_ty tys [] child) under.root predicate) ∷ []) in
+      omega (arith, size, few 0 child is_laid)
+  few_bodies (script.Expert f first links stale) is_laid = omega arith
+  few_bodies (script.Grab bind v is_live) is_laid = absurd is_laid

@@ -242,7 +242,13 @@ module _ (nodes : ℕ → NodeId) (tys : ℕ → Ty) where
   body_in_order (Computed f kept) = formula_in_order [] 0 f refl
   body_in_order (After time) = ((tt, tt), (opened.At (pos time), refl))
   body_in_order (script.Every base span) = ((tt, tt), (opened.Every (pos base) span, refl))
-  body_in_order body = (tt, tt)
+  body_in_order (script.Freeze child predicate frozen) =
+      let under = laid nodes tys 0 child in
+      let here = formula_in_order [] 0 child refl in
+      let last = opened.Freeze (formula_ty tys [] child) under.root predicate in
+      (order_append [] under.makes (Node last ∷ []) here.0 (here.1, tt), root_is [] under.makes last 0 refl)
+  body_in_order (script.Expert f first links stale) = ((tt, tt), (opened.Expert f (graph_value nodes first), refl))
+  body_in_order (script.Grab bind v is_live) = (tt, tt)
 
 pub laid_in_order : LaidInOrder
 laid_in_order nodes tys body is_laid = (body_in_order nodes tys body).0

@@ -51,6 +51,8 @@ module _ (earlier more : List Planned) where
   node_more (opened.Steps first steps) h = tt
   node_more opened.Now h = tt
   node_more (opened.Every base span) h = tt
+  node_more (opened.Freeze ty child predicate) h = earlier_more child h
+  node_more (opened.Expert f v) h = tt
 
   pub needs_more : (x : Planned) → NeedsEarlier earlier x → NeedsEarlier (earlier ++ more) x
   needs_more (Body o) h = lines_more o.page.lines h

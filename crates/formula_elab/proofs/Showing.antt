@@ -16,7 +16,7 @@ use Rattle.transfer.specs.Both.{Both, graph_value}
 use Rattle.transfer.specs.Shows.{Built, Shows, ShowsAll, Opens, IsTop, Declares, Writes, graph_step, plain}
 use Rattle.formula_elab.specs.Bodies.{empty_page, IsMadeOf, OpenBody}
 use Rattle.formula_elab.specs.Laying.{laid, laid_each, laid_body}
-use Rattle.formula_elab.specs.Made.{CountsAlike, RootDeclares}
+use Rattle.formula_elab.specs.Made.{StandsAlike, RootDeclares}
 use Rattle.formula_elab.specs.Make.{function_made, made_at}
 use Rattle.formula_elab.specs.Names.{EveryNameOf}
 use Rattle.formula_elab.specs.Opened.{made_node, node_of, filled}
@@ -177,15 +177,24 @@ module _ (x : Both) (nodes : ℕ → NodeId) (tys : ℕ → Ty) (makes : List Pl
         let parts = at_split makes start first.makes (laid_each nodes tys next rest).makes at in
         (shows start f is_laid.0 leaves.0 parts.0, shows_each next rest is_laid.1 leaves.1 parts.1)
 
-  body_declares : (body : script.Body) → EveryNameOf Same body → CountsAlike x body → StandsAt makes 0 (laid_body nodes tys 0 body).makes
+  body_declares : (body : script.Body) → EveryNameOf Same body → StandsAlike x (node_of made (laid_body nodes tys 0 body).root) body
+      → StandsAt makes 0 (laid_body nodes tys 0 body).makes
       → Declares x (node_of made (laid_body nodes tys 0 body).root) (Some body)
-  body_declares (Variable v) names counts at =
+  body_declares (Variable v) names alike at =
       let top = tops 0 (Var (graph_value nodes v)) at.0 in
       (top.0, top.1, top.2, top.3 ∙ ap graph.Var (value_same nodes x.nodes v names.1))
-  body_declares (Computed f kept) names counts at = shows 0 f names.0 names.1 at
-  body_declares (After time) names counts at = tops 0 (opened.At (pos time)) at.0
-  body_declares (script.Every base span) names counts at = (tops 0 (opened.Every (pos base) span) at.0, counts)
-  body_declares body names counts at = absurd names.0
+  body_declares (Computed f kept) names alike at = shows 0 f names.0 names.1 at
+  body_declares (After time) names alike at = tops 0 (opened.At (pos time)) at.0
+  body_declares (script.Every base span) names alike at = (tops 0 (opened.Every (pos base) span) at.0, alike)
+  body_declares (script.Freeze child predicate frozen) names alike at =
+      let under = laid nodes tys 0 child in
+      let last = opened.Freeze (formula_ty tys [] child) under.root predicate in
+      let parts = at_split makes 0 under.makes (Node last ∷ []) at in
+      (node_of made under.root, tops (0 + length under.makes) last parts.1.0, shows 0 child names.0 names.1.0 parts.0, alike)
+  body_declares (script.Expert f first links stale) names alike at =
+      let top = tops 0 (opened.Expert f (graph_value nodes first)) at.0 in
+      ([], (top.0, top.1, top.2, top.3 ∙ ap (λ v. graph.Expert f v []) (value_same nodes x.nodes first names.1.0)), alike)
+  body_declares (script.Grab bind v is_live) names alike at = absurd names.0
 
 pub root_declares : RootDeclares
 root_declares nodes tys body x made names counts stands all =

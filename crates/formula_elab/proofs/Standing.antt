@@ -70,6 +70,8 @@ module _ (made : List Made) (m : Made) (earlier : List Planned) (within : length
   filled_stays (opened.Steps first steps) h = refl
   filled_stays opened.Now h = refl
   filled_stays (opened.Every base span) h = refl
+  filled_stays (opened.Freeze ty child predicate) h = ap (λ (n : NodeId). graph.Freeze n predicate) (node_of_stays child h)
+  filled_stays (opened.Expert f v) h = refl
 
   line_stays : (x : OpenLine) → LineNeedsEarlier earlier x → line_filled (made ++ m ∷ []) x ≡ line_filled made x
   line_stays (open_line.Ready line) h = refl

@@ -211,7 +211,13 @@ module _ (known : FnRef → Bool) (names : Names) (targets : AreTypedAsTargets n
   body_of_types (Computed f kept) ty fits = all_typed (laid nodes tys 0 f).makes (formula_typed [] 0 f ty fits.0 refl)
   body_of_types (After time) ty fits = all_typed (Node (opened.At (pos time)) ∷ []) (tt, tt)
   body_of_types (script.Every base span) ty fits = all_typed (Node (opened.Every (pos base) span) ∷ []) (tt, tt)
-  body_of_types body ty fits = absurd fits
+  body_of_types (script.Freeze child predicate frozen) ty fits =
+      let under = laid nodes tys 0 child in
+      let last = Node (opened.Freeze (formula_ty tys [] child) under.root predicate) in
+      all_typed (under.makes ++ last ∷ [])
+      (typed_append [] under.makes (last ∷ []) (formula_typed [] 0 child ty fits.0.child_fits refl) (tt, tt))
+  body_of_types (script.Expert f first links stale) ty fits = all_typed (Node (opened.Expert f (graph_value nodes first)) ∷ []) (tt, tt)
+  body_of_types (script.Grab bind v is_live) ty fits = absurd fits
 
 pub laid_typed : LaidTyped
 laid_typed known names nodes body ty targets fits is_laid = body_of_types known names targets nodes body ty fits

@@ -16,6 +16,7 @@ use Rattle.formula_elab.specs.Opened.{size_at, weight_of}
 use Rattle.formula_elab.specs.Today.{IsLaidOut, AreLaidOut, IsLaidOutBody}
 use Rattle.formula_elab.specs.Types.{formula_ty, joined_ty}
 use Rattle.formula_elab.specs.Writing.{body_of, with_named, written, written_body, written_each}
+use Rattle.formula_elab.specs.declared.opened.Open.TheVariants as opened
 use Rattle.formula_elab.specs.declared.opened.Open.TheVariants.{Map, Fold, If, Join, Bind}
 use Rattle.formula_elab.specs.declared.plan.Planned.{Planned}
 use Rattle.formula_elab.specs.declared.plan.Planned.TheVariants.{Body, Node}
@@ -151,7 +152,14 @@ module _ (nodes : ℕ → NodeId) (tys : ℕ → Ty) (all : List Planned) where
   node_each_of_body (Computed f kept) is_laid at = node_each 0 f is_laid at
   node_each_of_body (After time) is_laid at = refl
   node_each_of_body (script.Every base span) is_laid at = refl
-  node_each_of_body body is_laid at = absurd is_laid
+  node_each_of_body (script.Freeze child predicate frozen) is_laid at =
+      let under = laid nodes tys 0 child in
+      let last = Node (opened.Freeze (formula_ty tys [] child) under.root predicate) in
+      let both = sum_by-append (weight_of all) under.makes (last ∷ []) in
+      let parts = at_split all 0 under.makes (last ∷ []) at in
+      omega (arith, both, node_each 0 child is_laid parts.0)
+  node_each_of_body (script.Expert f first links stale) is_laid at = refl
+  node_each_of_body (script.Grab bind v is_live) is_laid at = absurd is_laid
 
 pub one_node_each : OneNodeEach
 one_node_each nodes tys body is_laid =

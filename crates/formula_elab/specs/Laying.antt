@@ -14,7 +14,7 @@ use Rattle.formula_elab.specs.Opened.{Planned}
 use Rattle.formula_elab.specs.Types.{formula_ty, joined_ty}
 use Rattle.formula_elab.specs.Writing.{Written, body_of, written_body}
 use Rattle.formula_elab.specs.declared.opened.Open.{Open}
-use Rattle.formula_elab.specs.declared.opened.Open.TheVariants.{Const, Var, Map, Fold, If, Join, Bind, At, Steps, Now, Every}
+use Rattle.formula_elab.specs.declared.opened.Open.TheVariants.{Const, Var, Map, Fold, If, Join, Bind, At, Steps, Now, Every, Freeze, Expert}
 use Rattle.formula_elab.specs.declared.opened.Part.{Part}
 use Rattle.formula_elab.specs.declared.opened.Part.TheVariants.{Given, Made}
 use Rattle.formula_elab.specs.declared.plan.Planned.TheVariants.{Body as Function, Node}
@@ -67,6 +67,13 @@ laid_join start ty child = record {
   root = Made (start + length child.makes);
 }
 
+-- a freeze of a type behind its child
+abbrev pub laid_freeze : ℕ → Ty → FnRef → Laid → Laid
+laid_freeze start ty predicate child = record {
+  makes = child.makes ++ Node (Freeze ty child.root predicate) ∷ [];
+  root = Made (start + length child.makes);
+}
+
 -- a bind of a type behind its left, whose body was written for a variable of a type: its function, and then its node
 abbrev pub laid_bind : ℕ → Ty → Ty → Laid → Written → Laid
 laid_bind start variable_ty ty left body =
@@ -110,13 +117,15 @@ abbrev mutual
       laid_before (laid nodes tys start f)
       (laid_each nodes tys (start + length (laid nodes tys start f).makes) rest)
 
--- what is to be made for what is declared: a variable is one node, and so is what reads the clock
+-- what is to be made for what is declared: a variable is one node, and so are an expert and what reads the clock
 abbrev pub laid_body : (ℕ → NodeId) → (ℕ → Ty) → ℕ → Body → Laid
 laid_body nodes tys start (Variable v) = laid_one start (Var (graph_value nodes v))
 laid_body nodes tys start (Computed f kept) = laid nodes tys start f
 laid_body nodes tys start (After time) = laid_one start (At (pos time))
 laid_body nodes tys start (script.Every base span) = laid_one start (Every (pos base) span)
-laid_body nodes tys start body = laid_given no_node
+laid_body nodes tys start (script.Freeze child predicate frozen) = laid_freeze start (formula_ty tys [] child) predicate (laid nodes tys start child)
+laid_body nodes tys start (script.Expert f first links stale) = laid_one start (Expert f (graph_value nodes first))
+laid_body nodes tys start (script.Grab bind v is_live) = laid_given no_node
 
 -- ---- what was laid out
 

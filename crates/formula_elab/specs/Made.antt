@@ -1,5 +1,5 @@
 -- A graph in which what was to be made for a declaration was made.
-use Rattle.std.specs.Prelude.{◌≡◌, ◌+◌, ◌-◌, ◌/◌, ◌-ℤ◌, ◌<◌, ◌≤◌, ◌++◌, ℕ, pos, Bool, List, [], ◌∷◌, length, Some, slice_get}
+use Rattle.std.specs.Prelude.{◌≡◌, ◌+◌, ◌-◌, ◌/◌, ◌-ℤ◌, ◌<◌, ◌≤◌, ◌++◌, ℕ, pos, Bool, List, [], ◌∷◌, length, map, Some, option_map, slice_get}
 use Rattle.std.specs.Int.Signed.{quot_z}
 use Rattle.inc_value.specs.declared.function.FnRef.{FnRef}
 use Rattle.inc_value.specs.declared.node.NodeId.{NodeId}
@@ -8,8 +8,8 @@ use Rattle.inc_terms.specs.Graph.{Graph, Row}
 use Rattle.inc_terms.specs.Term.{Functions}
 use Rattle.formula_lang.specs.Fits.{BodyFits}
 use Rattle.script_model.specs.Check.{Names}
-use Rattle.script_model.specs.Formula.{Body, Every, Formula, places_in, places_of_body}
-use Rattle.transfer.specs.Both.{Both}
+use Rattle.script_model.specs.Formula.{Body, Every, Expert, Formula, Freeze, places_in, places_of_body}
+use Rattle.transfer.specs.Both.{Both, graph_value}
 use Rattle.transfer.specs.Shows.{IsTop, Declares}
 use Rattle.formula_elab.specs.Bodies.{IsMadeOf, OpenBody, Page, size_of}
 use Rattle.formula_elab.specs.Laying.{laid_body}
@@ -50,16 +50,19 @@ WasMade H G earlier (planned.Body o) m = IsMadeOf H earlier o m
 
 -- ---- what is to be made for a declaration
 
--- where what is declared counts spans, the graph's clock counts as many as the script's
-abbrev pub CountsAlike : Both → Body → Type 0
-CountsAlike x (Every base span) = quot_z (x.graph.now -ℤ pos base) (pos span) ≡ pos ((x.state.now - base) / span)
-CountsAlike x body = Unit {0}
+-- beside what its node is: where what is declared counts spans, the graph's clock counts as many as the script's; a freeze keeps the same value, if any, and
+-- an expert has the nodes of its links
+abbrev pub StandsAlike : Both → NodeId → Body → Type 0
+StandsAlike x n (Every base span) = quot_z (x.graph.now -ℤ pos base) (pos span) ≡ pos ((x.state.now - base) / span)
+StandsAlike x n (Freeze child predicate frozen) = x.graph.frozen n ≡ option_map (graph_value x.nodes) frozen
+StandsAlike x n (Expert f first links stale) = x.graph.lists n ≡ map x.nodes links
+StandsAlike x n body = Unit {0}
 
 -- in every graph in which all of it was made, and in which the names have these nodes, the root is the node of what is
 -- declared
 abbrev pub ShowsOnceMade : (ℕ → NodeId) → Body → List Planned → Part → Type 0
 ShowsOnceMade nodes body makes root =
-    (x : Both) (made : List Made) → EveryNameOf (λ n. nodes n ≡ x.nodes n) body → CountsAlike x body
+    (x : Both) (made : List Made) → EveryNameOf (λ n. nodes n ≡ x.nodes n) body → StandsAlike x (node_of made root) body
     → StandsIn x.functions x.graph makes made → length makes ≤ length made → Declares x (node_of made root) (Some body)
 
 -- ---- laws

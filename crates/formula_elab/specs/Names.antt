@@ -4,7 +4,7 @@ use Rattle.script_model.specs.Formula.{Formula, Formulas, Body}
 use Rattle.script_model.specs.Leaves.{EveryLeaf, EveryLeafOfAll, EveryLeafOf}
 use Rattle.formula_elab.specs.Today.{IsLaidOut, AreLaidOut, IsLaidOutBody}
 
--- within so many binds the formula is of forms that are laid out, and every name in it has the property
+-- within so many binds the formula is laid out, and every name in it has the property
 abbrev pub EveryName : (ℕ → Type 0) → ℕ → Formula → Type 0
 EveryName P binds f = IsLaidOut binds f × EveryLeaf P P f
 

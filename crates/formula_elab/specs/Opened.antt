@@ -17,7 +17,7 @@ use Rattle.formula_elab.specs.declared.body.OpenLine.{OpenLine}
 use Rattle.formula_elab.specs.declared.body.OpenLine.TheVariants as line
 use Rattle.formula_elab.specs.declared.make.Made.{Made}
 use Rattle.formula_elab.specs.declared.opened.Open.{Open}
-use Rattle.formula_elab.specs.declared.opened.Open.TheVariants.{Const, Var, Map, Fold, If, Join, Bind, At, Steps, Now, Every}
+use Rattle.formula_elab.specs.declared.opened.Open.TheVariants.{Const, Var, Map, Fold, If, Join, Bind, At, Steps, Now, Every, Freeze, Expert}
 use Rattle.formula_elab.specs.declared.opened.Part.{Part}
 use Rattle.formula_elab.specs.declared.opened.Part.TheVariants.{Given, Made as Numbered}
 pub use Rattle.formula_elab.specs.declared.plan.Planned.{Planned}
@@ -49,6 +49,8 @@ filled made (At time) = graph.At time
 filled made (Steps first steps) = graph.Steps first steps
 filled made Now = graph.Now
 filled made (Every base span) = graph.Every base (pos span)
+filled made (Freeze ty child predicate) = graph.Freeze (node_of made child) predicate
+filled made (Expert f v) = graph.Expert f v []
 
 -- the type of the node
 abbrev pub open_ty : Open → Ty
@@ -63,6 +65,8 @@ open_ty (At time) = types.Bool
 open_ty (Steps first steps) = type_of first
 open_ty Now = types.Int
 open_ty (Every base span) = types.Int
+open_ty (Freeze ty child predicate) = ty
+open_ty (Expert f v) = f.sig.gives
 
 -- what is to be made of it: the node, or the function of a body that has its lines
 abbrev pub Makes : List Made → Planned → Make → Type 0
@@ -103,6 +107,8 @@ NodeNeedsEarlier earlier (At time) = Unit {0}
 NodeNeedsEarlier earlier (Steps first steps) = Unit {0}
 NodeNeedsEarlier earlier Now = Unit {0}
 NodeNeedsEarlier earlier (Every base span) = Unit {0}
+NodeNeedsEarlier earlier (Freeze ty child predicate) = IsEarlier earlier child
+NodeNeedsEarlier earlier (Expert f v) = Unit {0}
 
 -- so does what is to be made
 abbrev pub NeedsEarlier : List Planned → Planned → Type 0

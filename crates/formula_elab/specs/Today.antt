@@ -1,6 +1,6 @@
--- What is so of today's forms alone, and goes once all are laid out: no freeze and no expert is.
+-- What is laid out: formulas whose variables are of binds round them, and all that is declared but a grab.
 use Rattle.std.specs.Prelude.{◌<◌, ℕ, suc}
-use Rattle.script_model.specs.Formula.{Formula, Formulas, Body, Literal, Name, Bound, Apply, Fold, If, Join, Bind, At, Steps, Now, End, More, Variable, Computed, After, Every}
+use Rattle.script_model.specs.Formula.{Formula, Formulas, Body, Literal, Name, Bound, Apply, Fold, If, Join, Bind, At, Steps, Now, End, More, Variable, Computed, Freeze, After, Every, Expert, Grab}
 
 abbrev mutual
   -- within so many binds each variable of the formula is of one of these
@@ -28,4 +28,6 @@ IsLaidOutBody (Variable v) = Unit {0}
 IsLaidOutBody (Computed f kept) = IsLaidOut 0 f
 IsLaidOutBody (After time) = Unit {0}
 IsLaidOutBody (Every base span) = Unit {0}
-IsLaidOutBody body = ⊥
+IsLaidOutBody (Freeze child predicate frozen) = IsLaidOut 0 child
+IsLaidOutBody (Expert f first links stale) = Unit {0}
+IsLaidOutBody (Grab bind v is_live) = ⊥

@@ -1,11 +1,11 @@
 //! Laying formulas out as nodes to be made.
-ghost use Rattle.std.specs.Prelude.{◌≡◌, ◌<◌, ◌≤◌, ◌^◌, ◌++◌, ◌∷◌, [], Bool, false, length, map, IfOk, OnOk};
+ghost use Rattle.std.specs.Prelude.{◌≡◌, ◌<◌, ◌≤◌, ◌^◌, ◌++◌, ◌∷◌, [], Bool, false, None, length, map, IfOk, OnOk};
 ghost use Rattle.inc_value.specs.Choice.{Every};
 ghost use Rattle.inc_value.specs.declared.function.FnRef.{FnRef};
 ghost use Rattle.inc_value.specs.declared.ty.Ty.{Ty};
 ghost use Rattle.formula_lang.specs.Fits.{BodyFits};
 ghost use Rattle.formula_lang.specs.CommandView.{body_view, constant_view, formula_view, formulas_of, timed_view};
-ghost use Rattle.script_model.specs.Formula.{Apply, Bind, Fold, Join, TimedValue, binds_in, binds_in_all, binds_of_body, places_in, places_in_all, places_of_body};
+ghost use Rattle.script_model.specs.Formula.{Apply, Bind, Fold, Freeze, Join, TimedValue, binds_in, binds_in_all, binds_of_body, places_in, places_in_all, places_of_body};
 ghost use Rattle.formula_elab.specs.Laying.{laid_body, AreLaid, IsLaid, IsLaidBody};
 ghost use Rattle.formula_elab.specs.Made.{ShowsOnceMade};
 ghost use Rattle.formula_elab.specs.Names.{EveryName, EveryNameOfAll, EveryNameOf};
@@ -82,7 +82,42 @@ fn lay_body(
             },
             makes,
         ),
+        Declaration::Frozen { child, predicate } => {
+            lay_freeze(alloc, child, *predicate, names, ids, makes)
+        }
+        Declaration::Expert { function, first } => add_node(
+            Open::Expert(*function, value_of(alloc, first, ids)?),
+            makes,
+        ),
     }
+}
+
+/// Lays a freeze of a formula out behind what is to be made already. The answer is its node.
+fn lay_freeze(
+    alloc: Global,
+    child: &Formula,
+    predicate: FnRef,
+    names: &Names,
+    ids: &[NodeId],
+    makes: &mut Vec<Planned>,
+) -> Result<Part, AllocError>
+    requires one_each { length ids.now ≡ length names.now.declared }
+    requires names { EveryName (λ n. n < length ids.now) 0 (formula_view child.now) }
+    requires few { places_in (formula_view child.now) < 2 ^ 64 }
+    requires few_binds { binds_in (formula_view child.now) ≤ 64 }
+    ensures { IfOk result (λ root. IsLaidBody (node_at ids.now) (type_at names.entry.now)
+        (Freeze (formula_view child.now) predicate None) makes.old.items makes.new.items root) }
+{
+    let ty = formula_type(alloc, names, &[], child)?;
+    let child = lay(alloc, child, names, ids, makes)?;
+    add_node(
+        Open::Freeze {
+            ty,
+            child,
+            predicate,
+        },
+        makes,
+    )
 }
 
 /// Adds a node behind what is to be made already. The answer is its place. (Like others that go with each level of a formula, it

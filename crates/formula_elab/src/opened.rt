@@ -106,13 +106,21 @@ pub(crate) enum Open {
         base: i64,
         span: u64,
     },
+    /// The first value of the child, of the type, on which the predicate is true, and until then what the child shows.
+    Freeze {
+        ty: Ty,
+        child: Part,
+        predicate: FnRef,
+    },
+    /// The fold of a function from a first value over a list that is empty at first.
+    Expert(FnRef, Value),
 }
 
 // (written out: whoever drops one proves one call, and no drop of its parts)
 impl Drop for Open {
     fn drop(self) {
         match self {
-            Open::Const(value) | Open::Var(value) => drop(value),
+            Open::Const(value) | Open::Var(value) | Open::Expert(_, value) => drop(value),
             Open::Map(_, parts) => drop(parts),
             Open::Fold(_, first, parts) => {
                 drop(first);
@@ -129,6 +137,11 @@ impl Drop for Open {
                 no: _,
             }
             | Open::Join { ty: _, child: _ }
+            | Open::Freeze {
+                ty: _,
+                child: _,
+                predicate: _,
+            }
             | Open::Bind {
                 ty: _,
                 left: _,
@@ -175,6 +188,18 @@ impl Open {
                 base: *base,
                 span: *span,
             },
+            Open::Freeze {
+                child,
+                predicate,
+                ..
+            } => Def::Freeze {
+                kid: child.node(made),
+                function: *predicate,
+            },
+            Open::Expert(function, first) => Def::Expert {
+                function: *function,
+                initial: first.copy(alloc)?,
+            },
         })
     }
 
@@ -186,8 +211,13 @@ impl Open {
             Open::Const(value) | Open::Var(value) | Open::Steps(value, _) => value.ty(),
             Open::At(_) => Ty::Bool,
             Open::Now | Open::Every { .. } => Ty::Int,
-            Open::Map(function, _) | Open::Fold(function, _, _) => function.sig.gives(),
-            Open::If { ty, .. } | Open::Join { ty, .. } | Open::Bind { ty, .. } => *ty,
+            Open::Map(function, _) | Open::Fold(function, _, _) | Open::Expert(function, _) => {
+                function.sig.gives()
+            }
+            Open::If { ty, .. }
+            | Open::Join { ty, .. }
+            | Open::Bind { ty, .. }
+            | Open::Freeze { ty, .. } => *ty,
         }
     }
 }
