@@ -1,5 +1,5 @@
 -- A stabilize that was accepted is one of the script.
-use Rattle.std.proofs.Common.{◌≡◌, inl, inr, ℕ, ◌+◌, true, false, ◌&&◌, Bool, List, [], map, Option, None, Some, option_map, is_some, refl, ap, sym, subst, ◌∙◌, slice_get}
+use Rattle.std.proofs.Common.{◌≡◌, inl, inr, ℕ, ◌+◌, true, false, ◌&&◌, Bool, arith, List, [], ◌∷◌, map, Option, None, Some, IfSome, option_map, is_some, refl, ap, sym, subst, ◌∙◌, slice_get}
 use Rattle.std.specs.List.{AllZip}
 use Rattle.inc_value.specs.Choice.{Among, and_then}
 use Rattle.inc_value.specs.declared.function.FnRef.{FnRef}
@@ -15,7 +15,8 @@ use Rattle.inc_terms.specs.Term as term
 use Rattle.inc_terms.specs.Term.{Functions}
 use Rattle.graph.specs.Sound.{IsWhole}
 use Rattle.graph.specs.Stabilizes.{Stabilizes as GraphStabilizes, left_by}
-use Rattle.graph.specs.Standing.{GraphView, graph, shows_now, cutoff_of, AreRooted}
+use Rattle.stabilizer.specs.Look as seen
+use Rattle.graph.specs.Standing.{GraphView, graph, is_marked, look, shows_now, cutoff_of, AreRooted}
 use Rattle.observers.specs.Observers.{in_use, looked_at as looked_in, node_at as looked_at}
 use Rattle.observers.specs.declared.notice.Notice.{Notice as GraphNotice}
 use Rattle.observers.specs.declared.observer.Observer.{Observer as Looking}
@@ -27,40 +28,43 @@ use Rattle.stabilize_round.specs.Counts.{RoseBy}
 use Rattle.script_model.specs.Check.{is_among, target_of_body}
 use Rattle.script_model.specs.Evaluate.{NameGives}
 use Rattle.script_model.specs.Formula as script
-use Rattle.script_model.specs.Formula.{State, Entry, Body, Formula, Observer, Watch, Told, Meanings, meanings_of, body_at, built_at, built_of_body, entry_at, Name, Bind, Variable, Computed, After, Every, Grab}
+use Rattle.script_model.specs.Formula.{State, Entry, Body, Formula, Observer, Watch, Told, Meanings, meanings_of, body_at, built_at, built_of_body, entry_at, Name, Bind, Variable, Computed, Freeze, After, Every, Expert, Grab}
 use Rattle.script_model.specs.Need.{Visit, IsVisit, Needed}
-use Rattle.script_model.specs.Settle.{BuildsFor, Notice, Settles, ShowAll}
+use Rattle.script_model.specs.Leaves.{EveryReference}
+use Rattle.script_model.specs.Settle.{BuildsFor, Notice, Settles, ShowAll, recorded}
 use Rattle.script_model.specs.Step.{Moment, settles}
 use Rattle.script_model.specs.Valid.{Valid, ValidObserver, WatchFits, OutcomeHasType}
-use Rattle.script_model.specs.Values.{Value, Outcome, Val, same_kept}
-use Rattle.script_model.proofs.Leaves.{leaves_more_of, reference_more}
+use Rattle.script_model.specs.Values.{Value, Int, Bool as Truth, Text, Reference, Outcome, Val, Invalid, same_kept}
+use Rattle.script_model.proofs.Leaves.{leaves_more, leaves_more_of, reference_more}
 use Rattle.script_model.proofs.Settling.{settles_valid}
-use Rattle.script_model.proofs.TypedValues.{declarations_have_types}
+use Rattle.script_model.proofs.TypedValues.{declarations_have_types, values_have_types}
 use Rattle.script_graph.specs.Growing.{functions_over}
 use Rattle.script_graph.specs.Kept.{Kept, node_in, without_functions}
 use Rattle.script_graph.specs.Represents.{graph_functions, besides, beside, there_in, AreNames, Represents, Watches}
 use Rattle.script_graph.specs.Settled.{WasRun, Settled}
 use Rattle.script_graph.specs.Stabilizing.{IsAccepted, IsNotice}
 use Rattle.script_graph.specs.State.{MatchesMoment, Stands}
-use Rattle.script_graph.specs.Today.{IsDeclaredTarget, IsEarlierTarget, IsPlainBody, IsWithin, IsPartWithin, OwnNodesOf, RefersTo, AllPlain}
+use Rattle.script_graph.specs.Today.{FreezesAreDeclared, IsDeclaredTarget, IsEarlierTarget, IsPlainBody, IsWithin, IsPartWithin, OwnNodesOf, RefersTo, AllPlain}
 use Rattle.script_graph.proofs.Becoming as become
-use Rattle.script_graph.proofs.Becoming.{BuiltThen, AllBuilt, body_then, same_target}
+use Rattle.script_graph.proofs.Becoming.{IsThen, AllBuilt, body_then, recorded_of, same_target}
 use Rattle.script_graph.proofs.Beside.{represented_fits}
 use Rattle.script_graph.proofs.Building.{same_kepts, kept_itself, both_true, at, all, free, due, told_apart, left_typed, given_typed, kept_typed}
 use Rattle.script_graph.proofs.CuttingShort.{kept_whole}
+use Rattle.script_graph.proofs.Frozen.{root_is_unfrozen}
 use Rattle.script_graph.proofs.Held.{held_needed}
 use Rattle.script_graph.proofs.Leaving.{scopes_built}
-use Rattle.script_graph.proofs.Middle.{IsStabilize, middle, given, fits_then, tops, rooted_then}
-use Rattle.script_graph.proofs.Recalling.{visit_is_recalled}
-use Rattle.script_graph.proofs.Referring.{typed_outcome_refers}
-use Rattle.script_graph.proofs.Refusing.{IsSessions, grabs, kept_so, functions_so, moment_unbroken, stabilize_of}
-use Rattle.script_graph.proofs.Remembering.{among_there, every_one, observed_root}
+use Rattle.script_graph.proofs.Looking.{observer_root}
+use Rattle.script_graph.proofs.Middle.{IsStabilize, middle, given, fits_then, freezes_then, tops, rooted_then}
+use Rattle.script_graph.proofs.Recalling.{IsRecalled, visit_is_recalled}
+use Rattle.script_graph.proofs.Referring.{outcome_refers_more, typed_outcome_refers}
+use Rattle.script_graph.proofs.Refusing.{IsSessions, kept_so, functions_so, moment_unbroken, stabilize_of}
+use Rattle.script_graph.proofs.Remembering.{among_there, every_one}
 use Rattle.script_graph.proofs.Showing.{ShowsThen, AllShow, all_show, made_then, notices_then, shows_then, names_then, watches_then, told_then}
 use Rattle.script_graph.proofs.Staying.{shows_on, own_nodes_then}
 use Rattle.script_graph.proofs.Told.{told_at, told_in_use, told_looked, same_in_both}
-use Rattle.script_graph.proofs.Watching.{roots_have_in}
+use Rattle.script_graph.proofs.Watching.{none_kept, roots_have_in}
 use Rattle.script_graph.proofs.Without.{stabilizes_without}
-use Rattle.transfer.specs.Both.{Both, graph_outcome}
+use Rattle.transfer.specs.Both.{Both, graph_outcome, graph_value}
 use Rattle.transfer.specs.Items.{RootsHave}
 use Rattle.transfer.specs.Shows.{Declares, Fits, IsOwn}
 use Rattle.transfer.proofs.Meanings.{names_agree}
@@ -98,11 +102,17 @@ module _ (named : List ℕ → Option FnRef) (value : FnRef → List GraphValue 
   abbrev built_at_end : ℕ → Option GraphOutcome
   built_at_end = at named value m k g stands unbroken c whole done
 
-  abbrev built : AllBuilt F before s N built_at_end 0 s.entries
+  abbrev frozen_at_end : ℕ → Option GraphValue
+  frozen_at_end n = G'.frozen (N n)
+
+  abbrev built : AllBuilt F before s N built_at_end frozen_at_end 0 s.entries
   built = all named value m k g stands unbroken c whole done
 
   abbrev now : ℕ → Option Outcome
-  now = become.now_at F before s N built_at_end built [] 0
+  now = become.now_at F before s N built_at_end frozen_at_end built [] 0
+
+  abbrev keeps : ℕ → Option Value
+  keeps = become.keeps_at F before s N built_at_end frozen_at_end built [] 0
 
   -- ---- observers
 
@@ -149,7 +159,7 @@ module _ (named : List ℕ → Option FnRef) (value : FnRef → List GraphValue 
   -- ---- the state that it leaves
 
   abbrev then : State
-  then = become.then F before s N built_at_end built (there_in made) (s.accepted + 1)
+  then = become.then F before s N built_at_end frozen_at_end built (there_in made) (s.accepted + 1)
 
   abbrev new : Kept
   new = record k { accepted = k.accepted + 1; graph = g }
@@ -161,8 +171,7 @@ module _ (named : List ℕ → Option FnRef) (value : FnRef → List GraphValue 
   settled_so = record {
     observers = subst (λ (xs : List Observer). ShowAll F s xs then.observers told) (sym stands.matches.watches.in_order)
         (shows_then F s k g stands.matches.watches.made shown);
-    entries = become.become_all F before s N built_at_end built (there_in made) (s.accepted + 1) (IsEarlierTarget s) (IsDeclaredTarget s)
-        (λ n b is. c.held.today.plain n b is);
+    entries = become.become_all F before s N built_at_end frozen_at_end built (there_in made) (s.accepted + 1);
     now = refl;
     accepted = refl;
   }
@@ -170,23 +179,23 @@ module _ (named : List ℕ → Option FnRef) (value : FnRef → List GraphValue 
   valid_then : Valid F then
   valid_then = settles_valid F before s then told c.keep c.valid settled_so
 
-  body_of : (n : ℕ) (b : Body) → body_at s n ≡ Some b → (body_at then n ≡ Some (body_then s now b (now n))) × BuiltThen F before s N built_at_end n b (now n)
-  body_of n b is = become.body_of_then F before s N built_at_end built (there_in made) (s.accepted + 1) n b is
+  body_of : (n : ℕ) (b : Body) → body_at s n ≡ Some b
+      → (body_at then n ≡ Some (body_then s now b (now n) (keeps n))) × IsThen F before s N built_at_end frozen_at_end n b (now n) (keeps n)
+  body_of n b is = become.body_of_then F before s N built_at_end frozen_at_end built (there_in made) (s.accepted + 1) n b is
 
   none_of : (n : ℕ) → body_at s n ≡ None → body_at then n ≡ None
-  none_of n is = (become.body_none F before s N built_at_end built (there_in made) (s.accepted + 1) n is).0
+  none_of n is = (become.body_none F before s N built_at_end frozen_at_end built (there_in made) (s.accepted + 1) n is).0
 
-  body_was : (n : ℕ) (b : Body) → body_at then n ≡ Some b → (d : Body) × (body_at s n ≡ Some d) × (b ≡ body_then s now d (now n))
-  body_was n b is = become.body_was F before s N built_at_end built (there_in made) (s.accepted + 1) n b is
+  body_was : (n : ℕ) (b : Body) → body_at then n ≡ Some b → (d : Body) × (body_at s n ≡ Some d) × (b ≡ body_then s now d (now n) (keeps n))
+  body_was n b is = become.body_was F before s N built_at_end frozen_at_end built (there_in made) (s.accepted + 1) n b is
 
   built_now : (n : ℕ) → built_at then n ≡ now n
-  built_now n = become.built_then F before s N built_at_end built (there_in made) (s.accepted + 1) n
+  built_now n = become.built_then F before s N built_at_end frozen_at_end built (there_in made) (s.accepted + 1) n
 
-  own_then : (n : ℕ) (b : Body) → IsOwn (Some b) → IsOwn (Some (body_then s now b (now n)))
+  own_then : (n : ℕ) (b : Body) → IsOwn (Some b) → IsOwn (Some (body_then s now b (now n) (keeps n)))
   own_then n (Computed (Name t) kept) own = own
   own_then n (Computed f kept) own = tt
-  own_then n (Grab bind v is_live) own = tt
-  own_then n b own = own
+  own_then n b own = tt
 
   own_at : (n : ℕ) → IsOwn (body_at s n) → IsOwn (body_at then n)
   own_at n own = go (body_at s n) refl own
@@ -196,10 +205,10 @@ module _ (named : List ℕ → Option FnRef) (value : FnRef → List GraphValue 
       go (Some b) is own = subst IsOwn (sym (body_of n b is).0) (own_then n b own)
 
   declared_then : (t : ℕ) → IsDeclaredTarget s t → IsDeclaredTarget then t
-  declared_then t (b, is, own) = (body_then s now b (now t), (body_of t b is).0, own_then t b own)
+  declared_then t (b, is, own) = (body_then s now b (now t) (keeps t), (body_of t b is).0, own_then t b own)
 
   abbrev watched : Watches then new
-  watched = watches_then F s k g stands.matches.watches shown then (k.accepted + 1) refl (λ n b is. (body_then s now b (now n), (body_of n b is).0))
+  watched = watches_then F s k g stands.matches.watches shown then (k.accepted + 1) refl (λ n b is. (body_then s now b (now n) (keeps n), (body_of n b is).0))
       declared_then done.observers
 
   in_use_still : in_use g.observers ≡ in_use k.graph.observers
@@ -210,7 +219,8 @@ module _ (named : List ℕ → Option FnRef) (value : FnRef → List GraphValue 
   bind_was : (n : ℕ) (f : Formula) (kept : script.Kept) → body_at then n ≡ Some (Computed f kept) → (old : script.Kept) × (body_at s n ≡ Some (Computed f old))
   bind_was n f kept is = let d = body_was n (Computed f kept) is in go d.0 d.1 d.2
     where
-      go : (d : Body) → body_at s n ≡ Some d → Computed f kept ≡ body_then s now d (now n) → (old : script.Kept) × (body_at s n ≡ Some (Computed f old))
+      go : (d : Body) → body_at s n ≡ Some d → Computed f kept ≡ body_then s now d (now n) (keeps n)
+          → (old : script.Kept) × (body_at s n ≡ Some (Computed f old))
       go (Computed h old) was same = let one : h ≡ f = cc in (old, was ∙ ap (λ (z : Formula). Some (Computed z old)) one)
       go (Grab bind v is_live) was same = absurd (cc)
       go d was same = absurd (cc)
@@ -219,7 +229,7 @@ module _ (named : List ℕ → Option FnRef) (value : FnRef → List GraphValue 
       → (body_at s n ≡ Some (Grab b v true)) × (same_kept (built_at s b) (now b) ≡ true)
   grab_was n b v is = let d = body_was n (Grab b v true) is in go d.0 d.1 d.2
     where
-      go : (d : Body) → body_at s n ≡ Some d → Grab b v true ≡ body_then s now d (now n)
+      go : (d : Body) → body_at s n ≡ Some d → Grab b v true ≡ body_then s now d (now n) (keeps n)
           → (body_at s n ≡ Some (Grab b v true)) × (same_kept (built_at s b) (now b) ≡ true)
       go (Grab b' v' is_live) was same =
           let binds : b' ≡ b = cc in
@@ -234,7 +244,7 @@ module _ (named : List ℕ → Option FnRef) (value : FnRef → List GraphValue 
 
   alike : (n : ℕ) (left body : Formula) (kept : script.Kept) → body_at s n ≡ Some (Computed (Bind left body) kept)
       → built_at_end n ≡ option_map (graph_outcome N) (now n)
-  alike n left body kept is = (body_of n (Computed (Bind left body) kept) is).1.1
+  alike n left body kept is = (body_of n (Computed (Bind left body) kept) is).1.0.1
 
   -- what a bind with a live grab was built for, in the script
   grab_built : (n b : ℕ) (v : Value) → body_at s n ≡ Some (Grab b v true) → built_at s b ≡ Some (Val v)
@@ -248,7 +258,7 @@ module _ (named : List ℕ → Option FnRef) (value : FnRef → List GraphValue 
     where
       by_bind : (left body : Formula) (kept : script.Kept) → body_at s b ≡ Some (Computed (Bind left body) kept) → now b ≡ Some (Val v)
       by_bind left body kept at_b =
-          by_built (now b) (body_of b (Computed (Bind left body) kept) at_b).1.0 (sym out ∙ alike b left body kept at_b)
+          by_built (now b) (body_of b (Computed (Bind left body) kept) at_b).1.0.0 (sym out ∙ alike b left body kept at_b)
         where
           was : kept.built ≡ Some (Val v)
           was = ap (λ (o : Option Body). and_then o built_of_body) (sym at_b) ∙ grab_built n b v is
@@ -296,48 +306,102 @@ module _ (named : List ℕ → Option FnRef) (value : FnRef → List GraphValue 
           by_built None built out = cc
           by_built (Some w) built out = lost.5 w built (cc)
 
-  declares_some : (n : ℕ) (b : Body) → body_at s n ≡ Some b → Declares y (N n) (Some b) → Declares z (N n) (Some (body_then s now b (now n)))
+  declares_some : (n : ℕ) (b : Body) → body_at s n ≡ Some b → Declares y (N n) (Some b) → Declares z (N n) (Some (body_then s now b (now n) (keeps n)))
   declares_some n (Variable v) is h = h
   declares_some n (Computed f kept) is h =
-      shows_on F M N s then G' G' y.died none_died (λ n r row outside. row) (term.Ref (N n)) f h
+      shows_on F M N s then y.graph G' y.died none_died (λ n r row outside. row) (term.Ref (N n)) f h
   declares_some n (Grab b v true) is h = grab_then n b v is h
   declares_some n (Grab b v false) is h = (h.0, refl)
   declares_some n (After time) is h = h
   declares_some n (Every base span) is h = h
-  declares_some n b is h = absurd (c.held.today.plain n b is).0
+  declares_some n (Freeze child predicate None) is (kid, top, shows, none) = (
+    kid,
+    top,
+    shows_on F M N s then y.graph G' y.died none_died (λ n r row outside. row) (term.Ref kid) child shows,
+    (body_of n (Freeze child predicate None) is).1.1.1,
+  )
+  declares_some n (Freeze child predicate (Some v)) is (kid, top, shows, kept) = (
+    kid,
+    top,
+    shows_on F M N s then y.graph G' y.died none_died (λ n r row outside. row) (term.Ref kid) child shows,
+    (body_of n (Freeze child predicate (Some v)) is).1.1.1,
+  )
+  declares_some n (Expert f first links stale) is h = h
 
   declares_then : (n : ℕ) (b : Option Body) → body_at s n ≡ b → Declares z (N n) (body_at then n)
   declares_then n None is =
       subst (Declares z (N n)) (sym (none_of n is)) (let h = rw is at (fits.declared n) in (h.0, refl))
   declares_then n (Some b) is = subst (Declares z (N n)) (sym (body_of n b is).0) (declares_some n b is (rw is at (fits.declared n)))
 
-  plain_of : (n : ℕ) (b : Body) → IsPlainBody (IsEarlierTarget s n) (IsDeclaredTarget s) b
-      → IsPlainBody (IsEarlierTarget then n) (IsDeclaredTarget then) (body_then s now b (now n))
-  plain_of n (Variable v) fine = (fine.0, reference_more (IsDeclaredTarget s) (IsDeclaredTarget then) declared_then v fine.1)
-  plain_of n (Computed f kept) fine = (
+  abbrev IsFine : Option Value → Type 0
+  IsFine o = IfSome o (EveryReference (IsDeclaredTarget then))
+
+  -- what a freeze keeps refers to what is declared
+  recorded_refers : (predicate : FnRef) (o : Outcome) → RefersTo (IsDeclaredTarget then) o
+      → IfSome (recorded F predicate o) (EveryReference (IsDeclaredTarget then))
+  recorded_refers predicate Invalid refers = tt
+  recorded_refers predicate (Val v) refers = by_value (F.value predicate (v ∷ [])) refl
+    where
+      by_value : (x : Value) → F.value predicate (v ∷ []) ≡ x → IsFine (recorded F predicate (Val v))
+      by_value (Truth true) is = subst IsFine (sym (recorded_of F predicate v (Truth true) is)) refers
+      by_value (Truth false) is = subst IsFine (sym (recorded_of F predicate v (Truth false) is)) tt
+      by_value (Int i) is = subst IsFine (sym (recorded_of F predicate v (Int i) is)) tt
+      by_value (Text bytes) is = subst IsFine (sym (recorded_of F predicate v (Text bytes) is)) tt
+      by_value (Reference t base) is = subst IsFine (sym (recorded_of F predicate v (Reference t base) is)) tt
+
+  keeps_refers : (n : ℕ) (child : Formula) (predicate : FnRef) (frozen : Option Value) → body_at s n ≡ Some (Freeze child predicate frozen)
+      → IfSome frozen (EveryReference (IsDeclaredTarget s)) → IfSome (keeps n) (EveryReference (IsDeclaredTarget then))
+  keeps_refers n child predicate (Some v) is refers =
+      subst (λ (x : Option Value). IfSome x (EveryReference (IsDeclaredTarget then))) (sym (body_of n (Freeze child predicate (Some v)) is).1.1.0)
+      (reference_more (IsDeclaredTarget s) (IsDeclaredTarget then) declared_then v refers)
+  keeps_refers n child predicate None is refers =
+      let h = (body_of n (Freeze child predicate None) is).1.1.0 in
+      let typed = body_typed F s c.valid n (Freeze child predicate None) is in
+      let has = values_have_types F s c.keep c.valid n [] [] child typed.0 h.0 tt typed.1.0 h.1 in
+      subst (λ (x : Option Value). IfSome x (EveryReference (IsDeclaredTarget then))) (sym h.2)
+      (recorded_refers predicate h.0 (outcome_refers_more (IsDeclaredTarget s) (IsDeclaredTarget then) declared_then h.0
+      (typed_outcome_refers s c.held.today.plain c.held.targets h.0 typed.0 has)))
+
+  plain_of : (n : ℕ) (b : Body) → body_at s n ≡ Some b → IsPlainBody (IsEarlierTarget s n) (IsDeclaredTarget s) b
+      → IsPlainBody (IsEarlierTarget then n) (IsDeclaredTarget then) (body_then s now b (now n) (keeps n))
+  plain_of n (Variable v) is fine = (fine.0, reference_more (IsDeclaredTarget s) (IsDeclaredTarget then) declared_then v fine.1)
+  plain_of n (Computed f kept) is fine = (
     fine.0,
     leaves_more_of (IsEarlierTarget s n) (IsEarlierTarget then n) (IsDeclaredTarget s) (IsDeclaredTarget then)
         (λ t early. (early.0, own_at t early.1)) declared_then (Computed f kept) fine.1,
   )
-  plain_of n (Grab bind v is_live) fine =
+  plain_of n (Grab bind v is_live) is fine =
       ((fine.0.0, own_at bind fine.0.1), reference_more (IsDeclaredTarget s) (IsDeclaredTarget then) declared_then v fine.1)
-  plain_of n (After time) fine = fine
-  plain_of n (Every base span) fine = fine
-  plain_of n b fine = absurd fine.0
+  plain_of n (After time) is fine = fine
+  plain_of n (Every base span) is fine = fine
+  plain_of n (Freeze child predicate frozen) is fine = (
+    fine.0,
+    (
+      leaves_more (IsEarlierTarget s n) (IsEarlierTarget then n) (IsDeclaredTarget s) (IsDeclaredTarget then)
+          (λ t early. (early.0, own_at t early.1)) declared_then child fine.1.0,
+      keeps_refers n child predicate frozen is fine.1.1,
+    ),
+  )
+  plain_of n (Expert f first links stale) is fine = (
+    fine.0,
+    leaves_more_of (IsEarlierTarget s n) (IsEarlierTarget then n) (IsDeclaredTarget s) (IsDeclaredTarget then)
+        (λ t early. (early.0, own_at t early.1)) declared_then (Expert f first links stale) fine.1,
+  )
 
   plain_then : AllPlain then
   plain_then n b is =
       let d = body_was n b is in
-      subst (IsPlainBody (IsEarlierTarget then n) (IsDeclaredTarget then)) (sym d.2) (plain_of n d.0 (c.held.today.plain n d.0 d.1))
+      subst (IsPlainBody (IsEarlierTarget then n) (IsDeclaredTarget then)) (sym d.2) (plain_of n d.0 d.1 (c.held.today.plain n d.0 d.1))
 
   aged_of : (n : ℕ) (b : Body) → OwnNodesOf G' (IsWithin k.nodes n) (IsPartWithin k.nodes n) (N n) b
-      → OwnNodesOf G' (IsWithin k.nodes n) (IsPartWithin k.nodes n) (N n) (body_then s now b (now n))
+      → OwnNodesOf G' (IsWithin k.nodes n) (IsPartWithin k.nodes n) (N n) (body_then s now b (now n) (keeps n))
   aged_of n (Variable v) own = own
   aged_of n (Computed f kept) own = own
   aged_of n (Grab bind v is_live) own = own
   aged_of n (After time) own = own
   aged_of n (Every base span) own = own
-  aged_of n b own = absurd own
+  aged_of n (Freeze child predicate frozen) own = own
+  aged_of n (Expert f first links stale) own = own
 
   aged_then : (n : ℕ) (b : Body) → body_at then n ≡ Some b → OwnNodesOf G' (IsWithin k.nodes n) (IsPartWithin k.nodes n) (N n) b
   aged_then n b is =
@@ -345,14 +409,26 @@ module _ (named : List ℕ → Option FnRef) (value : FnRef → List GraphValue 
       subst (OwnNodesOf G' (IsWithin k.nodes n) (IsPartWithin k.nodes n) (N n)) (sym d.2)
       (aged_of n d.0 (own_nodes_then F M N s s (graph k.graph) G' none_died y.died (tops named value s k g c)
       (IsWithin k.nodes n) (IsPartWithin k.nodes n) (N n) d.0
-      (λ f kept e. rw (d.1, e) at (c.held.declares n)) (c.held.today.aged n d.0 d.1)))
+      (subst (λ (b : Option Body). Declares (beside F s k) (N n) b) d.1 (c.held.declares n)) (c.held.today.aged n d.0 d.1)))
+
+  -- the freezes are those that were declared
+  freezes_so_then : FreezesAreDeclared G' then k.nodes
+  freezes_so_then n r kid f row def =
+      let d = freezes_then named value s k g c n r kid f row def in record {
+        position = d.position;
+        child = d.child;
+        predicate = d.predicate;
+        frozen = keeps d.position;
+        is_body = (body_of d.position (Freeze d.child d.predicate d.frozen) d.is_body).0;
+        node = d.node;
+      }
 
   targets_then : (n : ℕ) (e : Entry) → entry_at then n ≡ Some e → e.target ≡ target_of_body n e.body
   targets_then n e is =
-      let d = become.entry_was F before s N built_at_end built (there_in made) (s.accepted + 1) n e is in
-      let bodies : e.body ≡ body_then s now d.0.body (now n) = ap (λ (x : Entry). x.body) d.2 in
+      let d = become.entry_was F before s N built_at_end frozen_at_end built (there_in made) (s.accepted + 1) n e is in
+      let bodies : e.body ≡ body_then s now d.0.body (now n) (keeps n) = ap (λ (x : Entry). x.body) d.2 in
       ap (λ (x : Entry). x.target) d.2
-      ∙ (c.held.targets n d.0 d.1 ∙ (sym (same_target s now n d.0.body (now n)) ∙ ap (target_of_body n) (sym bodies)))
+      ∙ (c.held.targets n d.0 d.1 ∙ (sym (same_target s now n d.0.body (now n) (keeps n)) ∙ ap (target_of_body n) (sym bodies)))
 
   refers_then : (n : ℕ) (o : Outcome) → built_at then n ≡ Some o → RefersTo (IsDeclaredTarget then) o
   refers_then n o is = go (body_at then n) refl is
@@ -372,14 +448,14 @@ module _ (named : List ℕ → Option FnRef) (value : FnRef → List GraphValue 
 
   pub represented : Represents F then new
   represented = record {
-    room = ap (λ (n : ℕ). k.room + n) (become.places_then F before s N built_at_end built (there_in made) (s.accepted + 1)) ∙ c.held.room;
+    room = ap (λ (n : ℕ). k.room + n) (become.places_then F before s N built_at_end frozen_at_end built (there_in made) (s.accepted + 1)) ∙ c.held.room;
     clock = c.stays.clock ∙ c.held.clock;
-    one_node_each = c.held.one_node_each ∙ sym (become.length_then F before s N built_at_end built (there_in made) (s.accepted + 1));
+    one_node_each = c.held.one_node_each ∙ sym (become.length_then F before s N built_at_end frozen_at_end built (there_in made) (s.accepted + 1));
     declares = λ n. declares_then n (body_at s n) refl;
     targets = targets_then;
     apart = λ i j d e is_i is_j own_i own_j same.
-        let p = become.entry_was F before s N built_at_end built (there_in made) (s.accepted + 1) i d is_i in
-        let q = become.entry_was F before s N built_at_end built (there_in made) (s.accepted + 1) j e is_j in
+        let p = become.entry_was F before s N built_at_end frozen_at_end built (there_in made) (s.accepted + 1) i d is_i in
+        let q = become.entry_was F before s N built_at_end frozen_at_end built (there_in made) (s.accepted + 1) j e is_j in
         c.held.apart i j p.0 q.0 p.1 q.1 (sym (ap (λ (x : Entry). x.target) p.2) ∙ own_i) (sym (ap (λ (x : Entry). x.target) q.2) ∙ own_j) same;
     built = λ n left body is.
         let b = bind_body then n left body is in
@@ -390,7 +466,7 @@ module _ (named : List ℕ → Option FnRef) (value : FnRef → List GraphValue 
         let was = grab_was n b v is in
         let bind = bind_was b (Bind left (Name t)) kept is_bind in
         c.held.grabs n b v left t bind.0 was.0 bind.1;
-    today = record { plain = plain_then; aged = aged_then };
+    today = record { plain = plain_then; aged = aged_then; freezes = freezes_so_then };
   }
 
   fits_new : Fits z
@@ -399,12 +475,16 @@ module _ (named : List ℕ → Option FnRef) (value : FnRef → List GraphValue 
   -- ---- the pair that it leaves
 
   have_new : RootsHave z (in_use k.graph.observers)
-  have_new = subst (λ (ns : List NodeId). RootsHave z ns) in_use_still (roots_have_in F then new M g.nodes g.work none_died plain_then watched)
+  have_new = subst (λ (ns : List NodeId). RootsHave z ns) in_use_still (roots_have_in z new (λ t. refl) fits_new.declared watched)
+
+  recall : (v : Visit) → IsVisit F then v → Needed F then v.item → IsRecalled z g.nodes g v
+  recall v is need =
+      visit_is_recalled M k.graph g c.sound'.scopes (rooted_then named value s k g c) done F then k.nodes fits_new
+      (valid_grabs F then valid_then) have_new v is need
 
   recalled : (v : Visit) → IsVisit F then v → Needed F then v.item → WasRun (besides F then k.nodes k.bodies G') new v
   recalled v is need =
-      let r = visit_is_recalled M k.graph g c.sound'.scopes (rooted_then named value s k g c) done F then k.nodes fits_new
-      (valid_grabs F then valid_then) have_new v is need in
+      let r = recall v is need in
       record {
         node = r.node;
         is_node = r.is_node;
@@ -415,7 +495,8 @@ module _ (named : List ℕ → Option FnRef) (value : FnRef → List GraphValue 
       }
 
   rooted : AreRooted g (in_use g.observers)
-  rooted = subst (λ (ns : List NodeId). AreRooted g ns) (sym in_use_still) done.right.roots
+  rooted = subst (λ (ns : List NodeId). AreRooted g ns) (sym in_use_still)
+      (subst (λ (count : ℕ). seen.AreRooted (look g) count (in_use k.graph.observers)) (sym done.since) done.right.roots)
 
   module _ (dead : (n : NodeId) → row_at g.nodes n ≡ None → cutoff_of g n ≡ Equal) where
     -- each cutoff is Equal still
@@ -436,18 +517,41 @@ module _ (named : List ℕ → Option FnRef) (value : FnRef → List GraphValue 
       scopes = c.sound'.scopes;
       still = record {
         formulas = λ owner path f e. e;
+        bodies = λ n b has is. is;
         targets = λ n e is. (e, is, refl);
         names = λ n e is. refl;
         rows = λ n r u is def. is;
+        freezes = λ n r kid f is def. is;
         lives = λ n r is. (r, is);
         built = λ b r is. refl;
       };
       built = scopes_built M k.graph g c.before c.after (given named value s k g c) c.sound.scopes c.built c.stays c.left done.builds c.sound'.scopes;
       grabs = λ n b v is. is;
       links = λ p q held link. (done.right.links p q (held_needed g rooted p held)).0 link;
+      stamps = λ n. omega arith;
+      marks = λ v n is need at stale same.
+          let r = recall v is need in
+          let node : r.node ≡ n = (let e : Some r.node ≡ Some n = sym r.is_node ∙ at in cc) in
+          let fresh : is_marked g n ≡ false = ap (λ (q : NodeId). is_marked g q) (sym node) ∙ r.fresh in
+          let clash : false ≡ true = sym fresh ∙ stale in cc;
+      freezes = λ f n root.
+          let is = root_is_unfrozen g f n root in
+          let loose = is.0 in
+          let d = freezes_so_then f loose.row loose.kid loose.predicate loose.is_row loose.is_freeze in
+          let shows : Declares z (N d.position) (Some (Freeze d.child d.predicate d.frozen)) =
+          subst (λ (b : Option Body). Declares z (N d.position) b) d.is_body (represented.declares d.position) in
+          let none : option_map (graph_value N) d.frozen ≡ None = sym shows.3 ∙ (ap G'.frozen d.node ∙ loose.keeps_none) in
+          record {
+            position = d.position;
+            child = d.child;
+            predicate = d.predicate;
+            was = d.is_body ∙ ap (λ (v : Option Value). Some (Freeze d.child d.predicate v)) (none_kept (graph_value N) d.frozen none);
+            node = d.node ∙ is.2;
+          };
+      past = let same = done.since in omega (arith, same);
       ran = recalled;
-      watched = λ x among is. observed_root then x among;
-      today = record { plain = plain_then; equal = still_equal };
+      watched = λ x among is. observer_root then x among;
+      today = record { plain = plain_then; targets = targets_then; equal = still_equal };
     }
 
     -- ---- the moment after it
@@ -457,7 +561,7 @@ module _ (named : List ℕ → Option FnRef) (value : FnRef → List GraphValue 
 
     names : AreNames new.names then
     names = record {
-      declared = stands.matches.names.declared ∙ sym (become.declared_then F before s N built_at_end built (there_in made) (s.accepted + 1));
+      declared = stands.matches.names.declared ∙ sym (become.declared_then F before s N built_at_end frozen_at_end built (there_in made) (s.accepted + 1));
       now = stands.matches.names.now;
       in_use = λ name. stands.matches.names.in_use name ∙ ap (λ (ns : List (List ℕ)). is_among ns name)
           (ap (map (λ (o : Observer). o.name)) stands.matches.watches.in_order ∙ sym (names_then F s k g stands.matches.watches.made shown));
@@ -485,7 +589,7 @@ module _ (named : List ℕ → Option FnRef) (value : FnRef → List GraphValue 
       matches = matches_then;
       told = subst (λ (ns : List GraphNotice). AllZip (IsNotice then k.nodes made) ns told) (sym done.notices)
           (told_then F s k g stands.matches.watches shown then (k.accepted + 1) refl
-          (λ n b is. (body_then s now b (now n), (body_of n b is).0)) declared_then done.observers);
+          (λ n b is. (body_then s now b (now n) (keeps n), (body_of n b is).0)) declared_then done.observers);
     }
 
 -- ---- over a graph with its functions

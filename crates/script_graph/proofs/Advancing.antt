@@ -15,7 +15,7 @@ use Rattle.graph.specs.Effects.{KeepsAll}
 use Rattle.graph.specs.Standing.{GraphView, graph}
 use Rattle.observers.specs.Observers.{node_at}
 use Rattle.observers.specs.declared.observer.Observer.{Observer as Looking}
-use Rattle.node_arena.specs.Arena.{Arena}
+use Rattle.node_arena.specs.Arena.{Arena, row_at}
 use Rattle.node_arena.specs.Sound as arena
 use Rattle.node_arena.specs.Typing.{Fits}
 use Rattle.script_functions.specs.Bodies as Bodies
@@ -28,12 +28,12 @@ use Rattle.script_graph.specs.Settled.{ScopesBuilt}
 use Rattle.script_graph.specs.Sound.{AreFew, HasLiveNode, HasNode, IsSoundSession, weight_at}
 use Rattle.script_graph.specs.State.{MatchesMoment}
 use Rattle.script_graph.specs.Today.{IsWithin, IsPartWithin}
-use Rattle.script_graph.proofs.Carrying.{leaves_beside, settled_on, watches_on}
+use Rattle.script_graph.proofs.Carrying.{leaves_beside, leaves_marks, settled_on, watches_on}
 use Rattle.script_graph.proofs.Declared.{nodes_given}
 use Rattle.script_graph.proofs.Extending.{CountsSpans, KeepsGraph, NodesGiven, beside_without, body_within, built_still, counts_at, declares_still, extends_without, keeps_extends, same_serve, stands_on}
 use Rattle.script_graph.proofs.Few.{sum_less}
-use Rattle.script_graph.proofs.Owning.{own_nodes_of_on}
-use Rattle.script_graph.proofs.Sounding.{bind_on, sound_on, variable_on}
+use Rattle.script_graph.proofs.Owning.{freeze_on, own_nodes_of_on}
+use Rattle.script_graph.proofs.Sounding.{bind_on, expert_on, sound_on, variable_on}
 use Rattle.transfer.specs.Shows.{Declares}
 use Rattle.transfer.proofs.Typed.{bind_body}
 
@@ -52,6 +52,8 @@ module _ (k : Kept) (h : IsSoundSession k) (to : ℕ) (g : GraphView (Unit {0}))
     outside = node.outside;
     variable = λ kind. variable_on (arena_of k) g.nodes (node_in k.nodes n) (λ r is. moves.rows (node_in k.nodes n) ∙ is) (node.variable kind);
     bind = λ kind. bind_on (arena_of k) g.nodes (node_in k.nodes n) (λ r is. moves.rows (node_in k.nodes n) ∙ is) (node.bind kind);
+    expert = λ element kind.
+        expert_on (arena_of k) g.nodes (node_in k.nodes n) element (λ r is. moves.rows (node_in k.nodes n) ∙ is) (node.expert element kind);
   }
 
   fits_then : (n : NodeId) (t : Ty) → Given (arena_of k).given n × Fits (arena_of k) n t → Given g.nodes.given n × Fits g.nodes n t
@@ -63,6 +65,7 @@ module _ (k : Kept) (h : IsSoundSession k) (to : ℕ) (g : GraphView (Unit {0}))
   node_then : (n : ℕ) (d : Declared) → HasNode (arena_of k) k.names.declared k.nodes n d → HasNode g.nodes k.names.declared k.nodes n d
   node_then n d node = record {
     target = node.target;
+    expert = node.expert;
     live = λ itself other. live_then n d (node.live itself other);
     grab = λ itself grab. fits_then (node_in k.nodes n) d.ty (node.grab itself grab);
   }
@@ -114,6 +117,7 @@ module _ (F : Meanings) (k : Kept) (to : ℕ) (g : GraphView (Unit {0})) (sound 
     rows = λ n r u is def. moves.rows n ∙ is;
     dead = λ n low is. moves.rows n ∙ is;
     built = moves.beside.of_nodes.built;
+    frozen = moves.beside.of_nodes.frozen;
   }
 
   scopes_then : ScopesBuilt (graph k.graph) → ScopesBuilt (graph g)
@@ -137,6 +141,7 @@ module _ (F : Meanings) (k : Kept) (to : ℕ) (g : GraphView (Unit {0})) (sound 
         declares_still Of F s k held given then k.nodes k.bodies AnyFunction (same_serve F k) g keeps (λ t low. refl) n b is
         (λ alone r row. moves.rows (node_in k.nodes n) ∙ row)
         (λ base span e alike. counts_then n base span (is ∙ ap (λ (c : Body). Some c) e))
+        (λ f first links stale e. moves.beside.of_nodes.lists (node_in k.nodes n) (given n b is))
 
     bind_within : (n : ℕ) (left body : Formula) → bind_at s n ≡ Some (left, body) → n < length s.entries
     bind_within n left body is = let b = bind_body s n left body is in body_within s n (Computed (Bind left body) b.0) b.1
@@ -157,7 +162,8 @@ module _ (F : Meanings) (k : Kept) (to : ℕ) (g : GraphView (Unit {0})) (sound 
         plain = held.today.plain;
         aged = λ n b is.
             own_nodes_of_on (graph k.graph) (graph g) (IsWithin k.nodes n) (IsWithin k.nodes n) (IsPartWithin k.nodes n) (IsPartWithin k.nodes n)
-            (λ q h. h) (λ q h. h) keeps.rows (node_in k.nodes n) b (held.today.aged n b is);
+            (λ q h. h) (λ q h. h) keeps.rows (λ q r kid f row def. moves.rows q ∙ row) (node_in k.nodes n) b (held.today.aged n b is);
+        freezes = λ n r kid f row def. freeze_on s then k.nodes n (λ j b has is. is) (held.today.freezes n r kid f (sym (moves.rows n) ∙ row) def);
       };
     }
 
@@ -170,15 +176,19 @@ module _ (F : Meanings) (k : Kept) (to : ℕ) (g : GraphView (Unit {0})) (sound 
     accepted = h.accepted;
     broken = h.broken;
     represents = λ whole. represents_then (h.represents whole);
-    watches = watches_on s then k new moves.beside refl refl refl refl (λ n b is. refl) given (λ n b is. (b, is)) (λ t own. own) h.watches;
-    settled = λ whole. settled_on F m.settled s then k new (leaves_beside k new moves.beside (let same = moves.given in omega (arith, same))) (record {
-      formulas = λ owner path f is. is;
-      targets = λ n e is. (e, is, refl);
-      names = λ n e is. refl;
-      rows = keeps.rows;
-      lives = λ n r is. (r, moves.rows n ∙ is);
-      built = λ n r is. moves.beside.of_nodes.built n (sound.given n (rw is refl));
-    }) (λ n b v was. was) scopes_then (λ x among is. among) (h.settled whole);
+    watches = watches_on s then k new moves.beside.observers refl refl refl refl (λ n b is. refl) given (λ n b is. (b, is)) (λ t own. own) h.watches;
+    settled = λ whole. settled_on F m.settled s then k new
+        (leaves_beside k new moves.beside (let same = moves.given in omega (arith, same)) (λ n r kid f given row def. sym (moves.rows n) ∙ row))
+        (leaves_marks s then k new (λ n. refl) moves.beside.of_nodes.marks) (record {
+          formulas = λ owner path f is. is;
+          bodies = λ n b has is. is;
+          targets = λ n e is. (e, is, refl);
+          names = λ n e is. refl;
+          rows = keeps.rows;
+          freezes = λ n r kid f is def. moves.rows n ∙ is;
+          lives = λ n r is. (r, moves.rows n ∙ is);
+          built = λ n r is. moves.beside.of_nodes.built n (sound.given n (rw is refl));
+        }) (λ n b v was. was) scopes_then (λ x among is. among) (h.settled whole);
   }
 
 -- ---- over a graph with its functions
@@ -229,4 +239,5 @@ module _ {F : Type 0} (first now : GraphView F) (names : Names) (nodes : List No
           → MatchesMoment (meanings_of named value) before m → MatchesMoment (meanings_of named value) (record before { graph = without_functions now }) m
       stayed_stands named value m matches =
           stands_on (meanings_of named value) before (without_functions now) bodies AnyFunction (same_serve (meanings_of named value) before) sound sound'
-          (extends_without first now (keeps_extends first now keeps)) m (nodes_given before h sound m.present matches.names) matches
+          (extends_without first now (keeps_extends first now keeps))
+          (λ n r row. ap (λ (a : Arena). row_at a n) (sym keeps.nodes) ∙ row) m (nodes_given before h sound m.present matches.names) matches

@@ -15,14 +15,14 @@ use Rattle.inc_terms.specs.Same.{same_outcome}
 use Rattle.inc_terms.specs.Term as term
 use Rattle.inc_terms.specs.Term.{Term, Terms, Functions}
 use Rattle.script_model.specs.Formula as script
-use Rattle.script_model.specs.Formula.{State, Body, Formula, Formulas, Meanings, body_at, Literal, Name, Bound, Apply, Fold, If, Join, Bind, At, Steps, Now, End, More, Variable, Computed, After, Every, Grab}
+use Rattle.script_model.specs.Formula.{State, Body, Formula, Formulas, Meanings, body_at, Literal, Name, Bound, Apply, Fold, If, Join, Bind, At, Steps, Now, End, More, Variable, Computed, Freeze, After, Every, Expert, Grab}
 use Rattle.script_model.specs.Leaves.{EveryLeaf, EveryLeafOfAll}
 use Rattle.script_model.specs.Need.{Edge, Argument, Test, Then, Else, Child, Left, Inside, argument_at, environment, part_at, formula_at}
 use Rattle.script_model.specs.Valid.{ValueHasType, KeepToTypes, Valid}
 use Rattle.script_model.specs.Values.{Value, Int, Bool as Truth, Text, Reference}
 use Rattle.script_graph.specs.Kept.{node_in}
 use Rattle.script_graph.specs.Today.{AllPlain, IsDeclaredTarget, IsEarlierTarget, IsPartWithin, IsWithin, OwnNodesOf}
-use Rattle.script_graph.proofs.Owning.{HasOwnNode, IsOutside, node_above, outside_above, own_name, own_or_grab, own_part}
+use Rattle.script_graph.proofs.Owning.{HasOwnNode, IsOutside, node_above, outside_above, own_kid, own_name, own_or_grab, own_part}
 use Rattle.script_graph.proofs.Rooting.{scoped_root, top_row}
 use Rattle.transfer.specs.Both.{Both, graph_value}
 use Rattle.transfer.specs.Cycles.{IsForm, IsOwnValue, PartsApart}
@@ -474,6 +474,23 @@ module _ (F : Meanings) (s : State) (nodes : List NodeId) (H : Functions) (G : G
       own_here : (k : ℕ) (b : Body) → body_at s k ≡ Some b → HasOwnNode b → node_in nodes k ≡ n → (owner ≡ k) × (path ≡ [])
       own_here k b there own same = by_spot spot
         where
+          -- which no part has
+          no_part : IsPartWithin nodes owner n → ⊥
+          no_part h =
+              let ages : (node_in nodes k).gen_ ≡ n.gen_ = ap (λ (m : NodeId). m.gen_) same in
+              let early = h.earlier in
+              elim (cases_lt k owner) [
+                | inl less ↦ (let later = h.within.later k less in absurd (omega (arith, later, ages)))
+                | inr more ↦ elim (cases_lt owner k) [
+                  | inl less ↦ (let later = (within k b there own).later owner less in absurd (omega (arith, later, ages, early)))
+                  | inr more' ↦ (
+                      let names : owner ≡ k = omega (arith, more, more') in
+                      let owners : (node_in nodes owner).gen_ ≡ (node_in nodes k).gen_ = ap (λ (i : ℕ). (node_in nodes i).gen_) names in
+                      absurd (omega (arith, ages, early, owners))
+                      )
+                ]
+              ]
+
           by_path : (p : List Edge) → path ≡ p → IsOutside p → (owner ≡ k) × (path ≡ [])
           by_path [] e out = (whole (body_at s owner) refl, e)
             where
@@ -492,25 +509,14 @@ module _ (F : Meanings) (s : State) (nodes : List NodeId) (H : Functions) (G : G
                   by_body (Grab c v l) d_at = absurd (let none : None ≡ Some f = rw (e, d_at) at is in cc)
                   by_body (After time) d_at = absurd (let none : None ≡ Some f = rw (e, d_at) at is in cc)
                   by_body (Every base span) d_at = absurd (let none : None ≡ Some f = rw (e, d_at) at is in cc)
-                  by_body d d_at = absurd (aged owner d d_at)
-          by_path (edge ∷ rest) e out = absurd (part (own_part x (IsWithin nodes) (IsPartWithin nodes) aged owner edge rest f n out
+                  by_body (Freeze child predicate frozen) d_at =
+                      let forms : Some child ≡ Some f = rw (e, d_at) at is in
+                      let same_form_is : f ≡ child = cc in
+                      absurd (no_part (own_kid x (IsWithin nodes) (IsPartWithin nodes) aged owner child predicate frozen d_at
+                      (subst (λ (h : Formula). IsForm h) same_form_is is_form) n (subst (λ (p : List Edge). node_at x owner p ≡ Some n) e at)))
+                  by_body (Expert g first links stale) d_at = absurd (let none : None ≡ Some f = rw (e, d_at) at is in cc)
+          by_path (edge ∷ rest) e out = absurd (no_part (own_part x (IsWithin nodes) (IsPartWithin nodes) aged owner edge rest f n out
               (subst (λ (p : List Edge). formula_at s owner p ≡ Some f) e is) is_form (subst (λ (p : List Edge). node_at x owner p ≡ Some n) e at)))
-            where
-              part : IsPartWithin nodes owner n → ⊥
-              part h =
-                  let ages : (node_in nodes k).gen_ ≡ n.gen_ = ap (λ (m : NodeId). m.gen_) same in
-                  let early = h.earlier in
-                  elim (cases_lt k owner) [
-                    | inl less ↦ (let later = h.within.later k less in absurd (omega (arith, later, ages)))
-                    | inr more ↦ elim (cases_lt owner k) [
-                      | inl less ↦ (let later = (within k b there own).later owner less in absurd (omega (arith, later, ages, early)))
-                      | inr more' ↦ (
-                          let names : owner ≡ k = omega (arith, more, more') in
-                          let owners : (node_in nodes owner).gen_ ≡ (node_in nodes k).gen_ = ap (λ (i : ℕ). (node_in nodes i).gen_) names in
-                          absurd (omega (arith, ages, early, owners))
-                          )
-                    ]
-                  ]
 
           by_spot : Spot → (owner ≡ k) × (path ≡ [])
           by_spot (inl (out, r)) = by_path path refl out
@@ -685,7 +691,16 @@ module _ (F : Meanings) (s : State) (nodes : List NodeId) (H : Functions) (G : G
           computed (Grab bind v is_live) there has owners paths = absurd has
           computed (After time) there has owners paths = absurd (let none : None ≡ Some f = rw (paths, owners, there) at is in cc)
           computed (Every base span) there has owners paths = absurd (let none : None ≡ Some f = rw (paths, owners, there) at is in cc)
-          computed c there has owners paths = absurd (aged k c there)
+          computed (Freeze child predicate frozen) there has owners paths =
+              let forms : Some child ≡ Some f = rw (paths, owners, there) at is in
+              let same_form_is : f ≡ child = cc in
+              let at_k = subst (λ (o : ℕ). node_at x o [] ≡ Some n) owners (subst (λ (p : List Edge). node_at x owner p ≡ Some n) paths at) in
+              let kid = own_kid x (IsWithin nodes) (IsPartWithin nodes) aged k child predicate frozen there
+              (subst (λ (h : Formula). IsForm h) same_form_is is_form) n at_k in
+              let early = kid.earlier in
+              let ages : (node_in nodes k).gen_ ≡ n.gen_ = ap (λ (m : NodeId). m.gen_) same in
+              absurd (omega (arith, early, ages))
+          computed (Expert g first links stale) there has owners paths = absurd (let none : None ≡ Some f = rw (paths, owners, there) at is in cc)
 
   -- a place that is no bare name and has the node of an own name is the name's, or that of which a grab is
   pub parts_apart : Valid F s → KeepToTypes F → Fits x → NodesApart s (node_in nodes) → AllPlain s

@@ -1,5 +1,5 @@
 -- What is kept before the first line.
-use Rattle.std.proofs.Common.{◌≡◌, ℕ, pos, List, [], length, Option, None, Some, refl, ap, sym, ◌∙◌, arith}
+use Rattle.std.proofs.Common.{◌≡◌, ℕ, ◌≤◌, pos, List, [], length, Option, None, Some, refl, ap, sym, ◌∙◌, arith}
 use Rattle.std.proofs.lemmas.Option.{none-some}
 use Rattle.graph.specs.Standing.{GraphView, IsUnbroken, cutoff_of, graph}
 use Rattle.inc_value.specs.declared.function.FnRef.{FnRef}
@@ -17,6 +17,7 @@ use Rattle.script_graph.specs.Represents.{beside, Represents}
 use Rattle.script_graph.specs.Settled.{root_of, Settled}
 use Rattle.script_graph.specs.Sound.{IsSoundSession}
 use Rattle.script_graph.specs.State.{Stands}
+use Rattle.script_graph.proofs.Frozen.{root_is_unfrozen}
 use Rattle.script_graph.proofs.Functions.{functions_fit}
 use Rattle.transfer.specs.Shows.{Fits}
 use Rattle.script_graph.proofs.Held.{looked_within, rooted_looks}
@@ -65,6 +66,7 @@ module _ (g : GraphView (Unit {0})) (nodes : (n : NodeId) → row_at g.nodes n �
       today = record {
         plain = λ n body is. absurd (cc);
         aged = λ n b is. absurd (cc);
+        freezes = λ n r kid f row def. absurd (none-some r (sym (nodes n) ∙ row));
       };
     }
 
@@ -72,7 +74,7 @@ module _ (g : GraphView (Unit {0})) (nodes : (n : NodeId) → row_at g.nodes n �
     no_root (Observing o) n root =
         let low = looked_within g.observers o.0 n (rooted_looks g o n root).1 in
         let none = ap length observers in omega (arith, low, none)
-    no_root (Freezing f) n root = cc
+    no_root (Freezing f) n root = let u = (root_is_unfrozen g f n root).0 in none-some u.row (sym (nodes f) ∙ u.is_row)
 
     first_fits : Fits (beside F start (first_kept g))
     first_fits = record {
@@ -84,8 +86,8 @@ module _ (g : GraphView (Unit {0})) (nodes : (n : NodeId) → row_at g.nodes n �
       grabbed = λ n b v is. absurd (cc);
     }
 
-    first_settled : ((n : NodeId) → cutoff_of g n ≡ Equal) → Settled F start start (first_kept g)
-    first_settled cutoff = record {
+    first_settled : g.since ≤ g.nodes.given → ((n : NodeId) → cutoff_of g n ≡ Equal) → Settled F start start (first_kept g)
+    first_settled past cutoff = record {
       nodes = [];
       bodies = [];
       left = graph g;
@@ -94,22 +96,28 @@ module _ (g : GraphView (Unit {0})) (nodes : (n : NodeId) → row_at g.nodes n �
       scopes = λ n r b is scope. absurd (none-some r (sym (nodes n) ∙ is));
       still = record {
         formulas = λ owner path f is. is;
+        bodies = λ n b has is. is;
         targets = λ n e is. (e, is, refl);
         names = λ n e is. refl;
         rows = λ n r u is def. is;
+        freezes = λ n r kid f is def. is;
         lives = λ n r is. (r, is);
         built = λ b r is. refl;
       };
       built = λ n r b is scope. absurd (none-some r (sym (nodes n) ∙ is));
       grabs = λ n b v is. absurd (cc);
       links = λ p q held link. absurd (no_root held.holder held.node held.is_root);
+      stamps = λ n. omega arith;
+      marks = λ v n visit need at stale same. absurd need.1;
+      freezes = λ f n root. absurd (no_root (Freezing f) n root);
+      past = past;
       ran = λ v visit need. absurd need.1;
       watched = λ x among is. absurd among;
-      today = record { plain = λ n body is. absurd (cc); equal = cutoff };
+      today = record { plain = λ n body is. absurd (cc); targets = λ n e is. absurd (cc); equal = cutoff };
     }
 
-    pub first_stands : ((n : NodeId) → cutoff_of g n ≡ Equal) → KeepToTypes F → Stands F (first_kept g) first_moment
-    first_stands cutoff keep = record {
+    pub first_stands : g.since ≤ g.nodes.given → ((n : NodeId) → cutoff_of g n ≡ Equal) → KeepToTypes F → Stands F (first_kept g) first_moment
+    first_stands past cutoff keep = record {
       keep = keep;
       valid = start_is_valid F;
       matches = record {
@@ -126,6 +134,6 @@ module _ (g : GraphView (Unit {0})) (nodes : (n : NodeId) → row_at g.nodes n �
           named = λ i o name is at. absurd (cc);
           apart = λ o p x y at also same. absurd (cc);
         };
-        settled = λ whole. first_settled cutoff;
+        settled = λ whole. first_settled past cutoff;
       };
     }

@@ -1,15 +1,9 @@
 -- A state of a script and the graph that holds it fit.
-use Rattle.std.proofs.Common.{◌≡◌, ◌∙◌, ℕ, true, List, [], length, Option, Some, subst, sym}
+use Rattle.std.proofs.Common.{◌≡◌, ℕ, true, List, [], length, Option, Some, subst, sym}
 use Rattle.inc_value.specs.declared.function.FnRef.{FnRef}
-use Rattle.inc_value.specs.declared.node.NodeId.{NodeId}
 use Rattle.inc_value.specs.declared.value.Value.{Value as GraphValue}
-use Rattle.inc_terms.specs.declared.def.Def as declared
-use Rattle.inc_terms.specs.declared.def.Def.TheVariants as form
-use Rattle.inc_terms.specs.Code.{def_of}
-use Rattle.inc_terms.specs.Graph.{Row, Freeze}
 use Rattle.inc_terms.specs.Term.{Functions}
 use Rattle.graph.specs.Standing.{graph}
-use Rattle.node_arena.specs.Arena.{Arena, row_at}
 use Rattle.script_model.specs.Formula.{State, Grab, meanings_of, body_at}
 use Rattle.script_model.specs.Valid.{KeepToTypes, Valid}
 use Rattle.script_model.specs.Values.{Value, Val}
@@ -19,22 +13,9 @@ use Rattle.script_graph.specs.Kept.{Kept, node_in}
 use Rattle.script_graph.specs.Represents.{beside, graph_functions, Represents}
 use Rattle.script_graph.proofs.Functions.{functions_are, functions_fit}
 use Rattle.stabilize_round.specs.Invariant.{Rooted}
-use Rattle.wiring.proofs.Agreeing.{code_row}
 use Rattle.transfer.specs.Shows.{BindsRooted, Fits, Grabbed}
 use Rattle.transfer.proofs.Keeping.{same_known}
 use Rattle.transfer.proofs.Typed.{valid_grabs, valid_resolved, grab_typed}
-
--- ---- today's nodes
-
-no_freeze : (d : declared.Def) (kid : NodeId) (f : FnRef) → def_of d ≡ Freeze kid f → ⊥
-no_freeze (form.Const v) kid f e = cc
-no_freeze d kid f e = cc
-
--- none is a freeze
-pub not_frozen : (a : Arena) (n : NodeId) (r : Row) (kid : NodeId) (f : FnRef) → row_at a n ≡ Some r → r.def ≡ Freeze kid f → ⊥
-not_frozen a n r kid f e def = let d = code_row a n r e in no_freeze d.0 kid f (sym d.1 ∙ def)
-
--- ---- the two together
 
 -- binds are built of what the script's functions give
 pub rooted_binds : (named : List ℕ → Option FnRef) (value : FnRef → List GraphValue → GraphValue) (k : Kept)

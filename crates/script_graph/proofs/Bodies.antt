@@ -1,5 +1,5 @@
 -- Functions of a script and its graph, where more bodies are kept.
-use Rattle.std.proofs.Common.{◌≡◌, ◌++◌, ℕ, zero, suc, Bool, List, [], ◌∷◌, Option, Some, IsTrue, refl, ap, sym, subst, ◌∙◌, slice_get}
+use Rattle.std.proofs.Common.{◌≡◌, ◌++◌, ℕ, zero, suc, Bool, List, [], ◌∷◌, Option, None, Some, IsTrue, refl, ap, sym, subst, ◌∙◌, slice_get}
 use Rattle.inc_value.specs.Choice.{Every}
 use Rattle.inc_value.specs.declared.function.FnKind.{FnKind}
 use Rattle.inc_value.specs.declared.function.FnKind.TheVariants as kind
@@ -118,8 +118,12 @@ module _ {A : Type 0} (known : FnRef → Bool) (s : standing.GraphView A) where
   row_within n (graph.Steps v steps) h = (any_value v, any_steps steps)
   row_within n graph.Now h = tt
   row_within n (graph.Every base span) h = tt
-  row_within n (graph.Freeze kid f) h = tt
-  row_within n (graph.Expert f v kids) h = (tt, any_value v, tt)
+  row_within n (graph.Freeze kid f) h = by_frozen ((standing.graph s).frozen n)
+    where
+      by_frozen : (v : Option Value) → TermWithin AnyNode (IsKnownSide known) (graph.frozen_or kid v)
+      by_frozen None = tt
+      by_frozen (Some v) = any_value v
+  row_within n (graph.Expert f v kids) h = (tt, any_value v, any_refs (IsKnownSide known) ((standing.graph s).lists n))
 
 def_more : {Q Q' : FnKind → FnRef → Type 0} → ((k : FnKind) (f : FnRef) → Q k f → Q' k f) → (def : Def)
     → DefWithin (λ n. Unit {0}) Q def → DefWithin (λ n. Unit {0}) Q' def

@@ -24,8 +24,9 @@ use Rattle.observers.specs.Observers.{in_use}
 use Rattle.stabilize_round.specs.Calling.{costs_of}
 use Rattle.script_model.specs.Blocked.{InTheWay, on_cycle, too_deep}
 use Rattle.script_model.specs.Formula as script
-use Rattle.script_model.specs.Formula.{State, Entry, Body, Formula, Meanings, meanings_of, bind_of, body_at, built_of_body, If, Join, Bind, Computed}
+use Rattle.script_model.specs.Formula.{State, Entry, Body, Formula, Meanings, meanings_of, bind_of, body_at, built_of_body, If, Join, Bind, Computed, Freeze}
 use Rattle.script_model.specs.Need.{Edge, Item, Place, Left, ItemGives, Needed, Met, WithinWork, formula_at}
+use Rattle.script_model.specs.Settle.{recorded}
 use Rattle.script_model.specs.Step.{Moment, NothingNeededIsBlocked}
 use Rattle.script_model.specs.Valid.{HasType, OutcomeHasType}
 use Rattle.script_model.specs.Values.{Value, Outcome, Val, Invalid, same_kept, same_outcome}
@@ -35,8 +36,9 @@ use Rattle.script_graph.specs.Kept.{Kept, node_in}
 use Rattle.script_graph.specs.Represents.{graph_functions}
 use Rattle.script_graph.specs.Settled.{side_of, observed_by}
 use Rattle.script_graph.specs.State.{Stands}
-use Rattle.script_graph.proofs.Becoming.{BuiltThen, AllBuilt, all_built}
+use Rattle.script_graph.proofs.Becoming.{BuiltThen, IsThen, AllBuilt, all_built}
 use Rattle.script_graph.proofs.Circling.{parts_are_apart}
+use Rattle.script_graph.proofs.Freezing.{freezes_so, still_frozen}
 use Rattle.script_graph.proofs.Middle.{IsStabilize, IsBindNode, middle, given, fits_then, tops, bind_node, left_node, left_formula, rooted_then}
 use Rattle.script_graph.proofs.Recalling.{shown_at, needed_is_right, run_right}
 use Rattle.script_graph.proofs.Refusing.{met_is_closed}
@@ -117,7 +119,7 @@ module _ (named : List ℕ → Option FnRef) (value : FnRef → List GraphValue 
   grabs_now = valid_grabs F s c.valid
 
   have : RootsHave y observed
-  have = roots_have_in F s k M g.nodes g.work y.died c.held.today.plain stands.matches.watches
+  have = roots_have_in y k (λ t. refl) fits.declared stands.matches.watches
 
   -- ---- what is needed
 
@@ -148,6 +150,10 @@ module _ (named : List ℕ → Option FnRef) (value : FnRef → List GraphValue 
   -- what binds are built for now
   abbrev pub at : ℕ → Option GraphOutcome
   at n = outcome_of (G'.built (N n))
+
+  -- and what freezes keep
+  abbrev pub frozen_at : ℕ → Option GraphValue
+  frozen_at n = G'.frozen (N n)
 
   pub told_apart : (p q : Outcome) (t u : Ty) → OutcomeHasType s p t → OutcomeHasType s q u → graph_outcome N p ≡ graph_outcome N q → p ≡ q
   told_apart (Val v) (Val w) t u first second same =
@@ -208,7 +214,7 @@ module _ (named : List ℕ → Option FnRef) (value : FnRef → List GraphValue 
         let typed = kept_typed q built in
         ap (λ z. Some z) (told_apart q p typed.0 left_typed.0 typed.1 (given_typed p gives) one)
 
-    stays_so : G'.built (N n) ≡ (graph k.graph).built (N n) → BuiltThen F before s N at n (Computed (Bind left body) kept) kept.built
+    stays_so : G'.built (N n) ≡ (graph k.graph).built (N n) → BuiltThen F before s N at frozen_at n (Computed (Bind left body) kept) kept.built
     stays_so same = (
       record {
         needed = λ need.
@@ -270,7 +276,7 @@ module _ (named : List ℕ → Option FnRef) (value : FnRef → List GraphValue 
             absurd (let parts : ChangePart ≡ MainPart = ap (λ (p : Point). p.part) e in cc)
 
     built_so : IsBuiltMetIn M (left_by k.graph g) (died_by k.graph g) (look k.graph) (in_use k.graph.observers) (N n)
-        → (now : Option Outcome) × BuiltThen F before s N at n (Computed (Bind left body) kept) now
+        → (now : Option Outcome) × BuiltThen F before s N at frozen_at n (Computed (Bind left body) kept) now
     built_so h =
         let p = gives_now h.right.row h.right.left h.right.function h.right.captures h.right.built.outcome h.right.is_row h.right.is_bind h.right.gives in (
           Some p.0,
@@ -280,20 +286,24 @@ module _ (named : List ℕ → Option FnRef) (value : FnRef → List GraphValue 
           ),
         )
 
-    bind_now : (now : Option Outcome) × BuiltThen F before s N at n (Computed (Bind left body) kept) now
+    bind_now : (now : Option Outcome) × BuiltThen F before s N at frozen_at n (Computed (Bind left body) kept) now
     bind_now = elim (done.builds.stays (N n) there.row (given named value s k g c (N n) there.row there.is_row) on) [
       | inl same ↦ (kept.built, stays_so same)
       | inr (inl right) ↦ built_so right
       | inr (inr refused) ↦ absurd (cc)
     ]
 
-  became : (n : ℕ) (b : Body) → body_at s n ≡ Some b → (now : Option Outcome) × BuiltThen F before s N at n b now
-  became n (Computed (Bind left body) kept) is = bind_now n left body kept is
-  became n (Computed f kept) is = (kept.built, refl)
-  became n b is = (None, refl)
+  became : (n : ℕ) (b : Body) → body_at s n ≡ Some b → (now : Option Outcome) × (keeps : Option Value) × IsThen F before s N at frozen_at n b now keeps
+  became n (Computed (Bind left body) kept) is = let h = bind_now n left body kept is in (h.0, None, (h.1, tt))
+  became n (Computed f kept) is = (kept.built, None, (refl, tt))
+  became n (Freeze child predicate None) is =
+      let h = freezes_so named value s k g c done n child predicate is in
+      (None, recorded F predicate h.0, (refl, ((h.0, h.1, refl), h.2)))
+  became n (Freeze child predicate (Some v)) is = (None, Some v, (refl, (refl, still_frozen named value s k g c done n child predicate v is)))
+  became n b is = (None, None, (refl, tt))
 
-  pub all : AllBuilt F before s N at 0 s.entries
-  all = all_built F before s N at 0 s.entries (λ j e is i same.
+  pub all : AllBuilt F before s N at frozen_at 0 s.entries
+  all = all_built F before s N at frozen_at 0 s.entries (λ j e is i same.
       let index : j ≡ i = omega (arith, same) in
-      subst (λ (z : ℕ). (now : Option Outcome) × BuiltThen F before s N at z e.body now) index
+      subst (λ (z : ℕ). (now : Option Outcome) × (keeps : Option Value) × IsThen F before s N at frozen_at z e.body now keeps) index
       (became j e.body (ap (λ (o : Option Entry). and_then o (λ (d : Entry). Some d.body)) is)))

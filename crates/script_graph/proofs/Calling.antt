@@ -1,6 +1,7 @@
 -- How many functions a refused stabilize calls.
 use Rattle.std.proofs.Common.{◌≡◌, ◌⊎◌, inl, inr, ℕ, pos, ◌+◌, ◌≤◌, true, List, [], ◌∷◌, map, length, Option, None, Some, refl, ap, sym, subst, ◌∙◌, arith}
 use Rattle.std.specs.List.{sum_by}
+use Rattle.std.proofs.lemmas.List.{length-map}
 use Rattle.std.proofs.lemmas.List.Sums.{sum_by-cons}
 use Rattle.inc_value.specs.Choice.{Among, NoRepeats, and_then}
 use Rattle.inc_value.specs.declared.function.FnRef.{FnRef}
@@ -18,21 +19,21 @@ use Rattle.inc_terms.specs.Term as term
 use Rattle.inc_terms.specs.Term.{Term, Terms, refs}
 use Rattle.inc_terms.specs.Work.{taken_by}
 use Rattle.node_outcomes.specs.Computing.{IsCallerAt}
-use Rattle.script_model.specs.Formula.{State, Body, Formula, Formulas, body_at, formula_of_body, Literal, Name, Bound, Apply, Fold, If, Join, Bind, At, Steps, Now, End, More, Variable, Computed, After, Every, Grab}
+use Rattle.script_model.specs.Formula.{State, Body, Formula, Formulas, body_at, formula_of_body, Literal, Name, Bound, Apply, Fold, If, Join, Bind, At, Steps, Now, End, More, Variable, Computed, Freeze, After, Every, Expert, Grab}
 use Rattle.script_model.specs.Laws.{bare}
 use Rattle.script_model.specs.Need.{Edge, Inside, Item, part_of, formula_at}
 use Rattle.script_model.specs.Run.{count_in, most_calls}
-use Rattle.script_model.specs.Values.{Value, Val}
+use Rattle.script_model.specs.Values.{Value}
 use Rattle.formula_elab.specs.Today.{IsLaidOut}
 use Rattle.script_graph.specs.Today.{AllPlain}
 use Rattle.script_graph.proofs.Plain.{binds_round, plain_place}
-use Rattle.script_graph.proofs.Spots.{Spot, spots, spots_in, most_costs, place_among}
+use Rattle.script_graph.proofs.Spots.{Spot, spots, spots_in, most_costs, body_among, place_among}
 use Rattle.stabilize_round.specs.Calling.{cost_at, costs_of}
 use Rattle.stabilize_round.specs.Counts.{RoseAtMost}
 use Rattle.transfer.specs.Both.{Both, graph_value}
 use Rattle.transfer.specs.Cycles.{IsForm}
 use Rattle.transfer.specs.Items.{part_node, root_at, around, node_at, scope_at, Closed, CoveredBy, by_main, by_choice, by_left, by_variable}
-use Rattle.transfer.specs.Shows.{Binding, Built, Spelled, Fits, Mode, Opens, Shows, ShowsAll, IsTop, plain}
+use Rattle.transfer.specs.Shows.{Binding, Built, Spelled, Declares, Fits, Mode, Opens, Shows, ShowsAll, IsTop, plain}
 use Rattle.transfer.proofs.Agreement.{grab_facts}
 use Rattle.transfer.proofs.Carriers.{IsForm-body, Carrier, at_name, at_place, at_grab, carrier}
 use Rattle.transfer.proofs.Places.{opened, place_shows, then_some, if_true}
@@ -145,12 +146,20 @@ one_node x owner (d ∷ p) (e ∷ q) m n same f g =
 
 -- ---- the place of a node that calls a function
 
--- the place has the node, for some values
+-- the name has the node, or the place has it for some values
+abbrev IsNodeOf : Both → ℕ → Option (List Edge) → NodeId → Type 0
+IsNodeOf x owner None n = x.nodes owner ≡ n
+IsNodeOf x owner (Some of) n = (path : List Edge) × (map bare path ≡ of) × (node_at x owner path ≡ Some n)
+
 abbrev HasNode : Both → Spot → NodeId → Type 0
-HasNode x y n = (path : List Edge) × (map bare path ≡ y.path) × (node_at x y.owner path ≡ Some n)
+HasNode x y n = IsNodeOf x y.owner y.path n
+
+one_node_of : (x : Both) (owner : ℕ) (of : Option (List Edge)) (m n : NodeId) → IsNodeOf x owner of m → IsNodeOf x owner of n → m ≡ n
+one_node_of x owner None m n f g = sym f ∙ g
+one_node_of x owner (Some of) m n f g = one_node x owner f.0 g.0 m n (f.1 ∙ sym g.1) f.2 g.2
 
 one_of_spot : (x : Both) (y : Spot) (m n : NodeId) → HasNode x y m → HasNode x y n → m ≡ n
-one_of_spot x y m n f g = one_node x y.owner f.0 g.0 m n (f.1 ∙ sym g.1) f.2 g.2
+one_of_spot x y m n f g = one_node_of x y.owner y.path m n f g
 
 module _ (x : Both) (fits : Fits x) (plain_state : AllPlain x.state) where
   abbrev s : State
@@ -186,9 +195,9 @@ module _ (x : Both) (fits : Fits x) (plain_state : AllPlain x.state) where
     -- the node of a formula that is no bare name is that of a place which calls as often
     formula_spot : (owner : ℕ) (path : List Edge) (S : Option NodeId) (E : List Binding) (f : Formula) → IsLaidOut (binds_round path) f → IsForm f
         → Shows x (Built S) E (term.Ref n) f
-        → (y : Spot) × Among y (spots_in owner (map bare path) f) × (y.owner ≡ owner) × (y.path ≡ map bare path) × (cost_at G n ≡ y.cost)
+        → (y : Spot) × Among y (spots_in owner (map bare path) f) × (y.owner ≡ owner) × (y.path ≡ Some (map bare path)) × (cost_at G n ≡ y.cost)
     formula_spot owner path S E (Apply g arguments) fine own h = elim (reads_so S (term.Map g h.0) h.1) [
-      | inl m ↦ (record { owner = owner; path = map bare path; cost = 1 }, inl refl, refl, refl, rw (row, m.1) refl)
+      | inl m ↦ (record { owner = owner; path = Some (map bare path); cost = 1 }, inl refl, refl, refl, rw (row, m.1) refl)
       | inr m ↦ let e = m.3 in absurd (cc)
     ]
     formula_spot owner path S E (Fold g first elements) fine own h = elim (reads_so S (term.Fold g (graph_value x.nodes first) h.0) h.1) [
@@ -196,7 +205,7 @@ module _ (x : Both) (fits : Fits x) (plain_state : AllPlain x.state) where
       | inr m ↦
           let same : h.0 ≡ refs kids = (let e = m.3 in cc) in
           let count = shows_count x (Built S) E kids elements (subst (λ (ts : Terms). ShowsAll x (Built S) E ts elements) same h.2) in
-          (record { owner = owner; path = map bare path; cost = count_in elements }, inl refl, refl, refl, rw (row, m.2) count)
+          (record { owner = owner; path = Some (map bare path); cost = count_in elements }, inl refl, refl, refl, rw (row, m.2) count)
     ]
     formula_spot owner path S E (Literal v) fine own h = absurd (const_none (Built S) _ h)
     formula_spot owner path S E (Bound k) fine own h = absurd (const_none h.0.mode _ h.2)
@@ -214,7 +223,7 @@ module _ (x : Both) (fits : Fits x) (plain_state : AllPlain x.state) where
         (plain_place s plain_state owner path f is).0 own (place_shows x fits owner path n f is at) in (
           y.0,
           place_among s plain_state y.0 owner path f is y.1,
-          (path, sym y.3, ap (λ (o : ℕ). node_at x o path) y.2 ∙ at),
+          subst (λ (of : Option (List Edge)). IsNodeOf x y.0.owner of n) (sym y.3) (path, refl, ap (λ (o : ℕ). node_at x o path) y.2 ∙ at),
           y.4,
         )
 
@@ -224,17 +233,52 @@ module _ (x : Both) (fits : Fits x) (plain_state : AllPlain x.state) where
         let defs : r.def ≡ def = ap (λ (q : Row). q.def) (sym same) ∙ top.3 in
         let clash : Some kids ≡ None = sym takes ∙ (ap (taken_by G n) defs ∙ none) in cc
 
-    name_spot : (k : ℕ) (b : Body) → body_at s k ≡ Some b → IsForm-body b → x.nodes k ≡ n → ⊥
-    name_spot k (Variable v) is form node =
-        top_none _ (subst (λ (q : NodeId). IsTop G q (graph.Var (graph_value x.nodes v))) node (rw is at (fits.declared k))) refl
-    name_spot k (Computed f kept) is form node = form
-    name_spot k (Grab b v is_live) is form node = form
-    name_spot k (After time) is form node =
-        top_none _ (subst (λ (q : NodeId). IsTop G q (graph.At (pos time))) node (rw is at (fits.declared k))) refl
-    name_spot k (Every base span) is form node =
+    -- a row that is of a node outside all scopes
+    top_def : (def : Def) → IsTop G n def → r.def ≡ def
+    top_def def top =
+        let same : top.0 ≡ r = (let e : Some top.0 ≡ Some r = sym top.1 ∙ row in cc) in
+        ap (λ (q : Row). q.def) (sym same) ∙ top.3
+
+    -- a freeze that keeps no value calls its predicate once
+    freeze_cost : (kid : NodeId) (f : FnRef) → r.def ≡ graph.Freeze kid f → cost_at G n ≡ 1
+    freeze_cost kid f def = by_frozen (G.frozen n) refl
+      where
+        by_frozen : (v : Option GraphValue) → G.frozen n ≡ v → cost_at G n ≡ 1
+        by_frozen None frozen = rw (row, def, frozen) refl
+        by_frozen (Some v) frozen = absurd (let none : None ≡ Some kids = rw (def, frozen) at takes in cc)
+
+    -- an expert calls its function for each node that it lists
+    expert_cost : (f : FnRef) (v : GraphValue) (ns : List NodeId) (links : List ℕ) → r.def ≡ graph.Expert f v ns → G.lists n ≡ map x.nodes links
+        → cost_at G n ≡ length links
+    expert_cost f v ns links def lists = rw (row, def, lists) (length-map links x.nodes)
+
+    name_spot : (k : ℕ) (b : Body) → body_at s k ≡ Some b → IsForm-body b → x.nodes k ≡ n → HasSpot n
+    name_spot k (Freeze child predicate frozen) is form node =
+        let d : Declares x (x.nodes k) (Some (Freeze child predicate frozen)) = rw is at (fits.declared k) in
+        let def = top_def (graph.Freeze d.0 predicate) (subst (λ (q : NodeId). IsTop G q (graph.Freeze d.0 predicate)) node d.1) in (
+          record { owner = k; path = None; cost = 1 },
+          body_among s (record { owner = k; path = None; cost = 1 }) k (Freeze child predicate frozen) is (inl refl),
+          node,
+          freeze_cost d.0 predicate def,
+        )
+    name_spot k (Expert f first links stale) is form node =
+        let d : Declares x (x.nodes k) (Some (Expert f first links stale)) = rw is at (fits.declared k) in
+        let def = top_def (graph.Expert f (graph_value x.nodes first) d.0)
+        (subst (λ (q : NodeId). IsTop G q (graph.Expert f (graph_value x.nodes first) d.0)) node d.1) in (
+          record { owner = k; path = None; cost = length links },
+          body_among s (record { owner = k; path = None; cost = length links }) k (Expert f first links stale) is (inl refl),
+          node,
+          expert_cost f (graph_value x.nodes first) d.0 links def (ap G.lists (sym node) ∙ d.2),
+        )
+    name_spot k (Variable v) is form node = absurd (
+        top_none _ (subst (λ (q : NodeId). IsTop G q (graph.Var (graph_value x.nodes v))) node (rw is at (fits.declared k))) refl)
+    name_spot k (Computed f kept) is form node = absurd form
+    name_spot k (Grab b v is_live) is form node = absurd form
+    name_spot k (After time) is form node = absurd (
+        top_none _ (subst (λ (q : NodeId). IsTop G q (graph.At (pos time))) node (rw is at (fits.declared k))) refl)
+    name_spot k (Every base span) is form node = absurd (
         let d = rw is at (fits.declared k) in
-        top_none _ (subst (λ (q : NodeId). IsTop G q (graph.Every (pos base) (pos span))) node d.0) refl
-    name_spot k b is form node = (plain_state k b is).0
+        top_none _ (subst (λ (q : NodeId). IsTop G q (graph.Every (pos base) (pos span))) node d.0) refl)
 
     grab_spot : (k b : ℕ) (v : Value) → body_at s k ≡ Some (Grab b v true) → x.nodes k ≡ n → HasSpot n
     grab_spot k b v is node =
@@ -249,7 +293,7 @@ module _ (x : Both) (fits : Fits x) (plain_state : AllPlain x.state) where
 
     module _ (X : Item → Type 0) (closed : Closed x X) where
       by_carrier : Carrier x X n → HasSpot n
-      by_carrier (at_name k b is node body form) = absurd (name_spot k b body form node)
+      by_carrier (at_name k b is node body form) = name_spot k b body form node
       by_carrier (at_place owner path f is at formula form) = place_spot owner path f formula form at
       by_carrier (at_grab k b v is node body) = grab_spot k b v body node
 

@@ -28,7 +28,7 @@ use Rattle.graph.specs.declared.fault.Kept.TheVariants as fault
 use Rattle.script_model.specs.Blocked.{IsCycle}
 use Rattle.script_model.specs.Check.{Declared, declared_of, target_of_body}
 use Rattle.script_model.specs.Formula as script
-use Rattle.script_model.specs.Formula.{State, Entry, Body, Formula, Meanings, meanings_of, body_at, entry_at, Name, Bind, Variable, Computed, After, Every, Grab}
+use Rattle.script_model.specs.Formula.{State, Entry, Body, Formula, Meanings, meanings_of, body_at, entry_at, Name, Bind, Variable, Computed, Freeze, After, Every, Expert, Grab}
 use Rattle.script_model.specs.Need.{Left, Named, Met}
 use Rattle.script_model.specs.Step as step
 use Rattle.script_model.specs.Step.{Moment, Stabilizes, by_cycle}
@@ -213,7 +213,8 @@ module _ (named : List ℕ → Option FnRef) (value : FnRef → List GraphValue 
   name_outside n (Grab b v is_live) is mine = absurd mine
   name_outside n (After time) is mine = let h = rw is at (fits.declared n) in (h.0, h.1, h.2)
   name_outside n (Every base span) is mine = let h = (rw is at (fits.declared n)).0 in (h.0, h.1, h.2)
-  name_outside n b is mine = absurd (c.held.today.plain n b is).0
+  name_outside n (Freeze child predicate frozen) is mine = let h = (rw is at (fits.declared n)).1 in (h.0, h.1, h.2)
+  name_outside n (Expert f first links stale) is mine = let h = (rw is at (fits.declared n)).1 in (h.0, h.1, h.2)
 
   abbrev IsTold : Point → Point → ℕ → Type 0
   IsTold p q n = told.IsPassed g k.names.declared k.nodes p q n

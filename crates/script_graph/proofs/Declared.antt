@@ -1,10 +1,10 @@
 -- A script after a declaration, after one that was taken back, and after an assignment, over a graph with its functions.
-use Rattle.std.proofs.Common.{◌≡◌, ◌⊎◌, inl, inr, ℕ, pos, ◌+◌, ◌<◌, ◌≤◌, Bool, List, [], ◌∷◌, ◌++◌, length, Option, None, Some, IfSome, IsTrue, option_map, refl, ap, sym, subst, ◌∙◌, arith, slice_get}
+use Rattle.std.proofs.Common.{◌≡◌, ◌⊎◌, inl, inr, ℕ, pos, ◌+◌, ◌<◌, ◌≤◌, Bool, true, List, [], ◌∷◌, ◌++◌, cond, map, length, Option, None, Some, IfSome, IsTrue, option_map, unwrap_or, refl, ap, sym, subst, ◌∙◌, arith, slice_get}
 use Rattle.std.proofs.lemmas.List.{get_or_append_left, get_or_at}
 use Rattle.std.proofs.lemmas.Option.{none-some, slice_get-get_or, slice_get-map}
 use Rattle.formula_lang.specs.Fits.{AssignmentFits, BodyFits, DeclarationFits, NameFits, ReferenceFits}
 use Rattle.formula_elab.specs.Laying.{laid_body}
-use Rattle.formula_elab.specs.Made.{CountsAlike, StandsIn}
+use Rattle.formula_elab.specs.Made.{StandsAlike, StandsIn}
 use Rattle.formula_elab.specs.Names.{EveryNameOf}
 use Rattle.formula_elab.specs.Opened.{filled, node_at, node_of}
 use Rattle.formula_elab.specs.Types.{type_at}
@@ -12,13 +12,14 @@ use Rattle.formula_elab.specs.declared.make.Made.{Made}
 use Rattle.formula_elab.specs.declared.opened.Open.{Open}
 use Rattle.formula_elab.specs.declared.plan.Planned.{Planned}
 use Rattle.formula_elab.proofs.Weights.{one_node_each}
-use Rattle.graph.specs.Effects.{Sets, TakesBack}
+use Rattle.graph.specs.Effects.{Sets, TakesBack, TakesBeside}
 use Rattle.graph.specs.Standing.{GraphView, graph}
 use Rattle.inc_value.specs.declared.function.FnKind.{FnKind}
 use Rattle.inc_value.specs.declared.function.FnRef.{FnRef}
-use Rattle.inc_value.specs.Ty.{type_of_base}
+use Rattle.inc_value.specs.Ty.{same_ty, type_of_base}
 use Rattle.inc_value.specs.declared.node.NodeId.{NodeId}
 use Rattle.inc_value.specs.declared.node.ObsId.{ObsId}
+use Rattle.inc_value.specs.declared.ty.Base.TheVariants as base
 use Rattle.inc_value.specs.declared.ty.Ty.{Ty}
 use Rattle.inc_value.specs.declared.ty.Ty.TheVariants as types
 use Rattle.inc_value.specs.declared.value.Value.{Value as GraphValue}
@@ -27,15 +28,16 @@ use Rattle.inc_terms.specs.Graph.{Row}
 use Rattle.inc_terms.specs.Term.{Functions}
 use Rattle.link_table.proofs.Lists.{get_append_last}
 use Rattle.inc_terms.specs.Within.{Given, ValueWithin}
-use Rattle.node_arena.specs.Arena.{Arena, row_at, live, IsVariable}
+use Rattle.node_arena.specs.Arena.{Arena, row_at, IsVariable}
 use Rattle.node_arena.specs.Sound as arena
 use Rattle.node_arena.specs.Typing as typing
 use Rattle.node_arena.specs.Typing.{Fits, FitsNode, HasType}
 use Rattle.script_functions.specs.Bodies as Bodies
 use Rattle.script_functions.specs.Keeping.{is_known, makers, side_in}
-use Rattle.script_model.specs.Check.{Assign, Declare, Declared, Kind, Names, Variable as VariableKind, Bind as BindKind, Grab as GrabKind, declared_of, is_variable, kind_of_body, target_of_body}
-use Rattle.script_model.specs.Formula.{State, Body, Formula, Kept as KeptOf, Meanings, meanings_of, places_of_body, Name, Bind, Variable, Computed, After, Every}
+use Rattle.script_model.specs.Check.{Assign, Declare, Declared, Kind, Names, Variable as VariableKind, Bind as BindKind, Expert as ExpertKind, Grab as GrabKind, declared_of, element_of, is_variable, kind_of_body, target_of_body}
+use Rattle.script_model.specs.Formula.{State, Body, Formula, Kept as KeptOf, Meanings, meanings_of, places_of_body, Name, Bind, Variable, Computed, Freeze, After, Every, Expert, Grab}
 use Rattle.script_model.specs.Step.{Moment, declared_in, moved}
+use Rattle.script_model.specs.Valid.{FoldsOver}
 use Rattle.script_model.specs.Values.{Value, Int, Bool as Truth, Text, Reference, type_of}
 use Rattle.script_graph.specs.Growing.{AllPlannedFit, AreServed, Extends, IsMaking, KeepsBodies, PartFits, functions_over}
 use Rattle.script_graph.specs.Kept as kept
@@ -49,9 +51,10 @@ use Rattle.script_graph.proofs.Extending.{BodiesServe, NodesGiven, WereLive, bes
 use Rattle.script_graph.proofs.Few.{few_back, few_made}
 use Rattle.script_graph.proofs.Functions.{functions_are}
 use Rattle.script_graph.proofs.Laying.{body_laid_out, every_name_of, graph_type, laid_fits}
-use Rattle.script_graph.proofs.Owned.{IsOfKind, made_declares, made_owned, made_root, made_unbuilt}
+use Rattle.script_graph.proofs.Owned.{IsOfKind, made_declares, made_owned, made_root, made_unbuilt, made_unfrozen}
 use Rattle.script_graph.proofs.Owning.{HasOwnNode}
 use Rattle.script_graph.proofs.Setting.{setting_stands}
+use Rattle.script_graph.proofs.Unfrozen.{made_freezes}
 use Rattle.script_graph.proofs.Sounding.{declared_at, declared_still, node_fits, node_given, sound_declared, sound_on, sound_set}
 use Rattle.transfer.specs.Both.{Both, graph_value}
 use Rattle.transfer.specs.Keeping.{TermsStay}
@@ -92,11 +95,16 @@ names_within known names nodes one_each body ty fits =
 
 -- ---- after a declaration
 
--- what counts spans counts them from the present time on
-counts_alike : (known : FnRef → Bool) (names : Names) (x : Both) (body : Body) (ty : Ty) → BodyFits known names body ty → x.graph.now ≡ pos x.state.now
-    → names.now ≡ x.state.now → CountsAlike x body
-counts_alike known names x (Every base span) ty fits clock now = let is = fits.1 in counts_at x.graph.now x.state.now base span clock (omega (arith, is, now))
-counts_alike known names x body ty fits clock now = tt
+-- what counts spans counts them from the present time on, a freeze keeps nothing, and an expert lists nothing
+stands_alike : (known : FnRef → Bool) (names : Names) (x : Both) (n : NodeId) (body : Body) (ty : Ty) → BodyFits known names body ty
+    → x.graph.now ≡ pos x.state.now → names.now ≡ x.state.now
+    → (HasOwnNode body → (x.graph.frozen n ≡ None) × (x.graph.lists n ≡ [])) → StandsAlike x n body
+stands_alike known names x n (Every base span) ty fits clock now none =
+    let is = fits.1 in counts_at x.graph.now x.state.now base span clock (omega (arith, is, now))
+stands_alike known names x n (Freeze child predicate frozen) ty fits clock now none =
+    (none tt).0 ∙ sym (ap (option_map (graph_value x.nodes)) fits.1)
+stands_alike known names x n (Expert f first links stale) ty fits clock now none = (none tt).1 ∙ sym (ap (map x.nodes) fits.1)
+stands_alike known names x n body ty fits clock now none = tt
 
 -- what is declared is no grab
 no_grab : (known : FnRef → Bool) (names : Names) (body : Body) (ty : Ty) → BodyFits known names body ty → kind_of_body body ≡ GrabKind → ⊥
@@ -105,7 +113,9 @@ no_grab known names (Computed (Bind left body) kept) ty fits is = cc
 no_grab known names (Computed f kept) ty fits is = cc
 no_grab known names (After time) ty fits is = cc
 no_grab known names (Every base span) ty fits is = cc
-no_grab known names body ty fits is = fits
+no_grab known names (Freeze child predicate frozen) ty fits is = cc
+no_grab known names (Expert f first links stale) ty fits is = cc
+no_grab known names (Grab bind v is_live) ty fits is = fits
 
 -- what stands for itself has a node of its own
 own_of_target : (known : FnRef → Bool) (names : Names) (body : Body) (ty : Ty) → BodyFits known names body ty
@@ -116,7 +126,9 @@ own_of_target known names (Computed (Name t) kept) ty fits itself =
 own_of_target known names (Computed f kept) ty fits itself = tt
 own_of_target known names (After time) ty fits itself = tt
 own_of_target known names (Every base span) ty fits itself = tt
-own_of_target known names body ty fits itself = absurd fits
+own_of_target known names (Freeze child predicate frozen) ty fits itself = tt
+own_of_target known names (Expert f first links stale) ty fits itself = tt
+own_of_target known names (Grab bind v is_live) ty fits itself = absurd fits
 
 variable_of : (body : Body) → kind_of_body body ≡ VariableKind → (v : Value) × (body ≡ Variable v)
 variable_of (Variable v) is = (v, refl)
@@ -128,6 +140,28 @@ bind_of_kind : (body : Body) → kind_of_body body ≡ BindKind → (left : Form
 bind_of_kind (Computed (Bind left body) kept) is = (left, body, kept, refl)
 bind_of_kind (Computed f kept) is = absurd (cc)
 bind_of_kind body is = absurd (cc)
+
+pub expert_of_kind : (body : Body) (element : Ty) → kind_of_body body ≡ ExpertKind element
+    → (f : FnRef) × (first : Value) × (links : List ℕ) × (stale : ℕ) × (body ≡ Expert f first links stale)
+    × (unwrap_or (element_of f f.sig.takes) types.Int ≡ element)
+expert_of_kind (Expert f first links stale) element is = (f, first, links, stale, refl, (cc))
+expert_of_kind (Computed (Bind left body) kept) element is = absurd (cc)
+expert_of_kind (Computed f kept) element is = absurd (cc)
+expert_of_kind body element is = absurd (cc)
+
+same_ty_itself : (t : Ty) → same_ty t t ≡ true
+same_ty_itself types.Int = refl
+same_ty_itself types.Bool = refl
+same_ty_itself types.Text = refl
+same_ty_itself (types.Node base.Int) = refl
+same_ty_itself (types.Node base.Bool) = refl
+same_ty_itself (types.Node base.Text) = refl
+
+-- the elements of a fold
+folded_element : (f : FnRef) (t element : Ty) → FoldsOver f t element → unwrap_or (element_of f f.sig.takes) types.Int ≡ element
+folded_element f t element folds =
+    ap (λ (tys : List Ty). unwrap_or (element_of f tys) types.Int) folds.0
+    ∙ ap (λ (b : Bool). unwrap_or (cond b (Some element) None) types.Int) (ap (same_ty t) folds.1 ∙ same_ty_itself t)
 
 -- it has its target
 new_target : (known : FnRef → Bool) (a : Arena) (names : Names) (nodes : List NodeId) → HaveNodes a names.declared nodes → (made : List Made)
@@ -198,7 +232,7 @@ module _ {F : Type 0} (first now : GraphView F) (names : Names) (nodes : List No
         → MatchesMoment (meanings_of named value) before m → MatchesMoment (meanings_of named value) returned m
     returned_stands more were named value m matches =
         stands_on (meanings_of named value) before (without_functions now) bodies' Q (serve (meanings_of named value)) sound sound'
-        (extends_without first now more) m (nodes_given before h sound m.present matches.names) matches
+        (extends_without first now more) were m (nodes_given before h sound m.present matches.names) matches
 
     module _ (name : List ℕ) (ty : Ty) (body : Body) (fits : DeclarationFits maps names name ty body)
         (made : List Made) (less : ℕ) (room_is : less + places_of_body body ≡ room) where
@@ -247,9 +281,11 @@ module _ {F : Type 0} (first now : GraphView F) (names : Names) (nodes : List No
             (nodes_given before h sound m.present matches.names) name ty body root less fits room_is
             (made_owned maps names H first now (node_at nodes) (type_at names) made body ty fits.body_fits making whole)
             (λ own. made_unbuilt maps names H first now (node_at nodes) (type_at names) made body ty fits.body_fits making whole own)
+            (made_freezes H first now (node_at nodes) (type_at names) made body making)
             (made_declares maps names x (node_at nodes) (type_at names) made body ty fits.body_fits
             (λ position t fine. node_same position fine.earlier)
-            (counts_alike maps names x body ty fits.body_fits (making.extends.time ∙ (matches.represents unbroken).clock) matches.names.now) stands whole)
+            (stands_alike maps names x root body ty fits.body_fits (making.extends.time ∙ (matches.represents unbroken).clock) matches.names.now
+            (λ own. made_unfrozen maps names H first now (node_at nodes) (type_at names) made body ty fits.body_fits making whole own)) stands whole)
             unbroken matches
 
         module _ (known' : FnRef → Bool) (served : AreServed known' (side_in (makers bodies')) makes made) where
@@ -274,6 +310,7 @@ module _ {F : Type 0} (first now : GraphView F) (names : Names) (nodes : List No
                 outside = t.4;
                 variable = λ is. variable_here t.0 t.1 t.2 t.5 t.6 is;
                 bind = λ is. bind_here t.0 t.1 t.2 t.5 t.6 is;
+                expert = λ element is. expert_here t.0 t.1 t.2 t.5 t.6 element is;
               }
             where
               variable_here : (row : Row) (z : Open) → row_at now.nodes root ≡ Some row → row.def ≡ filled made z
@@ -291,6 +328,23 @@ module _ {F : Type 0} (first now : GraphView F) (names : Names) (nodes : List No
                   let b = bind_of_kind body kind in
                   let w = subst (λ (b : Body). IsOfKind maps names H first now (node_at nodes) (type_at names) made b z) b.3 of_kind in
                   (row, _, _, _, ap (row_at now.nodes) node_new ∙ is, def ∙ ap (filled made) w.3)
+
+              expert_here : (row : Row) (z : Open) → row_at now.nodes root ≡ Some row → row.def ≡ filled made z
+                  → IsOfKind maps names H first now (node_at nodes) (type_at names) made body z → (element : Ty)
+                  → kind_of_body body ≡ ExpertKind element → TakesBeside now.nodes (node_in (nodes ++ root ∷ []) (length names.declared)) element
+              expert_here row z is def of_kind element kind =
+                  let e = expert_of_kind body element kind in
+                  let w = subst (λ (b : Body). IsOfKind maps names H first now (node_at nodes) (type_at names) made b z) e.4 of_kind in
+                  let folds = (subst (λ (b : Body). BodyFits maps names b ty) e.4 fits.body_fits).0 in
+                  let same : folds.element ≡ element = sym (folded_element e.0 ty folds.element folds.folds) ∙ e.5 in (
+                    row,
+                    e.0,
+                    graph_value (node_at nodes) e.1,
+                    [],
+                    ap (row_at now.nodes) node_new ∙ is,
+                    def ∙ ap (filled made) w,
+                    folds.folds.0 ∙ (ap (λ (t : Ty). t ∷ folds.element ∷ []) (sym folds.folds.1) ∙ ap (λ (t : Ty). e.0.sig.gives ∷ t ∷ []) same),
+                  )
 
           pub declared_sound : IsSoundSession after
           declared_sound =
@@ -360,7 +414,7 @@ kind_known (Some d) is = (d, refl, by_kind d.kind is)
 module _ (a : Arena) (names : Names) (nodes : List NodeId) (sound : arena.IsSoundArena a) (one_each : length nodes ≡ length names.declared)
     (has : HaveNodes a names.declared nodes) where
   -- what a name that fits stands for was given, and is of its type or dead
-  named_fits : (position : ℕ) (ty : Ty) → NameFits names position ty → Given a.given (node_in nodes position) × Fits a (node_in nodes position) ty
+  pub named_fits : (position : ℕ) (ty : Ty) → NameFits names position ty → Given a.given (node_in nodes position) × Fits a (node_in nodes position) ty
   named_fits position ty fits =
       let target = (has fits.place fits.declared fits.stands).target in
       let own = node_fits a sound names.declared nodes has fits.declared.target target.target target.is_target in

@@ -15,24 +15,26 @@ use Rattle.inc_value.specs.declared.ty.Ty.{Ty}
 use Rattle.inc_value.specs.declared.value.Value.{Value as GraphValue}
 use Rattle.graph.specs.Standing.{GraphView, graph}
 use Rattle.link_table.proofs.Lists.{get_append_last, get_append_other}
-use Rattle.inc_terms.specs.Graph.{Graph}
+use Rattle.inc_terms.specs.Graph as graph_def
+use Rattle.inc_terms.specs.Graph.{Graph, Row}
 use Rattle.inc_terms.specs.Rebuilding.{outcome_of}
 use Rattle.inc_terms.specs.Within.{Given}
 use Rattle.node_arena.specs.Arena.{row_at}
 use Rattle.node_arena.specs.Sound as arena
 use Rattle.script_model.specs.Check.{Declare, Declared, Names, declared_of, kind_of_body, names_of, target_of_body}
 use Rattle.script_functions.specs.Bodies as Bodies
-use Rattle.script_model.specs.Formula.{State, Body, Entry, Kept as KeptOf, Formula, Meanings, meanings_of, bind_of, body_at, built_at, built_of_body, entry_at, formula_of_body, places_of_body, Name, Bind, Variable, Computed, After, Every, Grab}
-use Rattle.script_model.specs.Need.{part_of}
+use Rattle.script_model.specs.Formula.{State, Body, Entry, Kept as KeptOf, Formula, Meanings, meanings_of, bind_of, body_at, built_at, built_of_body, entry_at, formula_of_body, places_of_body, Name, Bind, Variable, Computed, Freeze, After, Every, Expert, Grab}
+use Rattle.script_model.specs.Need.{part_of, stamp_of_body}
 use Rattle.script_model.specs.Step.{Moment, declared_in, moved}
 use Rattle.script_model.specs.Values.{Value, Int, Bool as Truth, Text, Reference}
 use Rattle.script_graph.specs.Growing.{Extends}
 use Rattle.script_graph.specs.Kept.{Kept, arena_of, node_in, no_node}
 use Rattle.script_graph.specs.Represents.{AreNames, beside, BuiltAlike, BuiltRefers, Represents}
-use Rattle.script_graph.specs.Today.{RefersTo, IsPlainBody, IsEarlierTarget, IsDeclaredTarget, AllPlain, IsWithin, IsPartWithin, OwnNodesOf}
+use Rattle.script_graph.specs.Settled.{StampsGrow}
+use Rattle.script_graph.specs.Today.{FreezesAreDeclared, RefersTo, IsPlainBody, IsEarlierTarget, IsDeclaredTarget, AllPlain, IsWithin, IsPartWithin, OwnNodesOf}
 use Rattle.script_graph.specs.State.{MatchesMoment}
 use Rattle.script_graph.proofs.Carrying.{watches_on, leaves_beside, settled_on}
-use Rattle.script_graph.proofs.Extending.{BodiesServe, KeepsGraph, NodesGiven, body_past, body_there, body_within, built_still, declares_still, entry_body, extends_beside, extends_built, extends_keeps, extends_lives, extends_scopes, live_stays, never_given, node_past, still_counts}
+use Rattle.script_graph.proofs.Extending.{BodiesServe, KeepsGraph, NodesGiven, body_past, body_there, body_within, built_still, declares_still, entry_body, extends_beside, extends_built, extends_keeps, extends_lists, extends_lives, extends_scopes, live_stays, never_given, node_past, still_counts}
 use Rattle.script_graph.proofs.Owning.{HasOwnNode, own_body, own_node, own_nodes_of_on}
 use Rattle.script_graph.proofs.Referring.{outcome_refers_more, value_refers_more}
 use Rattle.transfer.specs.Both.{graph_outcome}
@@ -51,32 +53,18 @@ plain_body_more P Q R S more refers b fine = (fine.0, leaves_more_of P Q R S mor
 
 -- ---- names stand for declarations that are no other names
 
+own_itself : (s : State) (n : ℕ) (e : Entry) → entry_at s n ≡ Some e → (b : Body) → e.body ≡ b → e.target ≡ n → IsOwn (Some b) → IsOwn (body_at s e.target)
+own_itself s n e is b body target own =
+    let here : body_at s n ≡ Some b = ap (λ (o : Option Entry). and_then o (λ (d : Entry). Some d.body)) is ∙ ap (λ b. Some b) body in
+    subst (λ (j : ℕ). IsOwn (body_at s j)) (sym target) (subst IsOwn (sym here) own)
+
 own_or_name : (s : State) (n : ℕ) (e : Entry) → entry_at s n ≡ Some e → AllPlain s → (b : Body) → e.body ≡ b → e.target ≡ target_of_body n b
     → IsOwn (body_at s e.target)
 own_or_name s n e is plain (Computed (Name t) kept) body target =
     let here : body_at s n ≡ Some (Computed (Name t) kept) = ap (λ (o : Option Entry). and_then o (λ (d : Entry). Some d.body)) is ∙ ap (λ b. Some b) body in
     subst (λ (j : ℕ). IsOwn (body_at s j)) (sym target) (plain n (Computed (Name t) kept) here).1.1
-own_or_name s n e is plain (Computed f kept) body target = itself s n e is (Computed f kept) body target tt
-  where
-    itself : (s : State) (n : ℕ) (e : Entry) → entry_at s n ≡ Some e → (b : Body) → e.body ≡ b → e.target ≡ n → IsOwn (Some b) → IsOwn (body_at s e.target)
-    itself s n e is b body target own =
-        let here : body_at s n ≡ Some b = ap (λ (o : Option Entry). and_then o (λ (d : Entry). Some d.body)) is ∙ ap (λ b. Some b) body in
-        subst (λ (j : ℕ). IsOwn (body_at s j)) (sym target) (subst IsOwn (sym here) own)
-own_or_name s n e is plain (Variable v) body target =
-    let here : body_at s n ≡ Some (Variable v) = ap (λ (o : Option Entry). and_then o (λ (d : Entry). Some d.body)) is ∙ ap (λ b. Some b) body in
-    subst (λ (j : ℕ). IsOwn (body_at s j)) (sym target) (subst IsOwn (sym here) tt)
-own_or_name s n e is plain (Grab bind v is_live) body target =
-    let here : body_at s n ≡ Some (Grab bind v is_live) = ap (λ (o : Option Entry). and_then o (λ (d : Entry). Some d.body)) is ∙ ap (λ b. Some b) body in
-    subst (λ (j : ℕ). IsOwn (body_at s j)) (sym target) (subst IsOwn (sym here) tt)
-own_or_name s n e is plain (After time) body target =
-    let here : body_at s n ≡ Some (After time) = ap (λ (o : Option Entry). and_then o (λ (d : Entry). Some d.body)) is ∙ ap (λ b. Some b) body in
-    subst (λ (j : ℕ). IsOwn (body_at s j)) (sym target) (subst IsOwn (sym here) tt)
-own_or_name s n e is plain (Every base span) body target =
-    let here : body_at s n ≡ Some (Every base span) = ap (λ (o : Option Entry). and_then o (λ (d : Entry). Some d.body)) is ∙ ap (λ b. Some b) body in
-    subst (λ (j : ℕ). IsOwn (body_at s j)) (sym target) (subst IsOwn (sym here) tt)
-own_or_name s n e is plain b body target =
-    let here : body_at s n ≡ Some b = ap (λ (o : Option Entry). and_then o (λ (d : Entry). Some d.body)) is ∙ ap (λ b. Some b) body in
-    absurd (plain n b here).0
+own_or_name s n e is plain (Computed f kept) body target = own_itself s n e is (Computed f kept) body target tt
+own_or_name s n e is plain b body target = own_itself s n e is b body target tt
 
 -- an entry of a declared name
 pub named_entry : (names : Names) (s : State) → names.declared ≡ (names_of s).declared → (place : ℕ) (d : Declared) → slice_get names.declared place ≡ Some d
@@ -180,7 +168,9 @@ own_declared known names (Computed (Name t) kept) ty fits own = absurd own
 own_declared known names (Computed f kept) ty fits own = tt
 own_declared known names (After time) ty fits own = tt
 own_declared known names (Every base span) ty fits own = tt
-own_declared known names body ty fits own = absurd fits
+own_declared known names (Freeze child predicate frozen) ty fits own = tt
+own_declared known names (Expert f first links stale) ty fits own = tt
+own_declared known names (Grab bind v is_live) ty fits own = absurd fits
 
 -- nothing is kept of it
 unbuilt_yet : (known : FnRef → Bool) (names : Names) (body : Body) (ty : Ty) → BodyFits known names body ty → built_of_body body ≡ None
@@ -188,7 +178,9 @@ unbuilt_yet known names (Variable v) ty fits = refl
 unbuilt_yet known names (Computed f kept) ty fits = ap (λ (r : KeptOf). r.built) fits.1
 unbuilt_yet known names (After time) ty fits = refl
 unbuilt_yet known names (Every base span) ty fits = refl
-unbuilt_yet known names body ty fits = absurd fits
+unbuilt_yet known names (Freeze child predicate frozen) ty fits = refl
+unbuilt_yet known names (Expert f first links stale) ty fits = refl
+unbuilt_yet known names (Grab bind v is_live) ty fits = absurd fits
 
 pub no_live_grab : (known : FnRef → Bool) (names : Names) (body : Body) (ty : Ty) → BodyFits known names body ty → (b : ℕ) (v : Value)
     → body ≡ Grab b v true → ⊥
@@ -196,7 +188,9 @@ no_live_grab known names (Variable v) ty fits b w e = cc
 no_live_grab known names (Computed f kept) ty fits b w e = cc
 no_live_grab known names (After time) ty fits b w e = cc
 no_live_grab known names (Every base span) ty fits b w e = cc
-no_live_grab known names body ty fits b w e = absurd fits
+no_live_grab known names (Freeze child predicate frozen) ty fits b w e = cc
+no_live_grab known names (Expert f first links stale) ty fits b w e = cc
+no_live_grab known names (Grab bind v is_live) ty fits b w e = fits
 
 -- ---- what is kept
 
@@ -221,20 +215,28 @@ IsSince count root n = (count ≤ n.gen_) × (n.gen_ ≤ root.gen_)
 abbrev pub IsPartSince : ℕ → NodeId → NodeId → Type 0
 IsPartSince count root n = (count ≤ n.gen_) × (n.gen_ < root.gen_)
 
+-- each live freeze was there, or what is declared is one, and this is its node
+abbrev pub FreezesAre : Graph → Graph → NodeId → Body → Type 0
+FreezesAre G G' root body =
+    (n : NodeId) (r : Row) (kid : NodeId) (f : FnRef) → G'.row n ≡ Some r → r.def ≡ graph_def.Freeze kid f
+    → (G.row n ≡ Some r) ⊎ ((root ≡ n) × (child : Formula) × (predicate : FnRef) × (frozen : Option Value) × (body ≡ Freeze child predicate frozen))
+
 -- what is declared anew fits behind what is there: it is plain; its node is that of no other name, if it is its own target; it isn't built; if it is a live
--- grab its bind's body is no name; and its nodes were given since
-pub record IsNew (s : State) (name : List ℕ) (ty : Ty) (body : Body) (nodes : List NodeId) (count : ℕ) (root : NodeId) (G : Graph) : Type 0 where
+-- grab its bind's body is no name; its nodes were given since; and no other freeze was made
+pub record IsNew (s : State) (name : List ℕ) (ty : Ty) (body : Body) (nodes : List NodeId) (count : ℕ) (root : NodeId) (before G : Graph) : Type 0 where
   pub plain : IsPlainBody (IsEarlierTarget (declared_in s name ty body) (length s.entries)) (IsDeclaredTarget (declared_in s name ty body)) body
   pub apart : IsOwn (Some body) → (i : ℕ) (e : Entry) → entry_at s i ≡ Some e → e.target ≡ i → node_in nodes i ≡ root → ⊥
   pub unkept : built_of_body body ≡ None
   pub unbuilt : (left below : Formula) (kept : KeptOf) → body ≡ Computed (Bind left below) kept → G.built root ≡ None
   pub grab : (b : ℕ) (v : Value) (left : Formula) (t : ℕ) (kept : KeptOf) → body ≡ Grab b v true → body_at s b ≡ Some (Computed (Bind left (Name t)) kept) → ⊥
   pub owned : OwnNodesOf G (IsSince count root) (IsPartSince count root) root body
+  pub freezes : FreezesAre before G root body
 
 module _ (F : Meanings) (k : Kept) (g : GraphView (Unit {0})) (bodies : List Bodies.Body) (Q : FnKind → FnRef → Type 0) (serve : BodiesServe F k bodies Q)
     (sound : arena.IsSoundArena (arena_of k)) (sound' : arena.IsSoundArena g.nodes) (more : Extends k.graph g) (m : Moment) (given : NodesGiven m.present k)
     (name : List ℕ) (ty : Ty) (body : Body) (root : NodeId) (room : ℕ) (room_is : room + places_of_body body ≡ k.room)
-    (is_new : AreNames k.names m.present → Represents F m.present k → IsNew m.present name ty body k.nodes (arena_of k).given root (graph g)) where
+    (is_new : AreNames k.names m.present → Represents F m.present k
+    → IsNew m.present name ty body k.nodes (arena_of k).given root (graph k.graph) (graph g)) where
   abbrev s : State
   s = m.present
 
@@ -268,7 +270,7 @@ module _ (F : Meanings) (k : Kept) (g : GraphView (Unit {0})) (bodies : List Bod
 
   module _ (names : AreNames k.names s) (held : Represents F s k)
       (shows : Declares (beside F s' new) root (Some body)) where
-    new_is : IsNew s name ty body k.nodes (arena_of k).given root (graph g)
+    new_is : IsNew s name ty body k.nodes (arena_of k).given root (graph k.graph) (graph g)
     new_is = is_new names held
 
     node_old : (n : ℕ) → n < length s.entries → node_in new.nodes n ≡ node_in k.nodes n
@@ -306,6 +308,7 @@ module _ (F : Meanings) (k : Kept) (g : GraphView (Unit {0})) (bodies : List Bod
     declares_each n (Some b) is = elim (body_of s name ty body n b is) [
       | inl h ↦ declares_still Of F s k held given s' new.nodes bodies Q serve g keeps node_old n b h.1
           (λ e r row. live_stays k.graph g sound more (node_in k.nodes n) r row) (λ base span e alike. still_counts k g s base span more.time alike)
+          (extends_lists k g sound more s given n b h.1)
       | inr h ↦ subst (λ (c : Body). Declares (beside F s' new) (node_in new.nodes n) (Some c)) (sym h.1)
           (subst (λ (q : NodeId). Declares (beside F s' new) q (Some body)) (sym (ap (node_in new.nodes) h.0 ∙ node_new)) shows)
     ]
@@ -343,12 +346,35 @@ module _ (F : Meanings) (k : Kept) (g : GraphView (Unit {0})) (bodies : List Bod
     aged_each n b at = elim (body_of s name ty body n b at) [
       | inl h ↦ subst (λ (q : NodeId). AgedAt n q b) (sym (node_old n h.0))
           (own_nodes_of_on (graph k.graph) (graph g) (IsWithin k.nodes n) (IsWithin new.nodes n) (IsPartWithin k.nodes n)
-          (IsPartWithin new.nodes n) (within_old n h.0) (part_old n h.0) keeps.rows (node_in k.nodes n) b (held.today.aged n b h.1))
+          (IsPartWithin new.nodes n) (within_old n h.0) (part_old n h.0) keeps.rows
+          (λ q r kid f row def. live_stays k.graph g sound more q r row) (node_in k.nodes n) b (held.today.aged n b h.1))
       | inr h ↦ subst (λ (j : ℕ). AgedAt j (node_in new.nodes j) b) (sym h.0)
           (subst (λ (q : NodeId). AgedAt (length s.entries) q b) (sym node_new)
           (subst (λ (c : Body). AgedAt (length s.entries) root c) (sym h.1)
           (own_nodes_of_on (graph g) (graph g) (IsSince (arena_of k).given root) (IsWithin new.nodes (length s.entries)) (IsPartSince (arena_of k).given root)
-          (IsPartWithin new.nodes (length s.entries)) within_new part_new (λ q r u row def. row) root body new_is.owned)))
+          (IsPartWithin new.nodes (length s.entries)) within_new part_new (λ q r u row def. row) (λ q r kid f row def. row) root body new_is.owned)))
+    ]
+
+    freezes_each : FreezesAreDeclared (graph g) s' new.nodes
+    freezes_each n r kid f row def = elim (new_is.freezes n r kid f row def) [
+      | inl was ↦
+          let d = held.today.freezes n r kid f was def in
+          let low = body_within s d.position (Freeze d.child d.predicate d.frozen) d.is_body in record {
+            position = d.position;
+            child = d.child;
+            predicate = d.predicate;
+            frozen = d.frozen;
+            is_body = body_old s name ty body d.position low ∙ d.is_body;
+            node = node_old d.position low ∙ d.node;
+          }
+      | inr made ↦ record {
+        position = length s.entries;
+        child = made.1;
+        predicate = made.2;
+        frozen = made.3;
+        is_body = body_new s name ty body ∙ ap (λ (b : Body). Some b) made.4;
+        node = node_new ∙ made.0;
+      }
     ]
 
     targets_each : (n : ℕ) (e : Entry) → entry_at s' n ≡ Some e → e.target ≡ target_of_body n e.body
@@ -430,11 +456,19 @@ module _ (F : Meanings) (k : Kept) (g : GraphView (Unit {0})) (bodies : List Bod
       today = record {
         plain = plain_each;
         aged = aged_each;
+        freezes = freezes_each;
       };
     }
 
   grabs_live : GrabsStay s s'
   grabs_live n b v was = body_old s name ty body n (body_within s n (Grab b v true) was) ∙ was
+
+  stamps_grow : StampsGrow s s'
+  stamps_grow n = go (body_at s n) refl
+    where
+      go : (b : Option Body) → body_at s n ≡ b → stamp_of_body (body_at s n) ≤ stamp_of_body (body_at s' n)
+      go None is = let none = ap stamp_of_body is in omega (arith, none)
+      go (Some b) is = let same = ap stamp_of_body (body_old s name ty body n (body_within s n b is)) in omega (arith, same)
 
   -- the script with the declaration is matched, where the new node shows it
   pub declared_matches : Declares (beside F s' new) root (Some body) → m.broken ≡ None → MatchesMoment F k m
@@ -446,16 +480,20 @@ module _ (F : Meanings) (k : Kept) (g : GraphView (Unit {0})) (bodies : List Bod
         accepted = h.accepted;
         broken = h.broken;
         represents = λ still. declared_represents h.names held shows;
-        watches = watches_on s s' k new (extends_beside k.graph g more) refl refl refl refl (λ n b at. node_old h.names held shows n (body_within s n b at)) given
+        watches = watches_on s s' k new more.beside.observers refl refl refl refl (λ n b at. node_old h.names held shows n (body_within s n b at)) given
             (λ n b at. (b, body_old s name ty body n (body_within s n b at) ∙ at)) (target_on h.names held shows) h.watches;
-        settled = λ still. settled_on F m.settled s s' k new (leaves_beside k new (extends_beside k.graph g more) more.given) (record {
-          formulas = declared_formulas s name ty body;
-          targets = λ n e at. (e, entry_old s name ty body n (slice_get_within s.entries n e at) ∙ at, refl);
-          names = λ n e at. node_old h.names held shows n (slice_get_within s.entries n e at);
-          rows = keeps.rows;
-          lives = extends_lives k g sound more;
-          built = extends_built k g sound more;
-        }) grabs_live (extends_scopes k g sound more) (λ x among at. among) (h.settled still);
+        settled = λ still. settled_on F m.settled s s' k new
+            (leaves_beside k new (extends_beside k.graph g more) more.given (λ n r kid f low row def. sym (more.rows n low) ∙ row))
+            (record { stamps = stamps_grow; marks = λ n low marked. inl (sym (more.beside.of_nodes.marks n low) ∙ marked) }) (record {
+              formulas = declared_formulas s name ty body;
+              bodies = λ n b has at. body_old s name ty body n (body_within s n b at) ∙ at;
+              targets = λ n e at. (e, entry_old s name ty body n (slice_get_within s.entries n e at) ∙ at, refl);
+              names = λ n e at. node_old h.names held shows n (slice_get_within s.entries n e at);
+              rows = keeps.rows;
+              freezes = λ n r kid f is def. live_stays k.graph g sound more n r is;
+              lives = extends_lives k g sound more;
+              built = extends_built k g sound more;
+            }) grabs_live (extends_scopes k g sound more) (λ x among at. among) (h.settled still);
       }
 
 -- ---- a declaration that fits
@@ -466,7 +504,7 @@ module _ (named : List ℕ → Option FnRef) (value : FnRef → List GraphValue 
     (name : List ℕ) (ty : Ty) (body : Body) (root : NodeId) (room : ℕ) (fits : DeclarationFits known k.names name ty body)
     (room_is : room + places_of_body body ≡ k.room)
     (owned : OwnNodesOf (graph g) (IsSince (arena_of k).given root) (IsPartSince (arena_of k).given root) root body)
-    (fresh : HasOwnNode body → (graph g).built root ≡ None) where
+    (fresh : HasOwnNode body → (graph g).built root ≡ None) (freezes : FreezesAre (graph k.graph) (graph g) root body) where
   abbrev F : Meanings
   F = meanings_of named value
 
@@ -493,7 +531,7 @@ module _ (named : List ℕ → Option FnRef) (value : FnRef → List GraphValue 
         (λ n d. (d.0, body_old t name ty body n (body_within t n d.0 d.1) ∙ d.1, d.2)) v
         (fitting_refers k.names t names.declared held.today.plain held.targets v fine)
 
-    new_one : IsNew t name ty body k.nodes (arena_of k).given root (graph g)
+    new_one : IsNew t name ty body k.nodes (arena_of k).given root (graph k.graph) (graph g)
     new_one = record {
       plain = body_plain known k.names (IsEarlierTarget t' (length t.entries)) (IsDeclaredTarget t') fitting fitting_value body ty fits.body_fits;
       apart = λ own i e at own_i node.
@@ -506,6 +544,7 @@ module _ (named : List ℕ → Option FnRef) (value : FnRef → List GraphValue 
       unbuilt = λ left below kept is. fresh (subst HasOwnNode (sym is) tt);
       grab = λ b v left u kept is bind. no_live_grab known k.names body ty fits.body_fits b v is;
       owned = owned;
+      freezes = freezes;
     }
 
   pub declaring_stands : Declares (beside F t' (with_declared k name ty body root room bodies g)) root (Some body) → m.broken ≡ None → MatchesMoment F k m

@@ -9,16 +9,17 @@ use Rattle.inc_value.specs.Choice.{Among, NoRepeats}
 use Rattle.inc_value.specs.declared.node.NodeId.{NodeId}
 use Rattle.inc_value.specs.declared.node.ObsId.{ObsId}
 use Rattle.inc_terms.specs.Graph.{Built as BuiltFor}
+use Rattle.inc_terms.specs.Within.{Given}
 use Rattle.node_arena.specs.Arena.{Arena, row_at}
 use Rattle.script_model.specs.Check.{Unobserve, is_among, names_of}
 use Rattle.script_model.specs.Formula.{State, Observer, Meanings}
 use Rattle.script_model.specs.Step.{Moment, moved}
-use Rattle.script_graph.specs.Kept.{Kept}
+use Rattle.script_graph.specs.Kept.{Kept, arena_of}
 use Rattle.script_graph.specs.Represents.{rooted_at, there_in, Watches}
 use Rattle.script_graph.specs.Settled.{ScopesBuilt, StillDeclares}
 use Rattle.script_graph.specs.Sound.{AreFew, HaveNodes, IsSoundSession}
 use Rattle.script_graph.specs.State.{MatchesMoment}
-use Rattle.script_graph.proofs.Carrying.{LeavesBeside, settled_on}
+use Rattle.script_graph.proofs.Carrying.{LeavesBeside, leaves_marks, settled_on, unfrozen_were}
 use Rattle.script_graph.proofs.Held.{rooted_looks, rooted_still}
 use Rattle.script_graph.proofs.Observing.{get_some, there_is_among}
 use Rattle.script_graph.proofs.Same.{represents_so}
@@ -428,6 +429,9 @@ module _ (k : Kept) (name d : List ℕ) (i : ℕ) (o : ObsId) (g : GraphView (Un
     leaves : LeavesBeside k new
     leaves = record {
       rooted = λ p n at. rooted_left p n at (same_or p.0 o.0);
+      since = ends.top.since;
+      unfrozen = unfrozen_were (Given (arena_of k).given) (graph k.graph) (graph g)
+          (λ n r kid f given row def. ap (λ (a : Arena). row_at a n) (sym ends.nodes) ∙ row) (λ n given. ends.of_nodes.frozen n tt);
       fewer = ends.fewer_links;
       given = let same = ap (λ (a : Arena). a.given) ends.nodes in omega (arith, same);
       last = λ n given. ends.of_nodes.last n tt;
@@ -441,9 +445,11 @@ module _ (k : Kept) (name d : List ℕ) (i : ℕ) (o : ObsId) (g : GraphView (Un
     still : StillDeclares s k.nodes (graph k.graph) then new
     still = record {
       formulas = λ owner path f is. is;
+      bodies = λ n b has is. is;
       targets = λ n e is. (e, is, refl);
       names = λ n e is. refl;
       rows = λ n r u is def. ap (λ (a : Arena). row_at a n) ends.nodes ∙ is;
+      freezes = λ n r kid f is def. ap (λ (a : Arena). row_at a n) ends.nodes ∙ is;
       lives = λ n r is. (r, ap (λ (a : Arena). row_at a n) ends.nodes ∙ is);
       built = λ b r is. ends.of_nodes.built b tt;
     }
@@ -458,9 +464,12 @@ module _ (k : Kept) (name d : List ℕ) (i : ℕ) (o : ObsId) (g : GraphView (Un
       names = record { declared = stands.names.declared; now = stands.names.now; in_use = names_left };
       accepted = stands.accepted;
       broken = stands.broken;
-      represents = λ whole. represents_so F s (filter (is_other name) s.observers) s.accepted k new refl refl refl ends.nodes (λ n. ends.of_nodes.built n tt) (stands.represents whole);
+      represents = λ whole.
+          represents_so F s (filter (is_other name) s.observers) s.accepted k new refl refl refl ends.nodes (λ n. ends.of_nodes.built n tt)
+          (λ n. ends.of_nodes.frozen n tt) (λ n. ends.of_nodes.lists n tt) (stands.represents whole);
       watches = watching;
       settled = λ whole.
-          settled_on F m.settled s then k new leaves still (λ n b v was. was) scopes_still
+          settled_on F m.settled s then k new leaves (leaves_marks s then k new (λ n. refl) (λ n given. ends.of_nodes.marks n tt)) still
+          (λ n b v was. was) scopes_still
           (λ x among is. among_filter x (is_other name) s.observers among) (stands.settled whole);
     }

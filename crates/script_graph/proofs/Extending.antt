@@ -1,5 +1,5 @@
 -- A graph to which nodes were added, and what is kept of a script over it.
-use Rattle.std.proofs.Common.{◌≡◌, ◌⊎◌, inl, inr, ℕ, ℤ, pos, zero, suc, ◌-◌, ◌/◌, ◌-ℤ◌, ◌<◌, ◌≤◌, true, false, List, [], ◌∷◌, length, Option, None, Some, IsSome, option_map, refl, ap, sym, subst, ◌∙◌, arith, slice_get}
+use Rattle.std.proofs.Common.{◌≡◌, ◌⊎◌, inl, inr, ℕ, ℤ, pos, zero, suc, ◌-◌, ◌/◌, ◌-ℤ◌, ◌<◌, ◌≤◌, true, false, List, [], ◌∷◌, map, length, Option, None, Some, IsSome, IfSome, option_map, refl, ap, sym, subst, ◌∙◌, arith, slice_get}
 use Rattle.std.proofs.lemmas.Int.{ints}
 use Rattle.std.proofs.lemmas.Option.{slice_get_within, none-some}
 use Rattle.std.specs.Int.Signed.{quot_z}
@@ -21,7 +21,7 @@ use Rattle.graph.specs.Standing.{GraphView, graph}
 use Rattle.node_arena.specs.Arena.{Arena, row_at}
 use Rattle.node_arena.specs.Sound as arena
 use Rattle.script_functions.specs.Bodies as Bodies
-use Rattle.script_model.specs.Formula.{State, Body, Entry, Formula, Formulas, TimedValue, Meanings, bind_at, body_at, built_at, Literal, Name, Bound, Apply, Fold, If, Join, Bind, At, Steps, Now, End, More, Variable, Computed, After, Every, Grab}
+use Rattle.script_model.specs.Formula.{State, Body, Entry, Formula, Formulas, TimedValue, Meanings, bind_at, body_at, built_at, Literal, Name, Bound, Apply, Fold, If, Join, Bind, At, Steps, Now, End, More, Variable, Computed, Freeze, After, Every, Expert, Grab}
 use Rattle.script_model.specs.Leaves.{EveryReference, EveryLeaf, EveryLeafOfAll}
 use Rattle.script_model.specs.Step.{Moment}
 use Rattle.script_model.specs.Values.{Value, Int, Bool as Truth, Text, Reference, Outcome}
@@ -33,7 +33,7 @@ use Rattle.script_graph.specs.Today.{IsPlainBody, IsEarlierTarget, IsDeclaredTar
 use Rattle.script_graph.specs.State.{MatchesMoment}
 use Rattle.script_graph.proofs.Bodies.{terms_itself}
 use Rattle.inc_terms.proofs.Unfolding.{AnyFunction}
-use Rattle.script_graph.proofs.Carrying.{watches_on, leaves_beside, settled_on}
+use Rattle.script_graph.proofs.Carrying.{watches_on, leaves_beside, leaves_marks, settled_on}
 use Rattle.script_graph.proofs.Owning.{own_nodes_of_on}
 use Rattle.script_graph.proofs.Referring.{value_agrees, outcome_agrees}
 use Rattle.transfer.specs.Both.{Both, graph_value, graph_outcome}
@@ -49,10 +49,11 @@ use Rattle.transfer.proofs.Typed.{bind_body, body_entry}
 module _ {F : Type 0} where
   -- what stays beside nodes stays but for the functions
   pub top_without : (a b : GraphView F) → KeepsTop a b → KeepsTop (without_functions a) (without_functions b)
-  top_without a b h = record { functions = refl; rooted = h.rooted; refused = h.refused; ran = h.ran; notices = h.notices }
+  top_without a b h = record { functions = refl; rooted = h.rooted; since = h.since; refused = h.refused; ran = h.ran; notices = h.notices }
 
   pub nodes_without : (Of : NodeId → Type 0) (a b : GraphView F) → KeepsNodes Of a b → KeepsNodes Of (without_functions a) (without_functions b)
-  nodes_without Of a b h = record { shown = h.shown; chosen = h.chosen; built = h.built; last = h.last }
+  nodes_without Of a b h =
+      record { shown = h.shown; chosen = h.chosen; built = h.built; last = h.last; frozen = h.frozen; lists = h.lists; marks = h.marks }
 
   pub beside_without : (Of : NodeId → Type 0) (a b : GraphView F) → KeepsBeside Of a b → KeepsBeside Of (without_functions a) (without_functions b)
   beside_without Of a b h = record {
@@ -71,6 +72,7 @@ module _ {F : Type 0} where
     top = record {
       functions = h.top.functions ∙ g.top.functions;
       rooted = h.top.rooted ∙ g.top.rooted;
+      since = h.top.since ∙ g.top.since;
       refused = h.top.refused ∙ g.top.refused;
       ran = h.top.ran ∙ g.top.ran;
       notices = h.top.notices ∙ g.top.notices;
@@ -82,6 +84,9 @@ module _ {F : Type 0} where
       chosen = λ n of. h.of_nodes.chosen n (later n of) ∙ g.of_nodes.chosen n of;
       built = λ n of. h.of_nodes.built n (later n of) ∙ g.of_nodes.built n of;
       last = λ n of. h.of_nodes.last n (later n of) ∙ g.of_nodes.last n of;
+      frozen = λ n of. h.of_nodes.frozen n (later n of) ∙ g.of_nodes.frozen n of;
+      lists = λ n of. h.of_nodes.lists n (later n of) ∙ g.of_nodes.lists n of;
+      marks = λ n of. h.of_nodes.marks n (later n of) ∙ g.of_nodes.marks n of;
     };
     cutoff = λ n of. h.cutoff n (later n of) ∙ g.cutoff n of;
     no_more_cutoffs = λ n equal. h.no_more_cutoffs n (g.no_more_cutoffs n equal);
@@ -91,10 +96,18 @@ module _ {F : Type 0} where
   pub extends_itself : (s : GraphView F) → Extends s s
   extends_itself s = record {
     beside = record {
-      top = record { functions = refl; rooted = refl; refused = refl; ran = refl; notices = refl };
+      top = record { functions = refl; rooted = refl; since = refl; refused = refl; ran = refl; notices = refl };
       observers = refl;
       need = record { links = λ p q. refl; roots = λ p. refl };
-      of_nodes = record { shown = λ n h. refl; chosen = λ n h. refl; built = λ n h. refl; last = λ n h. refl };
+      of_nodes = record {
+        shown = λ n h. refl;
+        chosen = λ n h. refl;
+        built = λ n h. refl;
+        last = λ n h. refl;
+        frozen = λ n h. refl;
+        lists = λ n h. refl;
+        marks = λ n h. refl;
+      };
       cutoff = λ n h. refl;
       no_more_cutoffs = λ n equal. equal;
     };
@@ -188,6 +201,7 @@ extends_beside a b h = record {
   top = record {
     functions = same_unit b.functions a.functions;
     rooted = h.beside.top.rooted;
+    since = h.beside.top.since;
     refused = h.beside.top.refused;
     ran = h.beside.top.ran;
     notices = h.beside.top.notices;
@@ -199,6 +213,9 @@ extends_beside a b h = record {
     chosen = h.beside.of_nodes.chosen;
     built = h.beside.of_nodes.built;
     last = h.beside.of_nodes.last;
+    frozen = h.beside.of_nodes.frozen;
+    lists = h.beside.of_nodes.lists;
+    marks = h.beside.of_nodes.marks;
   };
   cutoff = h.beside.cutoff;
   no_more_cutoffs = h.beside.no_more_cutoffs;
@@ -293,6 +310,8 @@ still_counts k g s base span time alike = subst (λ (t : ℤ). quot_z (t -ℤ po
 abbrev pub StandsAlone : Body → Type 0
 StandsAlone (Variable v) = Unit {0}
 StandsAlone (Every base span) = Unit {0}
+StandsAlone (Freeze child predicate frozen) = Unit {0}
+StandsAlone (Expert f first links stale) = Unit {0}
 StandsAlone body = ⊥
 
 -- the nodes of declarations are among these
@@ -303,11 +322,18 @@ NodesAre Of s k = (n : ℕ) (b : Body) → body_at s n ≡ Some b → Of (node_i
 abbrev pub NodesGiven : State → Kept → Type 0
 NodesGiven s k = NodesAre (Given (arena_of k).given) s k
 
--- rows that formulas may have stay in a graph; of these nodes those that are dead stay so, and binds are built as they were
+-- rows that formulas may have stay in a graph; of these nodes those that are dead stay so, binds are built as they were, and freezes keep what they kept
 pub record KeepsGraph (Of : NodeId → Type 0) (k : Kept) (g : GraphView (Unit {0})) : Type 0 where
   pub rows : RowsStay (graph k.graph) (graph g)
   pub dead : (n : NodeId) → Of n → row_at (arena_of k) n ≡ None → row_at g.nodes n ≡ None
   pub built : (n : NodeId) → Of n → (graph g).built n ≡ (graph k.graph).built n
+  pub frozen : (n : NodeId) → Of n → (graph g).frozen n ≡ (graph k.graph).frozen n
+
+-- an expert lists what it listed
+abbrev pub ListsStay : Kept → GraphView (Unit {0}) → ℕ → Body → Type 0
+ListsStay k g n b =
+    (f : FnRef) (first : Value) (links : List ℕ) (stale : ℕ) → b ≡ Expert f first links stale
+    → (graph g).lists (node_in k.nodes n) ≡ (graph k.graph).lists (node_in k.nodes n)
 
 -- over the functions of these bodies terms are what they were
 abbrev pub BodiesServe : Meanings → Kept → List Bodies.Body → (FnKind → FnRef → Type 0) → Type 0
@@ -338,13 +364,26 @@ module _ (Of : NodeId → Type 0) (F : Meanings) (s : State) (k : Kept) (held : 
   value_still : (v : Value) → EveryReference (IsDeclaredTarget s) v → graph_value (node_in k.nodes) v ≡ graph_value (node_in nodes) v
   value_still v refers = value_agrees (IsDeclaredTarget s) (node_in k.nodes) (node_in nodes) (λ t d. same t (target_old t d)) v refers
 
+  -- so is what a freeze keeps, and what an expert is linked to
+  frozen_still : (v : Option Value) → IfSome v (EveryReference (IsDeclaredTarget s))
+      → option_map (graph_value (node_in k.nodes)) v ≡ option_map (graph_value (node_in nodes)) v
+  frozen_still None refers = refl
+  frozen_still (Some v) refers = ap (λ (w : GraphValue). Some w) (value_still v refers)
+
+  links_still : (links : List ℕ) → Each (IsDeclaredTarget s) links → map (node_in k.nodes) links ≡ map (node_in nodes) links
+  links_still [] declared = refl
+  links_still (t ∷ links) declared =
+      ap (λ (n : NodeId). n ∷ map (node_in k.nodes) links) (sym (same t (target_old t declared.0)))
+      ∙ ap (λ (ns : List NodeId). node_in nodes t ∷ ns) (links_still links declared.1)
+
   old_given : (t : ℕ) → Old t → Of (node_in k.nodes t)
   old_given t low = let b = body_there s t low in given t b.0 b.1
 
   -- what was declared is shown still
   module _ (n : ℕ) (b : Body) (is : body_at s n ≡ Some b)
       (top : StandsAlone b → (r : Row) → row_at (arena_of k) (node_in k.nodes n) ≡ Some r → row_at g.nodes (node_in k.nodes n) ≡ Some r)
-      (counts : (base span : ℕ) → b ≡ Every base span → CountsSpans (graph k.graph) s base span → CountsSpans (graph g) s' base span) where
+      (counts : (base span : ℕ) → b ≡ Every base span → CountsSpans (graph k.graph) s base span → CountsSpans (graph g) s' base span)
+      (lists : ListsStay k g n b) where
     node : node_in nodes n ≡ node_in k.nodes n
     node = same n (body_within s n b is)
 
@@ -374,7 +413,19 @@ module _ (Of : NodeId → Type 0) (F : Meanings) (s : State) (k : Kept) (held : 
       subst (λ (q : NodeId). IsTop y.graph q (graph_def.Every (pos base) (pos span))) (sym node) (r, top (subst StandsAlone (sym c) tt) r row, scope, def),
       counts base span c alike,
     )
-    by_body c is fine h = absurd fine.0
+    by_body (Freeze child predicate frozen) c fine (kid, (r, row, scope, def), shows, keeps_it) = (
+      kid,
+      subst (λ (q : NodeId). IsTop y.graph q (graph_def.Freeze kid predicate)) (sym node) (r, top (subst StandsAlone (sym c) tt) r row, scope, def),
+      shows_on x (graph_functions F bodies) Q (serve x refl refl) (graph g) s' (node_in nodes) Old same keeps.rows None [] tt (term.Ref kid) child
+          (leaves_mention (IsEarlierTarget s n) (IsDeclaredTarget s) Old (early_old n b is) target_old child fine.1.0) shows,
+      ap (λ (q : NodeId). (graph g).frozen q) node ∙ (keeps.frozen (node_in k.nodes n) (given n b is) ∙ (keeps_it ∙ frozen_still frozen fine.1.1)),
+    )
+    by_body (Expert f first links stale) c fine (kids, (r, row, scope, def), listed) = (
+      kids,
+      subst (λ (q : NodeId). IsTop y.graph q (graph_def.Expert f (graph_value y.nodes first) kids)) (sym node)
+          (r, top (subst StandsAlone (sym c) tt) r row, scope, def ∙ ap (λ w. graph_def.Expert f w kids) (value_still first fine.1.0)),
+      ap (λ (q : NodeId). (graph g).lists q) node ∙ (lists f first links stale c ∙ (listed ∙ links_still links fine.1.1)),
+    )
 
     pub declares_still : Declares y (node_in nodes n) (Some b)
     declares_still = by_body b refl (held.today.plain n b is) (rw is at (held.declares n))
@@ -399,7 +450,12 @@ module _ (k : Kept) (g : GraphView (Unit {0})) (sound : arena.IsSoundArena (aren
     rows = λ n r u is def. live_stays k.graph g sound more n r is;
     dead = λ n given is. more.rows n given ∙ is;
     built = more.beside.of_nodes.built;
+    frozen = more.beside.of_nodes.frozen;
   }
+
+  -- what experts list stays
+  pub extends_lists : (s : State) → NodesGiven s k → (n : ℕ) (b : Body) → body_at s n ≡ Some b → ListsStay k g n b
+  extends_lists s given n b is f first links stale e = more.beside.of_nodes.lists (node_in k.nodes n) (given n b is)
 
   pub extends_scopes : ScopesBuilt (graph k.graph) → ScopesBuilt (graph g)
   extends_scopes built n r b is scope = elim (more.outside n r is) [
@@ -420,7 +476,8 @@ abbrev pub WereLive : Arena → Arena → Type 0
 WereLive old new = (n : NodeId) (r : Row) → row_at new n ≡ Some r → row_at old n ≡ Some r
 
 module _ (F : Meanings) (k : Kept) (g : GraphView (Unit {0})) (bodies : List Bodies.Body) (Q : FnKind → FnRef → Type 0) (serve : BodiesServe F k bodies Q)
-    (sound : arena.IsSoundArena (arena_of k)) (sound' : arena.IsSoundArena g.nodes) (more : Extends k.graph g) (m : Moment) (given : NodesGiven m.present k) where
+    (sound : arena.IsSoundArena (arena_of k)) (sound' : arena.IsSoundArena g.nodes) (more : Extends k.graph g) (were : WereLive (arena_of k) g.nodes)
+    (m : Moment) (given : NodesGiven m.present k) where
   abbrev new : Kept
   new = record k { bodies = bodies; graph = g }
 
@@ -433,6 +490,7 @@ module _ (F : Meanings) (k : Kept) (g : GraphView (Unit {0})) (bodies : List Bod
     declares_each n (Some b) is =
         declares_still (Given (arena_of k).given) F m.present k held given m.present k.nodes bodies Q serve g (extends_keeps k g sound more) (λ t low. refl) n b is
         (λ e r row. live_stays k.graph g sound more (node_in k.nodes n) r row) (λ base span e alike. still_counts k g m.present base span more.time alike)
+        (extends_lists k g sound more m.present given n b is)
 
     represents_on : Represents F m.present new
     represents_on = record {
@@ -450,7 +508,9 @@ module _ (F : Meanings) (k : Kept) (g : GraphView (Unit {0})) (bodies : List Bod
       today = record {
         plain = held.today.plain;
         aged = λ n b is. own_nodes_of_on (graph k.graph) (graph g) (IsWithin k.nodes n) (IsWithin k.nodes n) (IsPartWithin k.nodes n) (IsPartWithin k.nodes n)
-            (λ q h. h) (λ q h. h) (extends_keeps k g sound more).rows (node_in k.nodes n) b (held.today.aged n b is);
+            (λ q h. h) (λ q h. h) (extends_keeps k g sound more).rows
+            (λ q r kid f row def. live_stays k.graph g sound more q r row) (node_in k.nodes n) b (held.today.aged n b is);
+        freezes = λ n r kid f row def. held.today.freezes n r kid f (were n r row) def;
       };
     }
       where
@@ -464,13 +524,18 @@ module _ (F : Meanings) (k : Kept) (g : GraphView (Unit {0})) (bodies : List Bod
     accepted = h.accepted;
     broken = h.broken;
     represents = λ whole. represents_on (h.represents whole);
-    watches = watches_on m.present m.present k new (extends_beside k.graph g more) refl refl refl refl (λ n b is. refl) given (λ n b is. (b, is)) (λ t own. own) h.watches;
-    settled = λ whole. settled_on F m.settled m.present m.present k new (leaves_beside k new (extends_beside k.graph g more) more.given) (record {
-      formulas = λ owner path f is. is;
-      targets = λ n e is. (e, is, refl);
-      names = λ n e is. refl;
-      rows = (extends_keeps k g sound more).rows;
-      lives = extends_lives k g sound more;
-      built = extends_built k g sound more;
-    }) (λ n b v was. was) (extends_scopes k g sound more) (λ x among is. among) (h.settled whole);
+    watches =
+        watches_on m.present m.present k new more.beside.observers refl refl refl refl (λ n b is. refl) given (λ n b is. (b, is)) (λ t own. own) h.watches;
+    settled = λ whole. settled_on F m.settled m.present m.present k new
+        (leaves_beside k new (extends_beside k.graph g more) more.given (λ n r kid f given row def. were n r row))
+        (leaves_marks m.present m.present k new (λ n. refl) more.beside.of_nodes.marks) (record {
+          formulas = λ owner path f is. is;
+          bodies = λ n b has is. is;
+          targets = λ n e is. (e, is, refl);
+          names = λ n e is. refl;
+          rows = (extends_keeps k g sound more).rows;
+          freezes = λ n r kid f is def. live_stays k.graph g sound more n r is;
+          lives = extends_lives k g sound more;
+          built = extends_built k g sound more;
+        }) (λ n b v was. was) (extends_scopes k g sound more) (λ x among is. among) (h.settled whole);
   }

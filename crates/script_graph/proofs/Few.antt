@@ -89,14 +89,14 @@ nodes_in [] = []
 nodes_in (was.Node n ∷ made) = n ∷ nodes_in made
 nodes_in (was.Fn f ∷ made) = nodes_in made
 
-node_among : (n : NodeId) (made : List Made) → Among (was.Node n) made → Among n (nodes_in made)
+pub node_among : (n : NodeId) (made : List Made) → Among (was.Node n) made → Among n (nodes_in made)
 node_among n [] among = absurd among
 node_among n (was.Node m ∷ made) (inl same) = inl (let e : n ≡ m = cc in e)
 node_among n (was.Node m ∷ made) (inr among) = inr (node_among n made among)
 node_among n (was.Fn f ∷ made) (inl same) = absurd (cc)
 node_among n (was.Fn f ∷ made) (inr among) = node_among n made among
 
-among_node : (n : NodeId) (makes : List Planned) (made : List Made) → AreMadeAs makes made → Among n (nodes_in made)
+pub among_node : (n : NodeId) (makes : List Planned) (made : List Made) → AreMadeAs makes made → Among n (nodes_in made)
     → (i : ℕ) × (x : Open) × (slice_get makes i ≡ Some (planned.Node x)) × (i < length made) × (made_node made i ≡ n)
 among_node n makes [] kinds among = absurd among
 among_node n [] (m ∷ made) kinds among = absurd kinds
@@ -146,6 +146,8 @@ module _ {F : Type 0} (maps : FnRef → Bool) (bodies more : List Body) (H : Fun
   open_weight (open_def.Steps v steps) i at low bound = omega arith
   open_weight open_def.Now i at low bound = omega arith
   open_weight (open_def.Every base span) i at low bound = omega arith
+  open_weight (open_def.Freeze ty child predicate) i at low bound = omega arith
+  open_weight (open_def.Expert f v) i at low bound = omega arith
 
   -- the functions of binds that were made were made before
   bind_bound : (i : ℕ) (x : Open) → slice_get makes i ≡ Some (planned.Node x) → i < length made

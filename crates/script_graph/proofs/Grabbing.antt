@@ -403,40 +403,44 @@ module _ (named : List ℕ → Option FnRef) (value : FnRef → List GraphValue 
   -- ---- what is kept
 
   module _ (body : Body) (come : Comes body) where
-    new_node : IsNew s name ty body k.nodes (arena_of k).given root (graph k.graph)
+    new_node : IsNew s name ty body k.nodes (arena_of k).given root (graph k.graph) (graph k.graph)
     new_node = by_case come
       where
-        by_case : Comes body → IsNew s name ty body k.nodes (arena_of k).given root (graph k.graph)
-        by_case (inl (t, is, (e, at, itself, node, typed))) = subst (λ (c : Body). IsNew s name ty c k.nodes (arena_of k).given root (graph k.graph)) (sym is) (record {
-          plain = (
-            tt,
-            (
-              slice_get_within s.entries t e at,
-              subst IsOwn (sym (body_old s name ty (alias t) t (slice_get_within s.entries t e at) ∙ entry_body s t e at))
-                  (own_body s held.today.plain t e.body (entry_body s t e at) (sym (held.targets t e at) ∙ itself)),
-            ),
-          );
-          apart = λ own i d at_i own_i same. own;
-          unkept = refl;
-          unbuilt = λ l f o same. cc;
-          grab = λ c v l u o same bound. cc;
-          owned = tt;
-        })
-        by_case (inr (v, is, built, no_name, none)) = subst (λ (c : Body). IsNew s name ty c k.nodes (arena_of k).given root (graph k.graph)) (sym is) (record {
-          plain = (
-            (bind_low, subst IsOwn (sym (body_old s name ty (Grab b v true) b bind_low ∙ bind_body_is)) tt),
-            value_refers_more (IsDeclaredTarget s) (IsDeclaredTarget (declared_in s name ty (Grab b v true)))
-                (λ n d. (d.0, body_old s name ty (Grab b v true) n (body_within s n d.0 d.1) ∙ d.1, d.2)) v (held.refers b (Val v) built),
-          );
-          apart = λ own i d at_i own_i same. none i d at_i own_i same;
-          unkept = refl;
-          unbuilt = λ l f o same. cc;
-          grab = λ c u l t o same bound.
-              let binds : b ≡ c = cc in
-              let e : Some (Computed (Bind left below) of) ≡ Some (Computed (Bind l (Name t)) o) = sym bind_body_is ∙ (ap (body_at s) binds ∙ bound) in
-              no_name t (cc);
-          owned = tt;
-        })
+        by_case : Comes body → IsNew s name ty body k.nodes (arena_of k).given root (graph k.graph) (graph k.graph)
+        by_case (inl (t, is, (e, at, itself, node, typed))) =
+            subst (λ (c : Body). IsNew s name ty c k.nodes (arena_of k).given root (graph k.graph) (graph k.graph)) (sym is) (record {
+              plain = (
+                tt,
+                (
+                  slice_get_within s.entries t e at,
+                  subst IsOwn (sym (body_old s name ty (alias t) t (slice_get_within s.entries t e at) ∙ entry_body s t e at))
+                      (own_body s held.today.plain t e.body (entry_body s t e at) (sym (held.targets t e at) ∙ itself)),
+                ),
+              );
+              apart = λ own i d at_i own_i same. own;
+              unkept = refl;
+              unbuilt = λ l f o same. cc;
+              grab = λ c v l u o same bound. cc;
+              owned = tt;
+              freezes = λ n r kid f row def. inl row;
+            })
+        by_case (inr (v, is, built, no_name, none)) =
+            subst (λ (c : Body). IsNew s name ty c k.nodes (arena_of k).given root (graph k.graph) (graph k.graph)) (sym is) (record {
+              plain = (
+                (bind_low, subst IsOwn (sym (body_old s name ty (Grab b v true) b bind_low ∙ bind_body_is)) tt),
+                value_refers_more (IsDeclaredTarget s) (IsDeclaredTarget (declared_in s name ty (Grab b v true)))
+                    (λ n d. (d.0, body_old s name ty (Grab b v true) n (body_within s n d.0 d.1) ∙ d.1, d.2)) v (held.refers b (Val v) built),
+              );
+              apart = λ own i d at_i own_i same. none i d at_i own_i same;
+              unkept = refl;
+              unbuilt = λ l f o same. cc;
+              grab = λ c u l t o same bound.
+                  let binds : b ≡ c = cc in
+                  let e : Some (Computed (Bind left below) of) ≡ Some (Computed (Bind l (Name t)) o) = sym bind_body_is ∙ (ap (body_at s) binds ∙ bound) in
+                  no_name t (cc);
+              owned = tt;
+              freezes = λ n r kid f row def. inl row;
+            })
 
     abbrev after : Kept
     after = with_declared k name ty body root k.room k.bodies k.graph

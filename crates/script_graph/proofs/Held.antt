@@ -1,5 +1,5 @@
 -- What stands beside the graph of a script.
-use Rattle.std.proofs.Common.{◌≡◌, inl, inr, ℕ, zero, suc, ◌+◌, ◌<◌, ◌≤◌, Bool, true, false, cond, List, [], ◌∷◌, map, take, length, None, Some, refl, ap, sym, subst, ◌∙◌, arith, slice_get}
+use Rattle.std.proofs.Common.{◌≡◌, ◌⊎◌, inl, inr, ℕ, zero, suc, ◌+◌, ◌<◌, ◌≤◌, Bool, true, false, cond, List, [], ◌∷◌, map, take, length, None, Some, refl, ap, sym, subst, ◌∙◌, arith, slice_get}
 use Rattle.inc_value.specs.Choice.{Among, Reaches, here, step}
 use Rattle.inc_value.specs.declared.node.NodeId.{NodeId}
 use Rattle.inc_value.specs.declared.node.ObsId.{ObsId}
@@ -9,13 +9,16 @@ use Rattle.inc_terms.specs.Need.{Holder, Observing, Freezing, Observed, nodes_of
 use Rattle.inc_terms.proofs.Local.{reach_more}
 use Rattle.inc_terms.proofs.Plan.{among_map}
 use Rattle.stabilizer.specs.Left.{StoodBeside}
-use Rattle.graph.specs.Standing.{look, GraphView, rooted_nodes, IsNeeded, AreRooted, times_linked, times_rooted}
+use Rattle.stabilizer.specs.Look.{freeze_roots}
+use Rattle.graph.specs.Standing.{look, GraphView, graph, rooted_nodes, IsNeeded, AreRooted, times_linked, times_rooted}
 use Rattle.observers.specs.Observers.{in_use, looked_at, node_at}
 use Rattle.observers.specs.declared.observer.Observer.{Observer as Looking}
 use Rattle.graph.proofs.Needing.{needed_root, needed_linked, needed_has}
+use Rattle.stabilize_round.specs.State.{count}
 use Rattle.stabilize_round.proofs.Points.{count_among, among_count}
 use Rattle.script_graph.specs.Represents.{rooted_at}
-use Rattle.script_graph.specs.Settled.{observed_from, root_of, side_of, observed_by}
+use Rattle.script_graph.specs.Settled.{observed_from, frozen_root, root_of, side_of, observed_by}
+use Rattle.script_graph.proofs.Frozen.{root_is_unfrozen, counted_root, root_counted}
 
 -- ---- observers
 
@@ -133,7 +136,7 @@ module _ {A : Type 0} where
       let same : 0 + o.0 ≡ o.0 = omega arith in
       subst (λ (i : ℕ). Among (record { 0 = i }) (map (λ (x : Observed). x.observer) (observed_by g))) same
       (observed_there 0 g.observers o.0 n (rooted_looks g o n e).1)
-  root_holds g (Freezing m) n e = absurd (cc)
+  root_holds g (Freezing m) n e = tt
 
   -- where no other observers were there then, and the observer looks at what it did, it was there as it was
   pub rooted_still : (g h : GraphView A) (o : ObsId) → h.rooted ≡ g.rooted → node_at h.observers o ≡ node_at g.observers o
@@ -145,17 +148,31 @@ module _ {A : Type 0} where
   -- what is needed is held beside the graph
   module _ (g : GraphView A) (roots : AreRooted g (rooted_nodes g)) where
     root_held : (p : Point) → 0 < times_rooted g p → Held (side_of g) (observed_by g) p
-    root_held p root =
-        let n = main_among p (rooted_nodes g)
-        (count_among p (map main (rooted_nodes g)) (subst (λ (c : ℕ). 0 < c) (roots p) root)) in
-        let o = looked_by (take g.rooted g.observers) n.0 n.1 in
-        record {
-          holder = Observing (record { 0 = o.0 });
-          node = n.0;
-          is_root = o.1;
-          still = root_holds g (Observing (record { 0 = o.0 })) n.0 o.1;
-          reached = subst (λ (q : Point). Reaches (Linked (side_of g)) (main n.0) q) (sym n.2) here;
-        }
+    root_held p root = elim (some_of_two (count p (map main (rooted_nodes g))) (freeze_roots (graph g) g.since p) (subst (λ (c : ℕ). 0 < c) (roots p) root)) [
+      | inl counted ↦
+          let n = main_among p (rooted_nodes g) (count_among p (map main (rooted_nodes g)) counted) in
+          let o = looked_by (take g.rooted g.observers) n.0 n.1 in
+          record {
+            holder = Observing (record { 0 = o.0 });
+            node = n.0;
+            is_root = o.1;
+            still = root_holds g (Observing (record { 0 = o.0 })) n.0 o.1;
+            reached = subst (λ (q : Point). Reaches (Linked (side_of g)) (main n.0) q) (sym n.2) here;
+          }
+      | inr freezes ↦
+          let f = root_counted g p freezes in
+          record {
+            holder = Freezing p.node;
+            node = p.node;
+            is_root = f.0;
+            still = tt;
+            reached = subst (λ (q : Point). Reaches (Linked (side_of g)) (main p.node) q) (sym f.1) here;
+          }
+    ]
+      where
+        some_of_two : (a b : ℕ) → 0 < a + b → (0 < a) ⊎ (0 < b)
+        some_of_two zero b less = inr (omega (arith, less))
+        some_of_two (suc a) b less = inl (omega arith)
 
     pub needed_held : (p : Point) → IsNeeded g p → Held (side_of g) (observed_by g) p
     needed_held p need = needed_has g (Held (side_of g) (observed_by g)) root_held
@@ -168,14 +185,14 @@ module _ {A : Type 0} where
         }) p need
 
     pub stood_beside : StoodBeside (side_of g) (look g) (observed_by g)
-    stood_beside = record { held = needed_held; last = λ n. refl; cutoff = λ n. refl }
+    stood_beside = record { held = needed_held; last = λ n. refl; cutoff = λ n. refl; stale = λ n. refl }
 
   -- of fewer roots and links less is held
   module _ (g g' : GraphView A) (rooted : (o : ObsId) (n : NodeId) → rooted_at g' o ≡ Some n → rooted_at g o ≡ Some n)
-      (fewer : (p q : Point) → times_linked g' p q ≤ times_linked g p q) where
+      (frozen : (f n : NodeId) → frozen_root g' f ≡ Some n → frozen_root g f ≡ Some n) (fewer : (p q : Point) → times_linked g' p q ≤ times_linked g p q) where
     root_less : (holder : Holder) (n : NodeId) → root_of g' holder ≡ Some n → root_of g holder ≡ Some n
     root_less (Observing o) n e = rooted o n e
-    root_less (Freezing m) n e = absurd (cc)
+    root_less (Freezing f) n e = frozen f n e
 
     pub link_less : (p q : Point) → Linked (side_of g') p q → Linked (side_of g) p q
     link_less p q link = let less = fewer p q in omega (arith, less, link)
@@ -193,10 +210,13 @@ module _ {A : Type 0} where
   module _ (g : GraphView A) (roots : AreRooted g (in_use g.observers)) where
     root_is_needed : (holder : Holder) (n : NodeId) → root_of g holder ≡ Some n → IsNeeded g (main n)
     root_is_needed (Observing o) n e =
-        needed_root g (main n) (subst (λ (c : ℕ). 0 < c) (sym (roots (main n)))
-        (among_count (main n) (map main (in_use g.observers))
-        (among_map main n (in_use g.observers) (looked_in g.observers o.0 n (rooted_looks g o n e).1))))
-    root_is_needed (Freezing m) n e = absurd (cc)
+        let counted = among_count (main n) (map main (in_use g.observers))
+        (among_map main n (in_use g.observers) (looked_in g.observers o.0 n (rooted_looks g o n e).1)) in
+        needed_root g (main n) (let all = roots (main n) in omega (arith, all, counted))
+    root_is_needed (Freezing f) n e =
+        let same : f ≡ n = (root_is_unfrozen g f n e).2 in
+        let here : frozen_root g n ≡ Some n = subst (λ (q : NodeId). frozen_root g q ≡ Some n) same e in
+        needed_root g (main n) (let all = roots (main n) in let one = counted_root g n here in omega (arith, all, one))
 
     pub held_needed : (p : Point) → Held (side_of g) (observed_by g) p → IsNeeded g p
     held_needed p h = on (root_is_needed h.holder h.node h.is_root) h.reached

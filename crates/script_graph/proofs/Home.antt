@@ -10,14 +10,14 @@ use Rattle.inc_terms.specs.Rebuild.{Inside as StandsInside, direct, nested}
 use Rattle.inc_terms.specs.Term as term
 use Rattle.graph.specs.Standing.{GraphView, IsOwner, graph}
 use Rattle.script_model.specs.Blocked.{IsPrintedFor, own, of_bind}
-use Rattle.script_model.specs.Formula.{State, Body, Formula, body_at, meanings_of, formula_of_body, Name, Bound, Bind, Variable, Computed, After, Every, Grab}
+use Rattle.script_model.specs.Formula.{State, Body, Formula, body_at, meanings_of, formula_of_body, Name, Bound, Bind, Variable, Computed, Freeze, After, Every, Expert, Grab}
 use Rattle.script_model.specs.Need.{Edge, Argument, Test, Then, Else, Child, Left, Inside, Item, Named, Place, part_at, part_of, formula_at}
 use Rattle.script_model.specs.Values.{Value}
 use Rattle.script_graph.specs.Kept.{Kept, node_in}
 use Rattle.script_graph.specs.Today.{IsWithin, IsPartWithin}
 use Rattle.script_graph.proofs.Middle.{IsStabilize, middle, fits_then, tops, bind_node, aged_then}
 use Rattle.script_graph.proofs.Owner.{IsResolved}
-use Rattle.script_graph.proofs.Owning.{IsOutside, own_name, own_part, aged_name}
+use Rattle.script_graph.proofs.Owning.{IsOutside, own_kid, own_name, own_part, aged_name}
 use Rattle.transfer.specs.Both.{Both}
 use Rattle.transfer.specs.Cycles.{IsForm}
 use Rattle.transfer.specs.Items.{part_node, root_at, around, node_at, node_of, scope_at}
@@ -82,7 +82,12 @@ module _ (named : List ℕ → Option FnRef) (value : FnRef → List GraphValue 
       go (Some (Grab b v is_live)) body = absurd (let e = rw body at at in cc)
       go (Some (After time)) body = absurd (let e = rw body at at in cc)
       go (Some (Every base span)) body = absurd (let e = rw body at at in cc)
-      go (Some b) body = absurd (c.held.today.plain owner b body).0
+      go (Some (Freeze child predicate frozen)) body =
+          let here : Some child ≡ Some f = rw body at is in
+          let same : f ≡ child = cc in
+          (own_kid y (IsWithin k.nodes) (IsPartWithin k.nodes) (aged_then named value s k g c) owner child predicate frozen body
+          (subst IsForm same form) n at).within
+      go (Some (Expert h first links stale)) body = absurd (let e = rw body at at in cc)
 
   -- ---- owners
 
@@ -217,7 +222,14 @@ module _ (named : List ℕ → Option FnRef) (value : FnRef → List GraphValue 
       of_live m (body_low m (Every base span) is)
       (subst (HasHome m) node (top_home m (node_in k.nodes m) h.0 h.1 h.2 (aged_name (meanings_of named value) s k c.held m (Every base span) is tt)))
       (own refl)
-  named_tells m b n is form h node = absurd (c.held.today.plain m b is).0
+  named_tells m (Freeze child predicate frozen) n is form (kid, h, shows, keeps) node =
+      of_live m (body_low m (Freeze child predicate frozen) is)
+      (subst (HasHome m) node (top_home m (node_in k.nodes m) h.0 h.1 h.2
+      (aged_name (meanings_of named value) s k c.held m (Freeze child predicate frozen) is tt))) (own refl)
+  named_tells m (Expert f first links stale) n is form (kids, h, lists) node =
+      of_live m (body_low m (Expert f first links stale) is)
+      (subst (HasHome m) node (top_home m (node_in k.nodes m) h.0 h.1 h.2
+      (aged_name (meanings_of named value) s k c.held m (Expert f first links stale) is tt))) (own refl)
 
   -- what an item tells of its node
   pub tells : (j : Item) (n : NodeId) → IsResolved s j → node_of y j ≡ Some n → TellsOf j n

@@ -1,5 +1,5 @@
 -- What is laid out for a body that fits: each of it fits.
-use Rattle.std.proofs.Common.{◌≡◌, ◌⊎◌, inl, inr, ℕ, pos, zero, suc, ◌+◌, Bool, List, [], ◌∷◌, ◌++◌, length, map, take, None, Some, refl, ap, sym, subst, ◌∙◌, arith, slice_get, slice_index_or}
+use Rattle.std.proofs.Common.{◌≡◌, ◌⊎◌, inl, inr, ℕ, pos, zero, suc, ◌+◌, Bool, List, [], ◌∷◌, ◌++◌, length, map, take, Option, None, Some, IfSome, refl, ap, sym, subst, ◌∙◌, arith, slice_get, slice_index_or}
 use Rattle.std.specs.List.{AllZip}
 use Rattle.std.proofs.lemmas.Int.{ints}
 use Rattle.std.proofs.lemmas.Option.{slice_get_within}
@@ -13,7 +13,7 @@ use Rattle.formula_elab.specs.Opened.{LineNeedsEarlier, NeedsEarlier}
 use Rattle.formula_elab.specs.Today.{IsLaidOut, IsLaidOutBody, AreLaidOut}
 use Rattle.formula_elab.specs.declared.body.OpenLine.{OpenLine}
 use Rattle.formula_elab.specs.declared.body.OpenLine.TheVariants as open_line
-use Rattle.formula_elab.specs.declared.opened.Open.TheVariants.{Const, Var, Map, Fold as OpenFold, If as OpenIf, Join as OpenJoin, Bind as OpenBind, At as OpenAt, Steps as OpenSteps, Now as OpenNow, Every as OpenEvery}
+use Rattle.formula_elab.specs.declared.opened.Open.TheVariants.{Const, Var, Map, Fold as OpenFold, If as OpenIf, Join as OpenJoin, Bind as OpenBind, At as OpenAt, Steps as OpenSteps, Now as OpenNow, Every as OpenEvery, Freeze as OpenFreeze, Expert as OpenExpert}
 use Rattle.formula_elab.specs.declared.opened.Part.{Part}
 use Rattle.formula_elab.specs.declared.plan.Planned.{Planned}
 use Rattle.formula_elab.specs.declared.plan.Planned.TheVariants as planned
@@ -36,7 +36,7 @@ use Rattle.node_arena.specs.RightSide.{AreFit}
 use Rattle.node_arena.specs.Typing.{Fits}
 use Rattle.script_functions.specs.declared.line.Line.TheVariants as line
 use Rattle.script_model.specs.Check.{Names}
-use Rattle.script_model.specs.Formula.{Formula, Formulas, TimedValue, Body, Literal, Name, Bound, Apply, Fold, If, Join, Bind, At, Steps, Now, End, More, Variable, Computed, After, Every as Counts}
+use Rattle.script_model.specs.Formula.{Formula, Formulas, TimedValue, Body, Literal, Name, Bound, Apply, Fold, If, Join, Bind, At, Steps, Now, End, More, Variable, Computed, Freeze, After, Every as Counts, Expert, Grab}
 use Rattle.script_model.specs.Leaves.{EveryReference, EveryLeaf, EveryLeafOfAll}
 use Rattle.script_model.specs.Values.{Value, Int, Bool as Truth, Text, Reference, type_of}
 use Rattle.script_graph.specs.Growing.{AllPlannedFit, LineFits, OpenFits, PartFits, PlannedFits, RefersToFit}
@@ -115,11 +115,11 @@ if_sits all start ty xs ys zs test a b sits =
 pub sits_itself : (all : List Planned) → SitsAt all 0 all
 sits_itself all = sits_each all 0 all (λ j x at. let same : j ≡ 0 + j = omega arith in subst (λ i. slice_get all i ≡ Some x) same at)
 
-every_append : (P : Planned → Type 0) (xs ys : List Planned) → Every P xs → Every P ys → Every P (xs ++ ys)
+pub every_append : (P : Planned → Type 0) (xs ys : List Planned) → Every P xs → Every P ys → Every P (xs ++ ys)
 every_append P [] ys h g = g
 every_append P (x ∷ xs) ys h g = (h.0, every_append P xs ys h.1 g)
 
-every_at : (P : Planned → Type 0) (xs : List Planned) → Every P xs → (i : ℕ) (x : Planned) → slice_get xs i ≡ Some x → P x
+pub every_at : (P : Planned → Type 0) (xs : List Planned) → Every P xs → (i : ℕ) (x : Planned) → slice_get xs i ≡ Some x → P x
 every_at P [] h i x at = absurd (cc)
 every_at P (y ∷ xs) h zero x at = let same : y ≡ x = cc in subst P same h.0
 every_at P (y ∷ xs) h (suc i) x at = every_at P xs h.1 i x at
@@ -158,7 +158,9 @@ module _ (known : FnRef → Bool) (names : Names) where
   body_laid_out (Computed f kept) ty fits = fitting_laid_out [] f ty fits.0
   body_laid_out (After time) ty fits = tt
   body_laid_out (Counts base span) ty fits = tt
-  body_laid_out b ty fits = absurd fits
+  body_laid_out (Freeze child predicate frozen) ty fits = fitting_laid_out [] child ty fits.0.child_fits
+  body_laid_out (Expert f first links stale) ty fits = tt
+  body_laid_out (Grab bind v is_live) ty fits = fits
 
 -- its names have what names that fit have, and so has what its values refer to
 module _ (known : FnRef → Bool) (names : Names) (P R : ℕ → Type 0) (named : (position : ℕ) (ty : Ty) → NameFits names position ty → P position)
@@ -198,7 +200,16 @@ module _ (known : FnRef → Bool) (names : Names) (P R : ℕ → Type 0) (named 
   body_plain (Computed f kept) ty fits = (fitting_laid_out known names [] f ty fits.0, fitting_leaves [] f ty fits.0)
   body_plain (After time) ty fits = (tt, tt)
   body_plain (Counts base span) ty fits = (tt, tt)
-  body_plain b ty fits = absurd fits
+  body_plain (Freeze child predicate frozen) ty fits = (
+    fitting_laid_out known names [] child ty fits.0.child_fits,
+    (
+      fitting_leaves [] child ty fits.0.child_fits,
+      subst (λ (x : Option Value). IfSome x (EveryReference R)) (sym fits.1) tt,
+    ),
+  )
+  body_plain (Expert f first links stale) ty fits =
+      (tt, (refers first fits.0.first_fits.1, subst (λ (ls : List ℕ). Every R ls) (sym fits.1) tt))
+  body_plain (Grab bind v is_live) ty fits = absurd fits
 
 -- the names of what fits have what names that fit have
 pub every_name_of : (known : FnRef → Bool) (names : Names) (P : ℕ → Type 0) → ((position : ℕ) (t : Ty) → NameFits names position t → P position)
@@ -208,7 +219,16 @@ every_name_of known names P named (Computed f kept) ty fits =
     (fitting_laid_out known names [] f ty fits.0, fitting_leaves known names P P named (refers_fitting names P named) [] f ty fits.0)
 every_name_of known names P named (After time) ty fits = (tt, tt)
 every_name_of known names P named (Counts base span) ty fits = (tt, tt)
-every_name_of known names P named body ty fits = absurd fits
+every_name_of known names P named (Freeze child predicate frozen) ty fits = (
+  fitting_laid_out known names [] child ty fits.0.child_fits,
+  (
+    fitting_leaves known names P P named (refers_fitting names P named) [] child ty fits.0.child_fits,
+    subst (λ (x : Option Value). IfSome x (EveryReference P)) (sym fits.1) tt,
+  ),
+)
+every_name_of known names P named (Expert f first links stale) ty fits =
+    (tt, (refers_fitting names P named first fits.0.first_fits.1, subst (λ (ls : List ℕ). Every P ls) (sym fits.1) tt))
+every_name_of known names P named (Grab bind v is_live) ty fits = absurd fits
 
 -- ---- what is laid out fits
 
@@ -550,7 +570,32 @@ module _ (known : FnRef → Bool) (a : Arena) (all : List Planned) (nodes : ℕ 
       let timed : IsTimed a.time (graph_def.Every (pos base) (pos span)) =
       (omega (arith, ints), omega (arith, ints, clock, is), omega (arith, ints, more)) in
       ((timed, tt), (OpenEvery (pos base) span, sits.0, fits.0))
-  body_fits clock body ty fits sits = absurd fits
+  body_fits clock (Freeze child predicate frozen) ty fits sits =
+      let under = laid nodes tys 0 child in
+      let of = formula_ty tys [] child in
+      let same : of ≡ ty = formula_type known tys names typed [] child ty fits.0.child_fits in
+      let whole = OpenFreeze of under.root predicate in
+      let parts = sits_split all 0 under.makes (planned.Node whole ∷ []) sits in
+      let one = formula_fits 0 child ty fits.0.child_fits parts.0 in
+      let made : OpenFits known a all whole = record {
+        is_known = fits.0.predicate_fits.is_known;
+        kind = fits.0.predicate_fits.kind;
+        takes = fits.0.takes ∙ ap (λ (t : Ty). t ∷ []) (sym same);
+        gives = fits.0.gives;
+        child_fits = subst (λ (t : Ty). PartFits a all t under.root) (sym same) one.1;
+      } in
+      (every_append PlannedIn under.makes (planned.Node whole ∷ []) one.0 (made, tt), (whole, parts.1.0, same))
+  body_fits clock (Expert f first links stale) ty fits sits =
+      let made : OpenFits known a all (OpenExpert f (graph_value nodes first)) = record {
+        element = fits.0.element;
+        is_known = fits.0.function_fits.is_known;
+        kind = fits.0.function_fits.kind;
+        takes = fits.0.folds.0 ∙ ap (λ (t : Ty). t ∷ fits.0.element ∷ []) (sym fits.0.folds.1);
+        initial = graph_type nodes first ∙ (fits.0.first_fits.0 ∙ sym fits.0.folds.1);
+        refers = value_fits first fits.0.first_fits.1;
+      } in
+      ((made, tt), (OpenExpert f (graph_value nodes first), sits.0, fits.0.folds.1))
+  body_fits clock (Grab bind v is_live) ty fits sits = absurd fits
 
 -- with what is to be made before it, a body fits as it does with all
 earlier_line : (known : FnRef → Bool) (all : List Planned) (i : ℕ) (listed : List Listed) (l : OpenLine) → LineNeedsEarlier (take i all) l

@@ -18,14 +18,20 @@ pub mod Declaring
 pub mod Ending
 pub mod Extending
 pub mod Few
+pub mod Firing
+pub mod Freezing
+pub mod Frozen
 pub mod Functions
 pub mod Grabbing
 pub mod Held
 pub mod Home
 pub mod Laying
+pub mod Linking
+pub mod Listing
 pub mod Leaving
 pub mod Looking
 pub mod Making
+pub mod Marks
 pub mod Middle
 pub mod Observing
 pub mod OneOwner
@@ -36,6 +42,7 @@ pub mod Plain
 pub mod Recalling
 pub mod Referring
 pub mod Refusing
+pub mod Relisting
 pub mod Remembering
 pub mod Rooting
 pub mod Same
@@ -46,6 +53,7 @@ pub mod Staying
 pub mod Spots
 pub mod Told
 pub mod TooDeep
+pub mod Unfrozen
 pub mod Watched
 pub mod Watching
 pub mod Without

@@ -17,7 +17,7 @@ use Rattle.formula_elab.specs.declared.body.OpenLine.TheVariants as open_line
 use Rattle.formula_elab.specs.declared.make.Made.{Made}
 use Rattle.formula_elab.specs.declared.make.Made.TheVariants as was
 use Rattle.formula_elab.specs.declared.opened.Open.{Open}
-use Rattle.formula_elab.specs.declared.opened.Open.TheVariants.{Const, Var, Map, Fold, If, Join, Bind, At, Steps, Now, Every as Counts}
+use Rattle.formula_elab.specs.declared.opened.Open.TheVariants.{Const, Var, Map, Fold, If, Join, Bind, At, Steps, Now, Every as Counts, Freeze, Expert}
 use Rattle.formula_elab.specs.declared.opened.Part.{Part}
 use Rattle.formula_elab.specs.declared.opened.Part.TheVariants.{Given as Named, Made as Numbered}
 use Rattle.formula_elab.specs.declared.plan.Planned.TheVariants as planned
@@ -276,6 +276,25 @@ module _ {F : Type 0} (H : Functions) (first now : GraphView F) (makes : List Pl
       timed = subst (λ (t : ℤ). IsTimed t (graph_def.Every base (pos span))) (sym h.extends.time) fits;
       calls = tt;
     }
+    open_welcome (Freeze ty child predicate) fits early =
+        let c = part_fits child ty fits.child_fits early in record {
+          named = (tt, c.0);
+          makes = record { kind = fits.kind; takes = fits.takes; gives = fits.gives; child = c.1 };
+          timed = tt;
+          calls = more_known predicate fits.is_known fits.kind;
+        }
+    open_welcome (Expert f v) fits early =
+        let still = refers_still first now h.extends v fits.refers in record {
+          named = (tt, refers_given now.nodes v still, tt);
+          makes = record {
+            kind = fits.kind;
+            takes = subst (λ (tys : List Ty). FoldTakes now.nodes f.sig.gives [] tys) (sym fits.takes) (refl, tt);
+            gives = refl;
+            initial = record { type = fits.initial; reference = refers_fits now.nodes v still };
+          };
+          timed = tt;
+          calls = more_known f fits.is_known fits.kind;
+        }
 
     -- ---- bodies
 
@@ -366,6 +385,8 @@ module _ {F : Type 0} where
     stands = none_stands H (graph s) makes order;
     types = λ i x at less. absurd (omega (arith, less));
     unbuilt = λ i x at less. absurd (omega (arith, less));
+    unfrozen = λ i x at less. absurd (omega (arith, less));
+    unlisted = λ i x at less. absurd (omega (arith, less));
     ids = λ i j x y at_i at_j less low. absurd (omega (arith, low));
     later = λ i x at less. absurd (omega (arith, less));
     given = omega arith;
@@ -410,6 +431,20 @@ module _ {F : Type 0} where
           ap (λ (n : NodeId). (graph new).built n) (old_node i less) ∙ (adds.beside.of_nodes.built (made_node made i) (old_given i x at less) ∙ h.unbuilt i x at less)
       unbuilt_at i x at (inr is) = ap (λ (n : NodeId). (graph new).built n) (last_node i is) ∙ adds.unbuilt
 
+      unfrozen_at : (i : ℕ) (x : Open) → slice_get makes i ≡ Some (planned.Node x) → (i < length made) ⊎ (i ≡ length made)
+          → (graph new).frozen (made_node (made ++ last_one ∷ []) i) ≡ None
+      unfrozen_at i x at (inl less) =
+          ap (λ (n : NodeId). (graph new).frozen n) (old_node i less)
+          ∙ (adds.beside.of_nodes.frozen (made_node made i) (old_given i x at less) ∙ h.unfrozen i x at less)
+      unfrozen_at i x at (inr is) = ap (λ (n : NodeId). (graph new).frozen n) (last_node i is) ∙ adds.unfrozen
+
+      unlisted_at : (i : ℕ) (x : Open) → slice_get makes i ≡ Some (planned.Node x) → (i < length made) ⊎ (i ≡ length made)
+          → (graph new).lists (made_node (made ++ last_one ∷ []) i) ≡ []
+      unlisted_at i x at (inl less) =
+          ap (λ (n : NodeId). (graph new).lists n) (old_node i less)
+          ∙ (adds.beside.of_nodes.lists (made_node made i) (old_given i x at less) ∙ h.unlisted i x at less)
+      unlisted_at i x at (inr is) = ap (λ (n : NodeId). (graph new).lists n) (last_node i is) ∙ adds.unlisted
+
       later_at : (i : ℕ) (x : Open) → slice_get makes i ≡ Some (planned.Node x) → (i < length made) ⊎ (i ≡ length made)
           → first.nodes.given ≤ (made_node (made ++ last_one ∷ []) i).gen_
       later_at i x at (inl less) = subst (λ (n : NodeId). first.nodes.given ≤ n.gen_) (sym (old_node i less)) (h.later i x at less)
@@ -438,6 +473,8 @@ module _ {F : Type 0} where
                 (tt, (top (filled made y) (open_ty y), adds.changes.changed, refl, refl));
             types = λ i x at less. type_at i x at (below i (length made) (omega (arith, less, size)));
             unbuilt = λ i x at less. unbuilt_at i x at (below i (length made) (omega (arith, less, size)));
+            unfrozen = λ i x at less. unfrozen_at i x at (below i (length made) (omega (arith, less, size)));
+            unlisted = λ i x at less. unlisted_at i x at (below i (length made) (omega (arith, less, size)));
             ids = λ i j x z at_i at_j less low. ids_at i j x z at_i at_j less (below j (length made) (omega (arith, low, size)));
             later = λ i x at less. later_at i x at (below i (length made) (omega (arith, less, size)));
             given = let given = adds.given in let before = h.given in omega (arith, given, before, size);
@@ -488,6 +525,12 @@ module _ {F : Type 0} where
             unbuilt = λ i x at less. let low = before_last i x at less in
                 ap (λ (n : NodeId). (graph new).built n) (same_node i low)
                 ∙ (ap (λ (s : GraphView (Unit {0})). (graph s).built (made_node made i)) kept.rest ∙ h.unbuilt i x at low);
+            unfrozen = λ i x at less. let low = before_last i x at less in
+                ap (λ (n : NodeId). (graph new).frozen n) (same_node i low)
+                ∙ (ap (λ (s : GraphView (Unit {0})). (graph s).frozen (made_node made i)) kept.rest ∙ h.unfrozen i x at low);
+            unlisted = λ i x at less. let low = before_last i x at less in
+                ap (λ (n : NodeId). (graph new).lists n) (same_node i low)
+                ∙ (ap (λ (s : GraphView (Unit {0})). (graph s).lists (made_node made i)) kept.rest ∙ h.unlisted i x at low);
             ids = λ i j x z at_i at_j less low.
                 let low_j = before_last j z at_j low in
                 let low_i : i < length made = omega (arith, less, low_j) in

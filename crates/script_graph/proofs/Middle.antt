@@ -1,5 +1,6 @@
 -- A state of a script beside the graph that a stabilize leaves, accepted or refused: the two fit, but for grabs that died in it.
 use Rattle.std.proofs.Common.{◌≡◌, ◌⊎◌, inl, inr, ℕ, ℤ, pos, ◌-◌, ◌/◌, ◌-ℤ◌, true, false, List, [], ◌∷◌, Option, None, Some, is_some, refl, sym, ap, subst, ◌∙◌, arith}
+use Rattle.std.proofs.lemmas.Bool.{cases_lt}
 use Rattle.std.specs.Int.Signed.{quot_z}
 use Rattle.inc_value.specs.Choice.{and_then}
 use Rattle.inc_value.specs.declared.function.FnRef.{FnRef}
@@ -26,16 +27,17 @@ use Rattle.stabilize_round.specs.Runs.{LeftDiffers}
 use Rattle.wiring.specs.Stands.{Counts}
 use Rattle.script_model.specs.Evaluate.{Gives}
 use Rattle.script_model.specs.Formula as script
-use Rattle.script_model.specs.Formula.{State, Body, Formula, Meanings, body_at, formula_of_body, Bind, Variable, Computed, After, Every, Grab}
+use Rattle.script_model.specs.Formula.{State, Body, Formula, Meanings, body_at, formula_of_body, Bind, Variable, Computed, Freeze, After, Every, Expert, Grab}
 use Rattle.script_model.specs.Need.{Left, part_of, formula_at}
 use Rattle.script_model.specs.Valid.{KeepToTypes, Valid}
-use Rattle.script_model.specs.Values.{Value, Outcome, Val}
+use Rattle.script_model.specs.Values.{Value, Outcome}
 use Rattle.script_graph.specs.Kept.{Kept, arena_of, node_in, no_node}
 use Rattle.script_graph.specs.Represents.{graph_functions, beside, Represents}
 use Rattle.script_graph.specs.Settled.{ScopesBuilt}
-use Rattle.script_graph.specs.Today.{IsWithin, IsPartWithin, OwnNodesOf}
+use Rattle.script_graph.specs.Today.{FreezesAreDeclared, IsWithin, IsPartWithin, OwnNodesOf}
 use Rattle.script_graph.proofs.Beside.{represented_fits}
 use Rattle.script_graph.proofs.Extending.{body_past, never_given, node_past}
+use Rattle.script_graph.proofs.Firing.{same_rooted}
 use Rattle.script_graph.proofs.Leaving.{outcome_or, tops_stay}
 use Rattle.script_graph.proofs.OneOwner.{outside_is_in_none}
 use Rattle.script_graph.proofs.Staying.{TopsStay, shows_on, top_on, own_nodes_then}
@@ -221,20 +223,30 @@ module _ (named : List ℕ → Option FnRef) (value : FnRef → List GraphValue 
       let past : node_in k.nodes n ≡ no_node =
       (let high = body_past s n is in let each = c.held.one_node_each in node_past k.nodes n (omega (arith, high, each))) in
       (ap (row_at g.nodes) past ∙ never_given g.nodes c.sound'.nodes, died_none (node_in k.nodes n) h.0)
-  declares_then n (Some (Variable v)) is h = top_on F M (node_in k.nodes) s s G G' x.died y.died tops (node_in k.nodes n) _ h
-  declares_then n (Some (Computed f kept)) is h = shows_on F M (node_in k.nodes) s s G G' x.died y.died tops (term.Ref (node_in k.nodes n)) f h
+  declares_then n (Some (Variable v)) is h = top_on F M (node_in k.nodes) s s G y.graph x.died y.died tops (node_in k.nodes n) _ h
+  declares_then n (Some (Computed f kept)) is h = shows_on F M (node_in k.nodes) s s G y.graph x.died y.died tops (term.Ref (node_in k.nodes n)) f h
   declares_then n (Some (Grab bind v false)) is h = (
     elim (c.stays.rows (node_in k.nodes n) (c.grabs n bind v is)) [ inl same ↦ same ∙ h.0 | inr dead ↦ dead ],
     died_none (node_in k.nodes n) h.0,
   )
   declares_then n (Some (Grab bind v true)) is (inl live) = grab_then n bind v is live.0 live.1 live.2 live.3
   declares_then n (Some (Grab bind v true)) is (inr lost) = absurd (let died = lost.2 in cc)
-  declares_then n (Some (After time)) is h = top_on F M (node_in k.nodes) s s G G' x.died y.died tops (node_in k.nodes n) _ h
+  declares_then n (Some (After time)) is h = top_on F M (node_in k.nodes) s s G y.graph x.died y.died tops (node_in k.nodes n) _ h
   declares_then n (Some (Every base span)) is (h, alike) = (
-    top_on F M (node_in k.nodes) s s G G' x.died y.died tops (node_in k.nodes n) _ h,
+    top_on F M (node_in k.nodes) s s G y.graph x.died y.died tops (node_in k.nodes n) _ h,
     subst (λ (t : ℤ). quot_z (t -ℤ pos base) (pos span) ≡ pos ((s.now - base) / span)) (sym c.stays.clock) alike,
   )
-  declares_then n (Some b) is h = absurd (c.held.today.plain n b is).0
+  declares_then n (Some (Freeze child predicate frozen)) is (kid, top, shows, keeps) = (
+    kid,
+    top_on F M (node_in k.nodes) s s G y.graph x.died y.died tops (node_in k.nodes n) (graph_def.Freeze kid predicate) top,
+    shows_on F M (node_in k.nodes) s s G y.graph x.died y.died tops (term.Ref kid) child shows,
+    keeps,
+  )
+  declares_then n (Some (Expert f first links stale)) is (kids, top, lists) = (
+    kids,
+    top_on F M (node_in k.nodes) s s G y.graph x.died y.died tops (node_in k.nodes n) (graph_def.Expert f (graph_value (node_in k.nodes) first) kids) top,
+    c.stays.lists (node_in k.nodes n) (given (node_in k.nodes n) top.0 top.1) ∙ lists,
+  )
 
   pub fits_then : Fits y
   fits_then = record {
@@ -242,7 +254,7 @@ module _ (named : List ℕ → Option FnRef) (value : FnRef → List GraphValue 
     functions = fits_before.functions;
     declared = λ n. declares_then n (body_at s n) refl (c.held.declares n);
     resolved = fits_before.resolved;
-    rooted = rooted_then;
+    rooted = λ b r l f caps w row def built. same_rooted M G' y.graph (λ m. refl) b f caps w (rooted_then b r l f caps w row def built);
     grabbed = λ n b v is.
         let h = fits_before.grabbed n b v is in
         record { left = h.left; body = h.body; kept = h.kept; is_bind = h.is_bind; no_name = h.no_name; apart = h.apart };
@@ -252,6 +264,19 @@ module _ (named : List ℕ → Option FnRef) (value : FnRef → List GraphValue 
   pub aged_then : (n : ℕ) (b : Body) → body_at s n ≡ Some b
       → OwnNodesOf y.graph (IsWithin k.nodes n) (IsPartWithin k.nodes n) (node_in k.nodes n) b
   aged_then n b is =
-      own_nodes_then F M (node_in k.nodes) s s G G' x.died y.died tops (IsWithin k.nodes n) (IsPartWithin k.nodes n) (node_in k.nodes n) b
-      (λ f kept e. subst (λ (d : Option Body). Declares x (node_in k.nodes n) d) (is ∙ ap (λ (d : Body). Some d) e) (c.held.declares n))
+      own_nodes_then F M (node_in k.nodes) s s G y.graph x.died y.died tops (IsWithin k.nodes n) (IsPartWithin k.nodes n) (node_in k.nodes n) b
+      (subst (λ (d : Option Body). Declares x (node_in k.nodes n) d) is (c.held.declares n))
       (c.held.today.aged n b is)
+
+  -- each live freeze is declared still: none was made
+  pub freezes_then : FreezesAreDeclared G' s k.nodes
+  freezes_then n r kid f row def = elim (cases_lt n.gen_ k.graph.nodes.given) [
+    | inl low ↦ elim (c.stays.rows n low) [
+      | inl same ↦ c.held.today.freezes n r kid f (sym same ∙ row) def
+      | inr dead ↦ absurd (let clash : None ≡ Some r = sym dead ∙ row in cc)
+    ]
+    | inr late ↦
+        let born = (c.left.born n r late row).0 in
+        let outside : r.scope ≡ None = c.sound'.tops n r row (rw def tt) in
+        absurd (outside_is_in_none y.graph born.bind n r row outside born.inside)
+  ]

@@ -5,7 +5,8 @@ use Rattle.std.specs.List.{list_any}
 use Rattle.std.specs.Prelude.{IsFalse}
 use Rattle.std.specs.Str.{bytes_eq}
 use Rattle.graph.specs.Effects.{Observes}
-use Rattle.graph.specs.Standing.{GraphView, graph, called_last, cutoff_of, times_linked}
+use Rattle.graph.specs.Standing.{GraphView, graph, called_last, cutoff_of, is_marked, times_linked}
+use Rattle.inc_terms.specs.Need.{IsUnfrozen}
 use Rattle.observers.specs.Observers.{node_at, looked_at, shown_at, shown_in, new_observer as made_observer}
 use Rattle.inc_value.specs.Choice.{Among}
 use Rattle.inc_value.specs.declared.node.NodeId.{NodeId}
@@ -21,7 +22,7 @@ use Rattle.script_graph.specs.Represents.{there_in, AreNames, IsObserver, Watche
 use Rattle.script_graph.specs.Settled.{ScopesBuilt, StillDeclares}
 use Rattle.script_graph.specs.Shown.{ShowsIt}
 use Rattle.script_graph.specs.State.{MatchesMoment}
-use Rattle.script_graph.proofs.Carrying.{LeavesBeside, settled_on}
+use Rattle.script_graph.proofs.Carrying.{LeavesBeside, LeavesMarks, leaves_marks, settled_on}
 use Rattle.script_graph.proofs.Held.{rooted_looks, rooted_still}
 use Rattle.script_graph.proofs.Same.{represents_so}
 use Rattle.transfer.specs.Both.{graph_outcome}
@@ -263,6 +264,8 @@ module _ (F : Meanings) (k : Kept) (m : Moment) (name : List ℕ) (target : ℕ)
         let is = rooted_looks g p n at in
         let low : p.0 < length k.graph.observers = (let less = is.0 in let r = rooted in let same = rooted_same in omega (arith, less, r, same)) in
         rooted_still g k.graph p (sym rooted_same) (sym (looks_old p low)) n at;
+    since = ap (λ (h : GraphView (Unit {0})). h.since) observes.rest;
+    unfrozen = λ n given. subst (λ (h : GraphView (Unit {0})). IsUnfrozen (graph h) n → IsUnfrozen (graph k.graph) n) (sym observes.rest) (λ u. u);
     fewer = λ p q. let same = ap (λ (h : GraphView (Unit {0})). times_linked h p q) observes.rest in omega (arith, same);
     given = let same = ap (λ (a : Arena). a.given) nodes_same in omega (arith, same);
     last = λ n given. ap (λ (h : GraphView (Unit {0})). called_last h n) observes.rest;
@@ -272,12 +275,17 @@ module _ (F : Meanings) (k : Kept) (m : Moment) (name : List ℕ) (target : ℕ)
   built_same : (b : NodeId) → (graph g).built b ≡ (graph k.graph).built b
   built_same b = ap (λ (h : GraphView (Unit {0})). (graph h).built b) observes.rest
 
+  marks_still : LeavesMarks s then k new
+  marks_still = leaves_marks s then k new (λ n. refl) (λ n given. ap (λ (h : GraphView (Unit {0})). is_marked h n) observes.rest)
+
   still : StillDeclares s k.nodes (graph k.graph) then new
   still = record {
     formulas = λ owner path f is. is;
+    bodies = λ n b has is. is;
     targets = λ n e is. (e, is, refl);
     names = λ n e is. refl;
     rows = λ n r u is def. ap (λ (a : Arena). row_at a n) nodes_same ∙ is;
+    freezes = λ n r kid f is def. ap (λ (a : Arena). row_at a n) nodes_same ∙ is;
     lives = λ n r is. (r, ap (λ (a : Arena). row_at a n) nodes_same ∙ is);
     built = λ b r is. built_same b;
   }
@@ -297,9 +305,13 @@ module _ (F : Meanings) (k : Kept) (m : Moment) (name : List ℕ) (target : ℕ)
     names = names;
     accepted = stands.accepted;
     broken = stands.broken;
-    represents = λ whole. represents_so F s (s.observers ++ x ∷ []) s.accepted k new refl refl refl nodes_same built_same (stands.represents whole);
+    represents = λ whole.
+        represents_so F s (s.observers ++ x ∷ []) s.accepted k new refl refl refl nodes_same built_same
+        (λ n. ap (λ (h : GraphView (Unit {0})). (graph h).frozen n) observes.rest) (λ n. ap (λ (h : GraphView (Unit {0})). (graph h).lists n) observes.rest)
+        (stands.represents whole);
     watches = watching;
-    settled = λ whole. settled_on F m.settled s then k new leaves still (λ n b v was. was) scopes_still shown_was (stands.settled whole);
+    settled = λ whole.
+        settled_on F m.settled s then k new leaves marks_still still (λ n b v was. was) scopes_still shown_was (stands.settled whole);
   }
 
 -- ---- what one shows

@@ -5,14 +5,14 @@ use Rattle.std.proofs.lemmas.Option.{slice_get_within}
 use Rattle.formula_lang.specs.Fits.{ArgumentsFit, BodyFits, ElementsFit, FormulaFits, NameFits}
 use Rattle.formula_elab.specs.Bodies.{empty_page}
 use Rattle.formula_elab.specs.Laying.{laid, laid_each, laid_body}
-use Rattle.formula_elab.specs.Made.{CountsAlike, StandsIn}
+use Rattle.formula_elab.specs.Made.{StandsAlike, StandsIn}
 use Rattle.formula_elab.specs.Make.{function_made, made_at}
 use Rattle.formula_elab.specs.Opened.{filled, made_node, node_of, open_ty}
 use Rattle.formula_elab.specs.Types.{formula_ty, joined_ty}
 use Rattle.formula_elab.specs.Writing.{body_of, written}
 use Rattle.formula_elab.specs.declared.make.Made.{Made}
 use Rattle.formula_elab.specs.declared.opened.Open.{Open}
-use Rattle.formula_elab.specs.declared.opened.Open.TheVariants.{Const, Var, Map, Fold as OpenFold, If as OpenIf, Join as OpenJoin, Bind as OpenBind, At as OpenAt, Steps as OpenSteps, Now as OpenNow, Every as OpenEvery}
+use Rattle.formula_elab.specs.declared.opened.Open.TheVariants.{Const, Var, Map, Fold as OpenFold, If as OpenIf, Join as OpenJoin, Bind as OpenBind, At as OpenAt, Steps as OpenSteps, Now as OpenNow, Every as OpenEvery, Freeze as OpenFreeze, Expert as OpenExpert}
 use Rattle.formula_elab.specs.declared.opened.Part.{Part}
 use Rattle.formula_elab.specs.declared.opened.Part.TheVariants.{Made as Numbered}
 use Rattle.formula_elab.specs.declared.plan.Planned.{Planned}
@@ -27,7 +27,7 @@ use Rattle.inc_terms.specs.Graph.{Graph, Row}
 use Rattle.inc_terms.specs.Term.{Functions}
 use Rattle.node_arena.specs.Arena.{row_at}
 use Rattle.script_model.specs.Check.{Names}
-use Rattle.script_model.specs.Formula.{Formula, Formulas, Body, Literal, Name, Bound, Apply, Fold, If, Join, Bind, At, Steps, Now, End, More, Variable, Computed, After, Every}
+use Rattle.script_model.specs.Formula.{Formula, Formulas, Body, Literal, Name, Bound, Apply, Fold, If, Join, Bind, At, Steps, Now, End, More, Variable, Computed, Freeze, After, Every, Expert, Grab}
 use Rattle.script_graph.specs.Growing.{IsMaking, PartFits}
 use Rattle.script_graph.specs.Today.{OwnNodes, OwnNodesOfAll, WholeNodes, OwnNodesOf}
 use Rattle.script_graph.proofs.Declaring.{IsPartSince, IsSince}
@@ -284,7 +284,22 @@ module _ (known : FnRef → Bool) (H : Functions) (G : Graph) (all : List Planne
   body_owns (Computed f kept) ty fits sits = whole_owns f ty fits.0 sits
   body_owns (After time) ty fits sits = (0, OpenAt (pos time), sits.0, omega arith, refl)
   body_owns (Every base span) ty fits sits = (0, OpenEvery (pos base) span, sits.0, omega arith, refl)
-  body_owns body ty fits sits = absurd fits
+  body_owns (Freeze child predicate frozen) ty fits sits =
+      let under = laid nodes tys 0 child in
+      let whole_open = OpenFreeze (formula_ty tys [] child) under.root predicate in
+      let parts = sits_split all 0 under.makes (planned.Node whole_open ∷ []) sits in
+      let last = 0 + length under.makes in
+      let size = length-append under.makes (planned.Node whole_open ∷ []) in
+      let top = stands.top last whole_open parts.1.0 (top_at last whole_open parts.1.0) in (
+        (last, whole_open, parts.1.0, omega (arith, size), refl),
+        top.0,
+        node_of made under.root,
+        top.1,
+        top.3,
+        formula_owns 0 (length (laid_body nodes tys 0 (Freeze child predicate frozen)).makes - 1) child ty fits.0.child_fits parts.0 (omega (arith, size)),
+      )
+  body_owns (Expert f first links stale) ty fits sits = (0, OpenExpert f (graph_value nodes first), sits.0, omega arith, refl)
+  body_owns (Grab bind v is_live) ty fits sits = absurd fits
 
 -- the nodes of a body were made from the first on, and none after the root
 module _ (known : FnRef → Bool) (names : Names) {F : Type 0} (H : Functions) (first now : GraphView F) (nodes : ℕ → NodeId) (tys : ℕ → Ty) (made : List Made) where
@@ -334,7 +349,7 @@ module _ (known : FnRef → Bool) (names : Names) {F : Type 0} (H : Functions) (
     own_between ty fits =
         own_nodes_of_on (graph now) (graph now) (IsMade (makes_for body) made (length (makes_for body))) (IsSince first.nodes.given (root_for body))
         (IsMade (makes_for body) made (length (makes_for body) - 1)) (IsPartSince first.nodes.given (root_for body)) between before_root
-        (λ n q u row def. row) (root_for body) body
+        (λ n q u row def. row) (λ n q kid f row def. row) (root_for body) body
         (body_owns known H (graph now) (makes_for body) made h.stands whole nodes tys names body ty fits (sits_itself (makes_for body)))
 
   at_length : (xs : List Planned) (x : Planned) → slice_get (xs ++ x ∷ []) (length xs) ≡ Some x
@@ -347,10 +362,11 @@ module _ (known : FnRef → Bool) (names : Names) {F : Type 0} (H : Functions) (
   one_more : (xs : List Planned) (x : Planned) → length (xs ++ x ∷ []) ≤ 0 + length xs + 1
   one_more xs x = let size = length-append xs (x ∷ []) in omega (arith, size)
 
-  -- of a variable it is one, and of a bind
+  -- of a variable it is one, of a bind, and of an expert
   abbrev pub IsOfKind : Body → Open → Type 0
   IsOfKind (Variable v) z = (w : _) × (z ≡ Var w)
   IsOfKind (Computed (Bind left body) kept) z = (ty : Ty) × (p : Part) × (i : ℕ) × (z ≡ OpenBind ty p i)
+  IsOfKind (Expert f first links stale) z = z ≡ OpenExpert f (graph_value nodes first)
   IsOfKind body z = Unit {0}
 
   -- the last of what is to be made for what has a node of its own is that node
@@ -400,7 +416,13 @@ module _ (known : FnRef → Bool) (names : Names) {F : Type 0} (H : Functions) (
   last_made (Computed Now kept) ty fits own = (0, OpenNow, refl, omega arith, refl, tt)
   last_made (After time) ty fits own = (0, OpenAt (pos time), refl, omega arith, refl, tt)
   last_made (Every base span) ty fits own = (0, OpenEvery (pos base) span, refl, omega arith, refl, tt)
-  last_made body ty fits own = absurd fits
+  last_made (Freeze child predicate frozen) ty fits own =
+      let under = laid nodes tys 0 child in
+      let whole_open = OpenFreeze (formula_ty tys [] child) under.root predicate in
+      (0 + length under.makes, whole_open, at_end under.makes (planned.Node whole_open), one_more under.makes (planned.Node whole_open), refl, tt)
+  last_made (Expert f first_value links stale) ty fits own =
+      (0, OpenExpert f (graph_value nodes first_value), refl, omega arith, refl, refl)
+  last_made (Grab bind v is_live) ty fits own = absurd fits
 
   owned_own : (body : Body) (ty : Ty) → BodyFits known names body ty → IsMaking H first now (makes_for body) made → length made ≡ length (makes_for body)
       → HasOwnNode body
@@ -415,7 +437,9 @@ module _ (known : FnRef → Bool) (names : Names) {F : Type 0} (H : Functions) (
   made_owned (Computed f kept) ty fits h whole = owned_own (Computed f kept) ty fits h whole tt
   made_owned (After time) ty fits h whole = owned_own (After time) ty fits h whole tt
   made_owned (Every base span) ty fits h whole = owned_own (Every base span) ty fits h whole tt
-  made_owned body ty fits h whole = absurd fits
+  made_owned (Freeze child predicate frozen) ty fits h whole = owned_own (Freeze child predicate frozen) ty fits h whole tt
+  made_owned (Expert f first_value links stale) ty fits h whole = owned_own (Expert f first_value links stale) ty fits h whole tt
+  made_owned (Grab bind v is_live) ty fits h whole = absurd fits
 
   -- a root of its own is built for nothing yet
   pub made_unbuilt : (body : Body) (ty : Ty) → BodyFits known names body ty → IsMaking H first now (makes_for body) made → length made ≡ length (makes_for body)
@@ -424,6 +448,17 @@ module _ (known : FnRef → Bool) (names : Names) {F : Type 0} (H : Functions) (
       let r = last_made body ty fits own in
       let low = slice_get_within (makes_for body) r.0 (planned.Node r.1) r.2 in
       ap (λ (p : Part). (graph now).built (node_of made p)) r.4 ∙ h.unbuilt r.0 r.1 r.2 (omega (arith, low, whole))
+
+  -- it keeps and lists nothing
+  pub made_unfrozen : (body : Body) (ty : Ty) → BodyFits known names body ty → IsMaking H first now (makes_for body) made
+      → length made ≡ length (makes_for body)
+      → HasOwnNode body → ((graph now).frozen (root_for body) ≡ None) × ((graph now).lists (root_for body) ≡ [])
+  made_unfrozen body ty fits h whole own =
+      let r = last_made body ty fits own in
+      let low = slice_get_within (makes_for body) r.0 (planned.Node r.1) r.2 in (
+        ap (λ (p : Part). (graph now).frozen (node_of made p)) r.4 ∙ h.unfrozen r.0 r.1 r.2 (omega (arith, low, whole)),
+        ap (λ (p : Part). (graph now).lists (node_of made p)) r.4 ∙ h.unlisted r.0 r.1 r.2 (omega (arith, low, whole)),
+      )
 
   -- a root of its own is a live node of the type outside all scopes, defined as the last of what is to be made
   pub made_root : (body : Body) (ty : Ty) → BodyFits known names body ty → IsMaking H first now (makes_for body) made → length made ≡ length (makes_for body)
@@ -447,8 +482,9 @@ module _ (known : FnRef → Bool) (names : Names) {F : Type 0} (H : Functions) (
 -- and shows what is declared
 pub made_declares : (known : FnRef → Bool) (names : Names) (x : Both) (nodes : ℕ → NodeId) (tys : ℕ → Ty) (made : List Made) (body : Body) (ty : Ty)
     → BodyFits known names body ty → ((position : ℕ) (t : Ty) → NameFits names position t → nodes position ≡ x.nodes position)
-    → CountsAlike x body → StandsIn x.functions x.graph (laid_body nodes tys 0 body).makes made → length made ≡ length (laid_body nodes tys 0 body).makes
+    → StandsAlike x (node_of made (laid_body nodes tys 0 body).root) body
+    → StandsIn x.functions x.graph (laid_body nodes tys 0 body).makes made → length made ≡ length (laid_body nodes tys 0 body).makes
     → Declares x (node_of made (laid_body nodes tys 0 body).root) (Some body)
-made_declares known names x nodes tys made body ty fits same counts stands whole =
+made_declares known names x nodes tys made body ty fits same alike stands whole =
     root_declares nodes tys body x made
-    (every_name_of known names (λ n. nodes n ≡ x.nodes n) same body ty fits) counts stands (omega (arith, whole))
+    (every_name_of known names (λ n. nodes n ≡ x.nodes n) same body ty fits) alike stands (omega (arith, whole))

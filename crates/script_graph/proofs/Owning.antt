@@ -8,18 +8,32 @@ use Rattle.inc_terms.specs.Graph as graph
 use Rattle.inc_terms.specs.Graph.{Graph, Row, Def}
 use Rattle.script_model.specs.Check.{target_of_body}
 use Rattle.script_model.specs.Formula as script
-use Rattle.script_model.specs.Formula.{State, Body, Formula, Formulas, Meanings, body_at, formula_of_body, Literal, Name, Apply, Fold, If, Join, Bind, At, Steps, Now, End, More, Variable, Computed, After, Every, Grab}
+use Rattle.script_model.specs.Formula.{State, Body, Formula, Formulas, Meanings, body_at, formula_of_body, Literal, Name, Apply, Fold, If, Join, Bind, At, Steps, Now, End, More, Variable, Computed, Freeze, After, Every, Expert, Grab}
 use Rattle.script_model.specs.Need.{Edge, Argument, Test, Then, Else, Child, Left, Inside, argument_at, part_at, part_of, formula_at}
 use Rattle.script_graph.specs.Kept.{Kept, node_in}
 use Rattle.script_model.specs.Values.{Value}
 use Rattle.script_graph.specs.Represents.{beside, Represents}
-use Rattle.script_graph.specs.Today.{AllPlain, OwnNodes, OwnNodesOfAll, WholeNodes, OwnNodesOf, IsPartWithin, IsWithin}
+use Rattle.script_graph.specs.Settled.{BodiesStay, FreezesStay}
+use Rattle.script_graph.specs.Today.{AllPlain, IsDeclaredFreeze, OwnNodes, OwnNodesOfAll, WholeNodes, OwnNodesOf, IsPartWithin, IsWithin}
 use Rattle.transfer.specs.Both.{Both}
 use Rattle.transfer.specs.Cycles.{IsForm}
-use Rattle.transfer.specs.Items.{part_node, root_at, node_at}
+use Rattle.transfer.specs.Items.{freeze_kid, part_node, root_at, node_at}
 use Rattle.transfer.specs.Keeping.{RowsStay}
 use Rattle.transfer.specs.Shows.{plain, IsOwn}
 use Rattle.transfer.proofs.Places.{then_some, map_parts, fold_parts}
+
+-- ---- freezes
+
+-- a freeze that is declared is so still
+pub freeze_on : (s s' : State) (nodes : List NodeId) (n : NodeId) → BodiesStay s s' → IsDeclaredFreeze s nodes n → IsDeclaredFreeze s' nodes n
+freeze_on s s' nodes n stay d = record {
+  position = d.position;
+  child = d.child;
+  predicate = d.predicate;
+  frozen = d.frozen;
+  is_body = stay d.position (Freeze d.child d.predicate d.frozen) refl d.is_body;
+  node = d.node;
+}
 
 -- ---- in another graph
 
@@ -61,7 +75,7 @@ module _ (G G' : Graph) (P Q : NodeId → Type 0) (more : (n : NodeId) → P n �
     own_nodes_of_all_on (n ∷ ns) (More f rest) own = (own_nodes_on n f own.0, own_nodes_of_all_on ns rest own.1)
 
 module _ (G G' : Graph) (P P' Q Q' : NodeId → Type 0) (more : (n : NodeId) → P n → P' n) (parts : (n : NodeId) → Q n → Q' n)
-    (kept : RowsStay G G') where
+    (kept : RowsStay G G') (freezes : FreezesStay G G') where
   whole_nodes_on : (n : NodeId) (f : Formula) → WholeNodes G P Q n f → WholeNodes G' P' Q' n f
   whole_nodes_on n (Literal v) own = more n own
   whole_nodes_on n (Name k) own = tt
@@ -118,7 +132,15 @@ module _ (G G' : Graph) (P P' Q Q' : NodeId → Type 0) (more : (n : NodeId) →
   own_nodes_of_on n (Grab bind v is_live) own = tt
   own_nodes_of_on n (After time) own = more n own
   own_nodes_of_on n (Every base span) own = more n own
-  own_nodes_of_on n b own = absurd own
+  own_nodes_of_on n (Freeze child predicate frozen) own = (
+    more n own.0,
+    own.1,
+    own.2,
+    freezes n own.1 own.2 predicate own.3 own.4,
+    own.4,
+    own_nodes_on G G' Q Q' parts kept own.2 child own.5,
+  )
+  own_nodes_of_on n (Expert f first links stale) own = more n own
 
 -- ---- by items
 
@@ -289,14 +311,14 @@ module _ (x : Both) (P : NodeId → Type 0) (owner : ℕ) where
   part_own edge path Now g n out part above at = absurd (cc)
   part_own edge path h g n out part above at = let m = node_above edge path n at in absurd (above m.0 m.1)
 
-module _ (x : Both) (P Q : NodeId → Type 0) (owner : ℕ) (f : Formula)
-    (root : (m : NodeId) → node_at x owner [] ≡ Some m → WholeNodes x.graph P Q m f) where
+module _ (x : Both) (Q : NodeId → Type 0) (owner : ℕ) (f : Formula)
+    (root : (m : NodeId) → node_at x owner [] ≡ Some m → PartNodes x.graph Q m f) where
   -- the node of a part has the parts' property
   part_of_whole : (edge : Edge) (path : List Edge) (g : Formula) (n : NodeId) → IsOutside (edge ∷ path)
       → part_of f (edge ∷ path) ≡ Some g → node_at x owner (edge ∷ path) ≡ Some n
       → OwnNodes x.graph Q n g
   part_of_whole edge [] g n out part at =
-      part_own x Q owner edge [] f g n out part (λ m is. whole_parts x.graph P Q m f (root m is)) at
+      part_own x Q owner edge [] f g n out part root at
   part_of_whole edge (outer ∷ path) g n out part at =
       let h = then_some (part_of f (outer ∷ path)) (λ h. part_at h edge) g part in
       part_own x Q owner edge (outer ∷ path) h.0 g n out h.2
@@ -341,7 +363,8 @@ own_node G P Q n (Computed f kept) is own = whole_has G P Q n f is own
 own_node G P Q n (Grab bind v is_live) is own = absurd is
 own_node G P Q n (After time) is own = own
 own_node G P Q n (Every base span) is own = own
-own_node G P Q n b is own = absurd own
+own_node G P Q n (Freeze child predicate frozen) is own = own.0
+own_node G P Q n (Expert f first links stale) is own = own
 
 -- what is no other name has a node of its own, or is a grab
 pub own_or_grab : (b : Body) → IsOwn (Some b) → HasOwnNode b ⊎ ((bind : ℕ) × (v : Value) × (is_live : Bool) × (b ≡ Grab bind v is_live))
@@ -372,6 +395,22 @@ module _ (x : Both) (P Q : ℕ → NodeId → Type 0)
       let same : x.nodes owner ≡ m = cc in
       subst (λ (n : NodeId). WholeNodes x.graph (P owner) (Q owner) n f) same own
 
+  -- the kid of a freeze, if it isn't that of a bare name, and its parts have the other
+  kid_own : (owner : ℕ) (child : Formula) (predicate : FnRef) (frozen : Option Value) → body_at x.state owner ≡ Some (Freeze child predicate frozen)
+      → (m : NodeId) → node_at x owner [] ≡ Some m → OwnNodes x.graph (Q owner) m child
+  kid_own owner child predicate frozen is m at =
+      let own = aged owner (Freeze child predicate frozen) is in
+      let row : and_then (x.graph.row (x.nodes owner)) (λ (r : Row). freeze_kid r.def) ≡ Some m = rw is at at in
+      let kid : freeze_kid own.1.def ≡ Some m = rw own.3 at row in
+      let node : Some own.2 ≡ Some m = sym (ap freeze_kid own.4) ∙ kid in
+      let same : own.2 ≡ m = cc in
+      subst (λ (n : NodeId). OwnNodes x.graph (Q owner) n child) same own.5
+
+  pub own_kid : (owner : ℕ) (child : Formula) (predicate : FnRef) (frozen : Option Value) → body_at x.state owner ≡ Some (Freeze child predicate frozen)
+      → IsForm child → (m : NodeId) → node_at x owner [] ≡ Some m → Q owner m
+  own_kid owner child predicate frozen is form m at =
+      own_has x.graph (Q owner) m child form (kid_own owner child predicate frozen is m at)
+
   -- outside all bodies of binds the node of a part that is no bare name has the other
   pub own_part : (owner : ℕ) (edge : Edge) (path : List Edge) (g : Formula) (n : NodeId) → IsOutside (edge ∷ path)
       → formula_at x.state owner (edge ∷ path) ≡ Some g → IsForm g → node_at x owner (edge ∷ path) ≡ Some n → Q owner n
@@ -380,12 +419,18 @@ module _ (x : Both) (P Q : ℕ → NodeId → Type 0)
       go : (b : Option Body) → body_at x.state owner ≡ b → and_then b (λ c. and_then (formula_of_body c) (λ f. part_of f (edge ∷ path))) ≡ Some g → Q owner n
       go None body is = absurd (cc)
       go (Some (Computed f kept)) body is =
-          own_has x.graph (Q owner) n g own (part_of_whole x (P owner) (Q owner) owner f (whole_own owner f kept body) edge path g n out is at)
+          own_has x.graph (Q owner) n g own
+          (part_of_whole x (Q owner) owner f
+          (λ m at_m. whole_parts x.graph (P owner) (Q owner) m f (whole_own owner f kept body m at_m)) edge path g n out is at)
       go (Some (Variable v)) body is = absurd (cc)
       go (Some (Grab bind v is_live)) body is = absurd (cc)
       go (Some (After time)) body is = absurd (cc)
       go (Some (Every base span)) body is = absurd (cc)
-      go (Some b) body is = absurd (aged owner b body)
+      go (Some (Freeze child predicate frozen)) body is =
+          own_has x.graph (Q owner) n g own
+          (part_of_whole x (Q owner) owner child
+          (λ m at_m. own_parts x.graph (Q owner) m child (kid_own owner child predicate frozen body m at_m)) edge path g n out is at)
+      go (Some (Expert f first links stale)) body is = absurd (cc)
 
 module _ (F : Meanings) (s : State) (k : Kept) (held : Represents F s k) where
   -- the node of a declaration that has one of its own was given after those of earlier declarations

@@ -3,7 +3,7 @@ use Rattle.std.proofs.Common.{◌≡◌, ℕ, zero, suc, List, [], ◌∷◌, Op
 use Rattle.inc_value.specs.Choice.{and_then}
 use Rattle.formula_elab.specs.Today.{IsLaidOut, AreLaidOut}
 use Rattle.script_model.proofs.Leaves.{leaves_within}
-use Rattle.script_model.specs.Formula.{State, Body, Formula, Formulas, body_at, formula_of_body, Literal, Name, Bound, Apply, Fold, If, Join, Bind, At, Steps, Now, End, More, Variable, Computed, After, Every, Grab}
+use Rattle.script_model.specs.Formula.{State, Body, Formula, Formulas, body_at, formula_of_body, Literal, Name, Bound, Apply, Fold, If, Join, Bind, At, Steps, Now, End, More, Variable, Computed, Freeze, After, Every, Expert, Grab}
 use Rattle.script_model.specs.Leaves.{EveryLeaf}
 use Rattle.script_model.specs.Need.{Edge, Argument, Test, Then, Else, Child, Left, Inside, argument_at, part_at, part_of, formula_at}
 use Rattle.script_graph.specs.Today.{IsPlainBody, IsEarlierTarget, IsDeclaredTarget, AllPlain}
@@ -72,4 +72,7 @@ plain_place s plain owner path f e = by_body (body_at s owner) (λ b is. plain o
     by_body (Some (Grab bind v is_live)) fine e = absurd (cc)
     by_body (Some (After time)) fine e = absurd (cc)
     by_body (Some (Every base span)) fine e = absurd (cc)
-    by_body (Some body) fine e = absurd (fine body refl).0
+    by_body (Some (Freeze child predicate frozen)) fine e =
+        let is_plain = fine (Freeze child predicate frozen) refl in
+        (laid_within child is_plain.0 path f e, leaves_within (IsEarlierTarget s owner) (IsDeclaredTarget s) child is_plain.1.0 path f e)
+    by_body (Some (Expert g first links stale)) fine e = absurd (cc)

@@ -1,6 +1,5 @@
 -- After an accepted stabilize what is needed is right, and each needed visit was the last call of its node.
-use Rattle.std.proofs.Common.{◌≡◌, ◌⊎◌, inl, inr, ℕ, zero, suc, List, [], ◌∷◌, map, length, Option, None, Some, refl, sym, ap, subst, ◌∙◌}
-use Rattle.inc_value.specs.Choice.{Reaches, here, step}
+use Rattle.std.proofs.Common.{◌≡◌, ◌⊎◌, inl, inr, ℕ, zero, suc, false, List, [], ◌∷◌, map, length, Option, None, Some, refl, sym, ap, subst, ◌∙◌}
 use Rattle.inc_value.specs.Walk.{IsWalk}
 use Rattle.inc_value.specs.declared.function.FnRef.{FnRef}
 use Rattle.inc_value.specs.declared.node.NodeId.{NodeId}
@@ -9,7 +8,7 @@ use Rattle.inc_value.specs.declared.node.Part.TheVariants.{Change, Main}
 use Rattle.inc_value.specs.declared.node.Point.{Point}
 use Rattle.inc_value.specs.declared.outcome.Outcome.{Outcome}
 use Rattle.inc_value.specs.declared.value.Value.{Value as GraphValue}
-use Rattle.inc_terms.specs.Depend.{Depends, gate, ghost, fixed, right, none_died, kids_of, main, change, subject_of, unfrozen}
+use Rattle.inc_terms.specs.Depend.{Depends, gate, none_died, kids_of, main, change, subject_of, unfrozen}
 use Rattle.inc_terms.specs.Evaluate.{answer, GiveAll, NodeGives, Of, Stands}
 use Rattle.inc_terms.specs.Graph.{Graph, Row, Def, Map, Fold, If, Join, Bind, Freeze, Expert}
 use Rattle.inc_terms.specs.Local.{PartExact, Exact, HasRun, Scoped, shown_of as shown_as}
@@ -21,7 +20,7 @@ use Rattle.inc_terms.proofs.Local.{needed_more}
 use Rattle.inc_terms.specs.Term as term
 use Rattle.inc_terms.proofs.Unfolding.{scope_stands}
 use Rattle.stabilizer.specs.Left.{IsObservedIn}
-use Rattle.graph.specs.Standing.{GraphView, graph, shown_of, chosen_by, called_last}
+use Rattle.graph.specs.Standing.{GraphView, graph, shown_of, chosen_by, called_last, is_marked}
 use Rattle.observers.specs.Observers.{in_use}
 use Rattle.graph.specs.Stabilizes.{Stabilizes, left_by, died_by}
 use Rattle.node_arena.specs.Arena.{Arena, row_at}
@@ -31,6 +30,7 @@ use Rattle.script_model.specs.Need.{Visit, IsVisit}
 use Rattle.inc_terms.specs.Work.{taken_by}
 use Rattle.stabilize_round.specs.State.{Call}
 use Rattle.script_graph.specs.Kept.{node_in}
+use Rattle.script_graph.proofs.Firing.{exact_after, needed_before, same_rooted}
 use Rattle.transfer.specs.Both.{Both, graph_value}
 use Rattle.transfer.specs.Items.{node_of, GrabsBind, RootsHave}
 use Rattle.transfer.specs.Shows.{BindsRooted, Fits}
@@ -47,18 +47,6 @@ shown_in g n Change = chosen_by g n
 abbrev pub shown_at : {A : Type 0} → GraphView A → Point → Option Outcome
 shown_at g p = shown_in g p.node p.part
 
--- what is needed once these observers have their roots, needs no one who died
-without_dead : (M : Functions) (G : Graph) (died : NodeId → Option NodeId) (p q : Point) → Depends M G none_died p q → Depends M G died p q
-without_dead M G died p q (gate row scope to) = gate row scope to
-without_dead M G died p q (ghost row none to) = absurd (cc)
-without_dead M G died p q (fixed row stands among) = fixed row stands among
-without_dead M G died p q (right row stands is_main subject gives among to) = right row stands is_main subject gives among to
-
-reach_without : (M : Functions) (G : Graph) (died : NodeId → Option NodeId) (p q : Point) → Reaches (Depends M G none_died) p q
-    → Reaches (Depends M G died) p q
-reach_without M G died p q here = here
-reach_without M G died p q (step {b = r} d on) = step (without_dead M G died p r d) (reach_without M G died r q on)
-
 module _ {A : Type 0} (M : Functions) (old new : GraphView A) (scoped : Scoped (graph new)) (rooted : BindsRooted M (graph new))
     (done : Stabilizes M old new) where
   abbrev L : Graph
@@ -70,9 +58,6 @@ module _ {A : Type 0} (M : Functions) (old new : GraphView A) (scoped : Scoped (
   abbrev IsObserved : Point → Type 0
   IsObserved p = IsObservedIn M L D (in_use old.observers) p
 
-  pub observed_without : (p : Point) → Needed M L none_died (in_use old.observers) p → IsObserved p
-  observed_without p need = (need.0, need.1, reach_without M L D (main need.0) p need.2)
-
   -- a bind whose change is needed was built for what its left gives
   pub run_right : (n l : NodeId) (r : Row) (f : FnRef) (caps : List NodeId) → IsObserved (change n) → L.row n ≡ Some r → r.def ≡ Bind l f caps
       → HasRun M L (shown_at new) n (Bind l f caps) l
@@ -82,7 +67,7 @@ module _ {A : Type 0} (M : Functions) (old new : GraphView A) (scoped : Scoped (
       let rows : b.row ≡ r = (let e : Some b.row ≡ Some r = sym b.is_row ∙ row in cc) in
       let lefts : b.left ≡ l = (let e : Bind b.left b.function b.captures ≡ Bind l f caps = sym b.is_bind ∙ (ap (λ (x : Row). x.def) rows ∙ def) in cc) in
       let same = one_outcome M L (Of (term.Ref l)) b.built.outcome c.0 (subst (λ (x : NodeId). NodeGives M L x b.built.outcome) lefts b.gives) c.2 in
-      (c.0, c.1, c.2, (b.built, b.is_built, same, rooted n r l f caps b.built row def b.is_built))
+      (c.0, c.1, c.2, (b.built, b.is_built, same, same_rooted M (graph new) L (λ m. refl) n f caps b.built (rooted n r l f caps b.built row def b.is_built)))
 
   part_right : (n : NodeId) (part : Part) → IsObserved (record { node = n; part = part }) → (r : Row)
       → L.row n ≡ Some r → PartExact M L (shown_at new) n r.def part
@@ -128,6 +113,19 @@ module _ {A : Type 0} (M : Functions) (old new : GraphView A) (scoped : Scoped (
     part_right p.node p.part need r row,
   )
 
+  -- ---- once freezes got their values
+
+  abbrev A' : Graph
+  A' = graph new
+
+  -- what is needed then is right then
+  pub needed_is_right_then : (p : Point) → Needed M A' none_died (in_use old.observers) p → Exact M A' (shown_at new) p
+  needed_is_right_then = exact_after M A' (graph old).frozen done.right.froze D (in_use old.observers) (shown_at new) needed_is_right
+
+  -- and was needed before
+  pub needed_was : (p : Point) → Needed M A' none_died (in_use old.observers) p → IsObserved p
+  needed_was = needed_before M A' (graph old).frozen done.right.froze D (in_use old.observers) (shown_at new) needed_is_right
+
 -- ---- what calls
 
 -- a node that calls a function, whose children give the values
@@ -151,7 +149,7 @@ called_on M G n values cost def give is = absurd (cc)
 
 -- ---- the last calls
 
--- the visit's node was last called with the visit's values
+-- the visit's node was last called with the visit's values, and isn't stale
 pub record IsRecalled {A : Type 0} (x : Both) (arena : Arena) (g : GraphView A) (v : Visit) : Type 0 where
   pub node : NodeId
   pub is_node : node_of x v.item ≡ Some node
@@ -160,6 +158,7 @@ pub record IsRecalled {A : Type 0} (x : Both) (arena : Arena) (g : GraphView A) 
   pub call : Call
   pub is_last : called_last g node ≡ Some call
   pub values_are : call.arguments ≡ map (graph_value x.nodes) v.values
+  pub fresh : is_marked g node ≡ false
 
 -- over a pair of the graph that a stabilize left, in which nobody is known to have died
 module _ {A : Type 0} (M : Functions) (old new : GraphView A) (scoped : Scoped (graph new)) (rooted : BindsRooted M (graph new)) (done : Stabilizes M old new)
@@ -184,8 +183,17 @@ module _ {A : Type 0} (M : Functions) (old new : GraphView A) (scoped : Scoped (
   pub visit_is_recalled : (v : Visit) → IsVisit F s v → Need.Needed F s v.item → IsRecalled z new.nodes new v
   visit_is_recalled v is need =
       let h = visits_have_nodes z fits grabs (in_use old.observers) have (shown_at new)
-      (λ p observed. needed_is_right M old new scoped rooted done p (observed_without M old new scoped rooted done p observed)) v is need in
+      (needed_is_right_then M old new scoped rooted done) v is need in
       let m = called_on M (graph new) h.0 (map (graph_value (node_in nodes)) v.values) v.cost h.3.row.def h.3.values h.3.cost in
       let c = done.right.recalls h.0 h.3.row m.kids (map (graph_value (node_in nodes)) v.values) ((done.right.needs (main h.0)).1 h.2) h.3.is_row m.takes
       m.give in
-      record { node = h.0; is_node = h.1; row = h.3.row; is_row = h.3.is_row; call = c.0; is_last = c.1; values_are = c.2 }
+      record {
+        node = h.0;
+        is_node = h.1;
+        row = h.3.row;
+        is_row = h.3.is_row;
+        call = c.0;
+        is_last = c.1;
+        values_are = c.2;
+        fresh = done.right.unmarked h.0 h.3.row h.3.is_row (needed_was M old new scoped rooted done (main h.0) h.2);
+      }

@@ -1,5 +1,5 @@
 -- What a session keeps of the last accepted stabilize is what the laws of calls ask for.
-use Rattle.std.proofs.Common.{◌≡◌, ◌⊎◌, inl, inr, ℕ, zero, suc, ◌≤◌, List, [], ◌∷◌, map, length, Option, None, Some, option_map, IsSome, refl, ap, sym, subst, ◌∙◌, arith, slice_get}
+use Rattle.std.proofs.Common.{◌≡◌, ◌⊎◌, inl, inr, ℕ, zero, suc, ◌≤◌, List, [], ◌∷◌, length, Option, None, Some, option_map, IsSome, refl, ap, sym, subst, ◌∙◌, arith, slice_get}
 use Rattle.inc_value.specs.Choice.{Among, Every as Each, and_then}
 use Rattle.inc_value.specs.declared.function.FnRef.{FnRef}
 use Rattle.inc_value.specs.declared.node.NodeId.{NodeId}
@@ -7,11 +7,10 @@ use Rattle.inc_value.specs.declared.node.ObsId.{ObsId}
 use Rattle.inc_value.specs.declared.node.Point.{Point}
 use Rattle.inc_value.specs.declared.value.Value.{Value as GraphValue}
 use Rattle.inc_terms.specs.Term as term
-use Rattle.inc_terms.specs.Graph.{Graph}
+use Rattle.inc_terms.specs.Graph.{Graph, Row}
 use Rattle.inc_terms.specs.Term.{Functions}
 use Rattle.inc_terms.specs.Need.{Observing, Freezing, nodes_of, Held, Met as GraphMet, from_root, from_held}
 use Rattle.inc_terms.specs.Work.{WithinWork as GraphWork}
-use Rattle.inc_terms.proofs.Plan.{among_left, among_map}
 use Rattle.stabilizer.specs.Left.{StoodBeside, IsMetIn}
 use Rattle.graph.specs.Sound.{IsWhole}
 use Rattle.graph.specs.Stabilizes.{left_by, died_by}
@@ -19,26 +18,25 @@ use Rattle.graph.specs.Standing.{look, GraphView, graph, IsNeeded, cutoff_of}
 use Rattle.observers.specs.Observers.{in_use, looked_at, node_at}
 use Rattle.map_nodes.proofs.Stopping.{equal_stops}
 use Rattle.node_arena.specs.Arena.{row_at}
-use Rattle.script_model.specs.Formula.{State, Entry, Body, Formula, Observer, Meanings, meanings_of, body_at, entry_at, formula_of_body, Variable, Computed, After, Every, Grab}
-use Rattle.script_model.specs.Need.{Named, Met, WithinWork, formula_at, part_of, own_roots, roots}
+use Rattle.script_model.specs.Formula.{State, Entry, Body, Observer, Meanings, meanings_of, body_at, entry_at, Variable, Computed, Freeze, After, Every, Expert, Grab}
+use Rattle.script_model.specs.Need.{Named, Met, WithinWork, roots}
 use Rattle.script_model.specs.Step.{Moment}
 use Rattle.script_model.specs.Valid.{Valid, ValidObserver}
 use Rattle.stabilize_round.specs.Calls.{arguments_of}
 use Rattle.script_graph.specs.Kept.{Kept, node_in, no_node}
 use Rattle.script_graph.specs.Represents.{graph_functions, graph_observer, besides, there_in, Watches}
-use Rattle.script_graph.specs.Today.{AllPlain, IsPlainBody, IsEarlierTarget, IsDeclaredTarget}
 use Rattle.script_graph.specs.Settled.{side_of, observed_by, Settled}
 use Rattle.script_graph.specs.State.{Stands}
 use Rattle.script_graph.proofs.Extending.{never_given, node_past}
 use Rattle.script_graph.proofs.Held.{looked_within, observed_nodes, rooted_looks, rooted_among, needed_held, stood_beside}
 use Rattle.script_graph.proofs.Leaving.{scopes_stay}
-use Rattle.script_graph.proofs.Looking.{roots_are, among_image, same_name}
-use Rattle.script_graph.proofs.Middle.{IsStabilize, middle, given, fits_then}
+use Rattle.script_graph.proofs.Looking.{IsRootName, of_observer, of_freeze, freeze_root, observer_root, root_name}
+use Rattle.script_graph.proofs.Middle.{IsStabilize, middle, given, fits_then, freezes_then, tops}
 use Rattle.script_graph.proofs.Watching.{roots_are_in}
 use Rattle.transfer.specs.Both.{Both, graph_outcome}
 use Rattle.transfer.specs.Holding.{ScopesStay, Later, HoldersAre, LastKept, MarksAreNew, Remembers}
-use Rattle.transfer.specs.Items.{node_at as place_node, CoveredBy, RootsAre}
-use Rattle.transfer.specs.Shows.{Fits, plain}
+use Rattle.transfer.specs.Items.{freeze_kid, node_at as place_node, CoveredBy, RootsAre}
+use Rattle.transfer.specs.Shows.{Declares, Fits, plain}
 use Rattle.transfer.proofs.Holding.{scopes_then}
 use Rattle.transfer.proofs.Typed.{body_entry}
 use Rattle.transfer.proofs.Working.{met_is_covered, work_is_covered}
@@ -81,17 +79,14 @@ every_one P x (y ∷ ys) all (inl e) = subst P (sym e) all.0
 every_one P x (y ∷ ys) all (inr among) = every_one P x ys all.1 among
 
 -- a root is declared
-root_entry : (F : Meanings) (s : State) → AllPlain s → Valid F s → (t : ℕ) → Among (Named t) (roots s) → (e : Entry) × (entry_at s t ≡ Some e)
-root_entry F s plain valid t among =
-    let o = among_image (λ (x : Observer). Named x.target) (Named t) s.observers (subst (Among (Named t)) (roots_are s plain) among) in
-    let target = (every_one (ValidObserver s) o.0 s.observers valid.observers o.1).target in
-    (target.entry, ap (entry_at s) (same_name t o.0.target o.2) ∙ target.stands)
-
--- what an observer looks at is a root
-pub observed_root : (s : State) (z : Observer) → Among z s.observers → Among (Named z.target) (roots s)
-observed_root s z among =
-    among_left (Named z.target) (map (λ (x : Observer). Named x.target) s.observers) (own_roots s 0 s.entries)
-    (among_map (λ (x : Observer). Named x.target) z s.observers among)
+root_entry : (F : Meanings) (s : State) → Valid F s → (t : ℕ) → Among (Named t) (roots s) → (e : Entry) × (entry_at s t ≡ Some e)
+root_entry F s valid t among =
+    by_name (root_name s t among)
+  where
+    by_name : IsRootName s t → (e : Entry) × (entry_at s t ≡ Some e)
+    by_name (of_observer x looks e) =
+        let target = (every_one (ValidObserver s) x s.observers valid.observers looks).target in (target.entry, ap (entry_at s) e ∙ target.stands)
+    by_name (of_freeze child predicate is) = let e = body_entry s t (Freeze child predicate None) is in (e.0, e.1)
 
 -- ---- the last accepted stabilize
 
@@ -130,37 +125,33 @@ module _ (named : List ℕ → Option FnRef) (value : FnRef → List GraphValue 
 
   -- ---- the pair is a later one
 
-  by_body : (owner : ℕ) (n : NodeId) (b : Option Body) → body_at s owner ≡ b
-      → ((d : Body) → b ≡ Some d → IsPlainBody (IsEarlierTarget s owner) (IsDeclaredTarget s) d)
-      → node_in k.nodes owner ≡ n → (f : Formula) → and_then b (λ d. and_then (formula_of_body d) (λ h. part_of h [])) ≡ Some f
-      → place_node y owner [] ≡ Some n
-  by_body owner n None is fine node f e = absurd (cc)
-  by_body owner n (Some (Variable v)) is fine node f e = absurd (cc)
-  by_body owner n (Some (Computed h kept)) is fine node f e = rw is (ap (λ (q : NodeId). Some q) node)
-  by_body owner n (Some (Grab bind v is_live)) is fine node f e = absurd (cc)
-  by_body owner n (Some (After time)) is fine node f e = absurd (cc)
-  by_body owner n (Some (Every base span)) is fine node f e = absurd (cc)
-  by_body owner n (Some b) is fine node f e = absurd (fine b refl).0
-
   whole_on : (owner : ℕ) (n : NodeId) → place_node left owner [] ≡ Some n → place_node y owner [] ≡ Some n
-  whole_on owner n at = go (body_at before owner) refl (λ d is. st.today.plain owner d is) at
+  whole_on owner n at = go (body_at before owner) refl at
     where
-      go : (b : Option Body) → body_at before owner ≡ b
-          → ((d : Body) → b ≡ Some d → IsPlainBody (IsEarlierTarget before owner) (IsDeclaredTarget before) d)
-          → place_node left owner [] ≡ Some n → place_node y owner [] ≡ Some n
-      go None is fine at = absurd (let e = rw is at at in cc)
-      go (Some (Variable v)) is fine at = absurd (let e = rw is at at in cc)
-      go (Some (Grab bind v is_live)) is fine at = absurd (let e = rw is at at in cc)
-      go (Some (Computed f kept)) is fine at =
-          let node : Some (node_in st.nodes owner) ≡ Some n = rw is at at in
-          let entry = body_entry before owner (Computed f kept) is in
-          let formula : formula_at before owner [] ≡ Some f =
-          ap (λ (b : Option Body). and_then b (λ d. and_then (formula_of_body d) (λ h. part_of h []))) is in
-          by_body owner n (body_at s owner) refl (λ d at. c.held.today.plain owner d at)
-          (st.still.names owner entry.0 entry.1 ∙ (cc)) f (st.still.formulas owner [] f formula)
-      go (Some (After time)) is fine at = absurd (let e = rw is at at in cc)
-      go (Some (Every base span)) is fine at = absurd (let e = rw is at at in cc)
-      go (Some b) is fine at = absurd (fine b refl).0
+      node : (b : Body) → body_at before owner ≡ Some b → node_in k.nodes owner ≡ node_in st.nodes owner
+      node b is = let entry = body_entry before owner b is in st.still.names owner entry.0 entry.1
+
+      go : (b : Option Body) → body_at before owner ≡ b → place_node left owner [] ≡ Some n → place_node y owner [] ≡ Some n
+      go None is at = absurd (let e = rw is at at in cc)
+      go (Some (Variable v)) is at = absurd (let e = rw is at at in cc)
+      go (Some (Grab bind v is_live)) is at = absurd (let e = rw is at at in cc)
+      go (Some (Computed f kept)) is at =
+          let was : Some (node_in st.nodes owner) ≡ Some n = rw is at at in
+          let now : body_at s owner ≡ Some (Computed f kept) = st.still.bodies owner (Computed f kept) refl is in
+          rw now (ap (λ (q : NodeId). Some q) (node (Computed f kept) is) ∙ was)
+      go (Some (After time)) is at = absurd (let e = rw is at at in cc)
+      go (Some (Every base span)) is at = absurd (let e = rw is at at in cc)
+      go (Some (Expert f first links stale)) is at = absurd (let e = rw is at at in cc)
+      go (Some (Freeze child predicate frozen)) is at =
+          let was : and_then (st.left.row (node_in st.nodes owner)) (λ (r : Row). freeze_kid r.def) ≡ Some n = rw is at at in
+          let now : body_at s owner ≡ Some (Freeze child predicate frozen) = st.still.bodies owner (Freeze child predicate frozen) refl is in
+          let shows : Declares left (node_in st.nodes owner) (Some (Freeze child predicate frozen)) = rw is at (st.fits.declared owner) in
+          let top = shows.1 in
+          let kid : freeze_kid top.0.def ≡ Some n = rw top.1 at was in
+          let on : row_at k.graph.nodes (node_in st.nodes owner) ≡ Some top.0 = st.still.freezes (node_in st.nodes owner) top.0 shows.0 predicate top.1 top.3 in
+          let there : row_at g.nodes (node_in k.nodes owner) ≡ Some top.0 =
+          ap (row_at g.nodes) (node (Freeze child predicate frozen) is) ∙ tops named value s k g c (node_in st.nodes owner) top.0 on top.2 in
+          rw (now, there) kid
 
   names_on : (n : ℕ) (o : Option Entry) → entry_at before n ≡ o
       → (y.nodes n ≡ left.nodes n) ⊎ ((entry_at before n ≡ None) × (y.graph.row (left.nodes n) ≡ None))
@@ -171,8 +162,10 @@ module _ (named : List ℕ → Option FnRef) (value : FnRef → List GraphValue 
       let past : node_in st.nodes n ≡ no_node = node_past st.nodes n (omega (arith, high, each)) in
       inr (is, ap (row_at g.nodes) past ∙ never_given g.nodes c.sound'.nodes)
 
-  stay : ScopesStay (graph k.graph) (graph g)
-  stay = scopes_stay M k.graph g c.before c.after (given named value s k g c) c.sound.scopes c.built c.stays c.left
+  stay : ScopesStay (graph k.graph) y.graph
+  stay =
+      let h = scopes_stay M k.graph g c.before c.after (given named value s k g c) c.sound.scopes c.built c.stays c.left in
+      record { rows = h.rows; tops = h.tops; within = h.within; scopes = h.scopes; roots = h.roots }
 
   later : Later left y
   later = record {
@@ -181,7 +174,7 @@ module _ (named : List ℕ → Option FnRef) (value : FnRef → List GraphValue 
     targets = st.still.targets;
     names = λ n. names_on n (entry_at before n) refl;
     wholes = whole_on;
-    scopes = scopes_then left.graph (graph k.graph) (graph g) st.still.rows st.still.built
+    scopes = scopes_then left.graph (graph k.graph) y.graph st.still.rows st.still.built
         (λ n r b row scope. let q = st.scopes n r b row scope in (q.0, term.Bind (term.Ref q.1) q.2 (term.refs q.3), q.4, ap plain q.5))
         (λ b r row w is. st.still.lives b r row) stay;
   }
@@ -198,10 +191,18 @@ module _ (named : List ℕ → Option FnRef) (value : FnRef → List GraphValue 
       (c.sound.showing (graph_observer (node_in k.nodes) z.0) (rooted_among k.graph o (graph_observer (node_in k.nodes) z.0) looks.0 is.is) refl) in
       let among : Among z.0 s.observers = subst (Among z.0) (sym w.in_order) (among_there w.made o.0 z.0 z.1) in
       let root_then = st.watched z.0 among shows in
-      let entry = root_entry F before st.today.plain stands.valid.0 z.0.target root_then in
+      let entry = root_entry F before stands.valid.0 z.0.target root_then in
       let node : node_in k.nodes z.0.target ≡ n = (let e = sym (ap looked_at is.is) ∙ looks.1 in cc) in
-      (z.0.target, sym node ∙ st.still.names z.0.target entry.0 entry.1, root_then, observed_root s z.0 among)
-  holders (Freezing f) n root still = absurd (cc)
+      (z.0.target, sym node ∙ st.still.names z.0.target entry.0 entry.1, root_then, observer_root s z.0 among)
+  holders (Freezing f) n root still =
+      let w = st.freezes f n root in
+      let entry = body_entry before w.position (Freeze w.child w.predicate None) w.was in
+      let now = st.still.bodies w.position (Freeze w.child w.predicate None) refl w.was in (
+        w.position,
+        sym w.node,
+        freeze_root before w.position w.child w.predicate w.was,
+        freeze_root s w.position w.child w.predicate now,
+      )
 
   last : LastKept left (side_of k.graph)
   last v is need =
@@ -209,7 +210,7 @@ module _ (named : List ℕ → Option FnRef) (value : FnRef → List GraphValue 
       (w.node, w.is_node, ap arguments_of w.is_last ∙ ap (λ (vs : List GraphValue). Some vs) w.values_are)
 
   marks : MarksAreNew left y (side_of k.graph)
-  marks v n is need at stale = absurd (cc)
+  marks v n is need at stale same = st.marks v n is need at stale same
 
   pub remembers : Remembers left y (side_of k.graph) (observed_by k.graph)
   remembers = record {
@@ -227,7 +228,7 @@ module _ (named : List ℕ → Option FnRef) (value : FnRef → List GraphValue 
   -- ---- what is met, and which calls are due
 
   pub observed_are_roots : RootsAre y (in_use k.graph.observers)
-  observed_are_roots = roots_are_in F s k M g.nodes g.work y.died c.held.today.plain stands.matches.watches
+  observed_are_roots = roots_are_in y k (λ t. refl) fits.declared (freezes_then named value s k g c) stands.matches.watches
 
   roots_now : RootsAre y (nodes_of (observed_by k.graph))
   roots_now = subst (RootsAre y) (sym (observed_nodes 0 k.graph.observers)) observed_are_roots

@@ -5,7 +5,7 @@ use Rattle.inc_value.specs.declared.outcome.Outcome.TheVariants as outcome
 use Rattle.inc_terms.proofs.Same.{outcome_decides}
 use Rattle.inc_terms.specs.Graph.{Row, Built as BuiltFor}
 use Rattle.inc_terms.specs.Term as term
-use Rattle.script_model.specs.Formula.{Body, Formula, Kept as KeptOf, body_at, Name, Bound, Bind, Variable, Computed, After, Every, Grab}
+use Rattle.script_model.specs.Formula.{Body, Formula, Kept as KeptOf, body_at, Name, Bound, Bind, Variable, Computed, Freeze, After, Every, Expert, Grab}
 use Rattle.script_model.specs.Need.{Inside}
 use Rattle.script_model.specs.Values.{Value}
 use Rattle.script_graph.specs.Today.{AllPlain, IsDeclaredTarget, IsEarlierTarget, IsPlainBody}
@@ -73,4 +73,5 @@ module _ (x : Both) (fits : Fits x) where
       by_body (Grab b v l) own fine d = absurd own
       by_body (After time) own fine d = (d.0, d.1, d.2)
       by_body (Every base span) own fine (d, alike) = (d.0, d.1, d.2)
-      by_body c own fine d = absurd fine.0
+      by_body (Freeze child predicate frozen) own fine (kid, d, shows, keeps) = (d.0, d.1, d.2)
+      by_body (Expert f first links stale) own fine (kids, d, lists) = (d.0, d.1, d.2)

@@ -7,10 +7,10 @@ use Rattle.script_functions.specs.Bodies as Bodies
 use Rattle.script_model.specs.Formula.{State, Body, Formula, Observer, Meanings, Computed, Bind, bind_at, body_at, places_of}
 use Rattle.script_graph.specs.Kept.{Kept, arena_of, node_in}
 use Rattle.script_graph.specs.Represents.{beside, besides, Represents}
-use Rattle.script_graph.specs.Today.{IsWithin, IsPartWithin, OwnNodesOf}
+use Rattle.script_graph.specs.Today.{FreezesAreDeclared, IsWithin, IsPartWithin, OwnNodesOf}
 use Rattle.inc_terms.proofs.Unfolding.{AnyFunction}
 use Rattle.script_graph.proofs.Extending.{KeepsGraph, body_within, built_still, declares_still, same_serve, still_counts}
-use Rattle.script_graph.proofs.Owning.{own_nodes_of_on}
+use Rattle.script_graph.proofs.Owning.{freeze_on, own_nodes_of_on}
 use Rattle.transfer.specs.Keeping.{AnyNode, NodesApart}
 use Rattle.transfer.specs.Shows.{Declares}
 use Rattle.transfer.proofs.Typed.{bind_body}
@@ -22,6 +22,7 @@ observed_so s observers accepted = record s { observers = observers; accepted = 
 -- what has the same room, nodes of names, bodies and graph represents it
 module _ (F : Meanings) (s : State) (observers : List Observer) (accepted : ℕ) (k new : Kept) (room : new.room ≡ k.room) (nodes : new.nodes ≡ k.nodes)
     (bodies : new.bodies ≡ k.bodies) (arena : arena_of new ≡ arena_of k) (built : (n : NodeId) → (graph new.graph).built n ≡ (graph k.graph).built n)
+    (frozen : (n : NodeId) → (graph new.graph).frozen n ≡ (graph k.graph).frozen n) (lists : (n : NodeId) → (graph new.graph).lists n ≡ (graph k.graph).lists n)
     (held : Represents F s k) where
   abbrev then : State
   then = observed_so s observers accepted
@@ -31,6 +32,7 @@ module _ (F : Meanings) (s : State) (observers : List Observer) (accepted : ℕ)
     rows = λ n r u is def. ap (λ (a : Arena). row_at a n) arena ∙ is;
     dead = λ n given is. ap (λ (a : Arena). row_at a n) arena ∙ is;
     built = λ n given. built n;
+    frozen = λ n given. frozen n;
   }
 
   node : (n : ℕ) → node_in new.nodes n ≡ node_in k.nodes n
@@ -44,7 +46,8 @@ module _ (F : Meanings) (s : State) (observers : List Observer) (accepted : ℕ)
       subst (λ (bs : List Bodies.Body). Declares (besides F then new.nodes bs (graph new.graph)) (node_in new.nodes n) (Some b)) (sym bodies)
       (declares_still AnyNode F s k held (λ j c at. tt) then new.nodes k.bodies AnyFunction (same_serve F k) new.graph keeps (λ t low. node t) n b is
       (λ e r row. ap (λ (a : Arena). row_at a (node_in k.nodes n)) arena ∙ row)
-      (λ base span e alike. still_counts k new.graph s base span (ap (λ (a : Arena). a.time) arena) alike))
+      (λ base span e alike. still_counts k new.graph s base span (ap (λ (a : Arena). a.time) arena) alike)
+      (λ f first links stale e. lists (node_in k.nodes n)))
 
   bind_within : (n : ℕ) (left body : Formula) → bind_at s n ≡ Some (left, body) → n < length s.entries
   bind_within n left body is = let b = bind_body s n left body is in body_within s n (Computed (Bind left body) b.0) b.1
@@ -67,6 +70,9 @@ module _ (F : Meanings) (s : State) (observers : List Observer) (accepted : ℕ)
       aged = λ n b is.
           subst (λ (ns : List NodeId). OwnNodesOf (graph new.graph) (IsWithin ns n) (IsPartWithin ns n) (node_in ns n) b) (sym nodes)
           (own_nodes_of_on (graph k.graph) (graph new.graph) (IsWithin k.nodes n) (IsWithin k.nodes n) (IsPartWithin k.nodes n) (IsPartWithin k.nodes n)
-          (λ q h. h) (λ q h. h) keeps.rows (node_in k.nodes n) b (held.today.aged n b is));
+          (λ q h. h) (λ q h. h) keeps.rows (λ q r kid f row def. ap (λ (a : Arena). row_at a q) arena ∙ row) (node_in k.nodes n) b (held.today.aged n b is));
+      freezes = subst (λ (ns : List NodeId). FreezesAreDeclared (graph new.graph) then ns) (sym nodes)
+          (λ n r kid f row def. freeze_on s then k.nodes n (λ j b has is. is)
+          (held.today.freezes n r kid f (ap (λ (a : Arena). row_at a n) (sym arena) ∙ row) def));
     };
   }

@@ -16,20 +16,20 @@ use Rattle.graph.specs.Standing.{GraphView, graph as graph_of}
 use Rattle.node_arena.specs.Arena.{row_at, with_value}
 use Rattle.node_arena.specs.Sound as arena
 use Rattle.script_model.specs.Check.{Assign, Declared, Names, declared_of, kind_of_body, is_variable, names_of, target_of_body}
-use Rattle.script_model.specs.Formula.{State, Body, Entry, Formula, Meanings, meanings_of, bind_at, bind_of, body_at, built_at, built_of_body, entry_at, formula_of_body, places_of_body, Name, Bind, Variable, Computed, Every, Grab}
-use Rattle.script_model.specs.Need.{Edge, part_of, formula_at}
+use Rattle.script_model.specs.Formula.{State, Body, Entry, Formula, Meanings, meanings_of, bind_at, bind_of, body_at, built_at, built_of_body, entry_at, formula_of_body, places_of_body, Name, Bind, Variable, Computed, Freeze, Every, Expert, Grab}
+use Rattle.script_model.specs.Need.{Edge, part_of, formula_at, stamp_of_body}
 use Rattle.script_model.specs.Step.{Moment, changed_at, with_body, moved}
 use Rattle.script_model.specs.Values.{Value}
 use Rattle.script_graph.specs.Kept.{Kept, arena_of, node_in, no_node}
 use Rattle.script_graph.specs.Represents.{AreNames, beside, BuiltAlike, BuiltRefers, Represents, Watches}
-use Rattle.script_graph.specs.Settled.{ScopesBuilt, Settled}
+use Rattle.script_graph.specs.Settled.{BodiesStay, FreezesStay, ScopesBuilt, Settled, StampsGrow}
 use Rattle.script_graph.specs.Today.{IsPlainBody, IsEarlierTarget, IsDeclaredTarget, AllPlain, IsWithin, IsPartWithin, OwnNodesOf}
 use Rattle.script_graph.specs.State.{MatchesMoment}
 use Rattle.inc_terms.proofs.Unfolding.{AnyFunction}
 use Rattle.script_graph.proofs.Carrying.{watches_on, leaves_beside, settled_on}
 use Rattle.script_graph.proofs.Declaring.{plain_body_more, fitting_refers}
 use Rattle.script_graph.proofs.Extending.{KeepsGraph, NodesGiven, StandsAlone, body_past, body_within, built_still, declares_still, never_given, node_past, same_serve, still_counts}
-use Rattle.script_graph.proofs.Owning.{own_nodes_of_on}
+use Rattle.script_graph.proofs.Owning.{freeze_on, own_nodes_of_on}
 use Rattle.script_graph.proofs.Referring.{outcome_refers_more, value_refers_more}
 use Rattle.transfer.specs.Both.{graph_outcome, graph_value}
 use Rattle.transfer.specs.Items.{FormulasStay, GrabsStay}
@@ -39,26 +39,26 @@ use Rattle.transfer.proofs.Typed.{bind_body, body_entry}
 
 -- ---- declarations, one of which changes
 
-with_other : (change : Body → Body) (es : List Entry) (t n : ℕ) → (n ≡ t → ⊥) → slice_get (with_body change es t) n ≡ slice_get es n
+pub with_other : (change : Body → Body) (es : List Entry) (t n : ℕ) → (n ≡ t → ⊥) → slice_get (with_body change es t) n ≡ slice_get es n
 with_other change [] t n other = refl
 with_other change (e ∷ es) zero zero other = absurd (other refl)
 with_other change (e ∷ es) zero (suc n) other = refl
 with_other change (e ∷ es) (suc t) zero other = refl
 with_other change (e ∷ es) (suc t) (suc n) other = with_other change es t n (λ same. other (ap (λ j. suc j) same))
 
-with_same : (change : Body → Body) (es : List Entry) (t : ℕ) (e : Entry) → slice_get es t ≡ Some e
+pub with_same : (change : Body → Body) (es : List Entry) (t : ℕ) (e : Entry) → slice_get es t ≡ Some e
     → slice_get (with_body change es t) t ≡ Some (record e { body = change e.body })
 with_same change [] t e is = absurd (cc)
 with_same change (d ∷ es) zero e is = let same : d ≡ e = cc in ap (λ (x : Entry). Some (record x { body = change x.body })) same
 with_same change (d ∷ es) (suc t) e is = with_same change es t e is
 
-with_length : (change : Body → Body) (es : List Entry) (t : ℕ) → length (with_body change es t) ≡ length es
+pub with_length : (change : Body → Body) (es : List Entry) (t : ℕ) → length (with_body change es t) ≡ length es
 with_length change [] t = refl
 with_length change (e ∷ es) zero = refl
 with_length change (e ∷ es) (suc t) = ap (λ n. suc n) (with_length change es t)
 
 -- where the change keeps what a declaration is as a name, so do all
-with_names : (change : Body → Body) (es : List Entry) (t : ℕ) (e : Entry) → slice_get es t ≡ Some e
+pub with_names : (change : Body → Body) (es : List Entry) (t : ℕ) (e : Entry) → slice_get es t ≡ Some e
     → declared_of (record e { body = change e.body }) ≡ declared_of e → map declared_of es ≡ map declared_of (with_body change es t)
 with_names change [] t e is same = refl
 with_names change (d ∷ es) zero e is same =
@@ -67,7 +67,7 @@ with_names change (d ∷ es) zero e is same =
 with_names change (d ∷ es) (suc t) e is same = ap (λ (ds : List Declared). declared_of d ∷ ds) (with_names change es t e is same)
 
 -- what all bodies amount to, where that of the changed one stays
-with_amounts : (amount : Body → ℕ) (change : Body → Body) (es : List Entry) (t : ℕ) (e : Entry) → slice_get es t ≡ Some e
+pub with_amounts : (amount : Body → ℕ) (change : Body → Body) (es : List Entry) (t : ℕ) (e : Entry) → slice_get es t ≡ Some e
     → amount (change e.body) ≡ amount e.body
     → sum_by (λ (d : Entry). amount d.body) (with_body change es t) ≡ sum_by (λ (d : Entry). amount d.body) es
 with_amounts amount change [] t e is same = refl
@@ -104,9 +104,11 @@ variable_entry names s same target value fits = go (slice_get s.entries target) 
         by_entry (Some e) at is = let v = variable_kind e.body is in (e, v.0, at, v.1)
 
 -- what stands alone is its own target
-alone_target : (n : ℕ) (b : Body) → StandsAlone b → target_of_body n b ≡ n
+pub alone_target : (n : ℕ) (b : Body) → StandsAlone b → target_of_body n b ≡ n
 alone_target n (Variable v) alone = refl
 alone_target n (Every base span) alone = refl
+alone_target n (Freeze child predicate frozen) alone = refl
+alone_target n (Expert f first links stale) alone = refl
 alone_target n b alone = absurd alone
 
 -- ---- what is kept
@@ -168,6 +170,16 @@ module _ (named : List ℕ → Option FnRef) (value : FnRef → List GraphValue 
         ap (λ (o : Option Body). and_then o (λ b. and_then (formula_of_body b) (λ g. part_of g path))) (ap (body_at s) same ∙ was) in
         cc
 
+    -- what has a formula is another declaration
+    bodies_on : BodiesStay s s'
+    bodies_on n b has is = elim (cases_eq n target) [
+      | inl same ↦ absurd (
+          let e : Some b ≡ Some (Variable u) = sym is ∙ (ap (body_at s) same ∙ was) in
+          let one : b ≡ Variable u = cc in
+          let none = subst (λ (c : Body). IsSome (formula_of_body c)) one has in cc)
+      | inr other ↦ others n other ∙ is
+    ]
+
     formulas_on : FormulasStay s s'
     formulas_on owner path f is =
         ap (λ (o : Option Body). and_then o (λ b. and_then (formula_of_body b) (λ g. part_of g path))) (others owner (other_owner owner path f is)) ∙ is
@@ -176,6 +188,12 @@ module _ (named : List ℕ → Option FnRef) (value : FnRef → List GraphValue 
     body_stays n b is = elim (cases_eq n target) [
       | inl same ↦ (Variable v, ap (body_at s') same ∙ now)
       | inr other ↦ (b, others n other ∙ is)
+    ]
+
+    stamps_grow : StampsGrow s s'
+    stamps_grow n = elim (cases_eq n target) [
+      | inl same ↦ (let e = ap stamp_of_body (ap (body_at s) same ∙ was) in omega (arith, e))
+      | inr other ↦ (let e = ap stamp_of_body (others n other) in omega (arith, e))
     ]
 
     module _ (held : Represents F s k) where
@@ -205,7 +223,24 @@ module _ (named : List ℕ → Option FnRef) (value : FnRef → List GraphValue 
             (λ same. let none : row_at (arena_of k) (node_in k.nodes target) ≡ None = ap (row_at (arena_of k)) (sym same) ∙ is in
             none-some old.0 (sym none ∙ old.1)) ∙ is;
         built = sets.beside.of_nodes.built;
+        frozen = sets.beside.of_nodes.frozen;
       }
+
+      freeze_stays : FreezesStay (graph_of k.graph) (graph_of g)
+      freeze_stays n r kid f is def = row_other n r (λ same.
+          let row : r ≡ old.0 = same_row r old.0 (ap (row_at (arena_of k)) (sym same) ∙ is) old.1 in
+          let clash : graph.Freeze kid f ≡ graph.Var (graph_value (node_in k.nodes) u) = sym def ∙ (ap (λ (q : Row). q.def) row ∙ old.3) in cc) is
+
+      -- a live freeze is as it was
+      freeze_was : (n : NodeId) (r : Row) (kid : NodeId) (f : FnRef) → row_at g.nodes n ≡ Some r → r.def ≡ graph.Freeze kid f
+          → row_at (arena_of k) n ≡ Some r
+      freeze_was n r kid f is def = elim (node_or n (node_in k.nodes target)) [
+        | inl same ↦ absurd (
+            let here : Some (with_value sets.set.row w) ≡ Some r = sym sets.set.changes.changed ∙ (ap (row_at g.nodes) (sym same) ∙ is) in
+            let rows : with_value sets.set.row w ≡ r = cc in
+            let clash : graph.Var w ≡ graph.Freeze kid f = ap (λ (q : Row). q.def) rows ∙ def in cc)
+        | inr other ↦ sym (sets.set.changes.others n other) ∙ is
+      ]
 
       lives : (n : NodeId) (r : Row) → row_at (arena_of k) n ≡ Some r → (q : Row) × (row_at g.nodes n ≡ Some q)
       lives n r is = elim (node_or n (node_in k.nodes target)) [
@@ -256,6 +291,7 @@ module _ (named : List ℕ → Option FnRef) (value : FnRef → List GraphValue 
             declares_still Of F s k held given s' k.nodes k.bodies AnyFunction (same_serve F k) g keeps (λ t low. refl) n b here
             (λ alone r row. row_other (node_in k.nodes n) r (apart n b here (alone_target n b alone) other) row)
             (λ base span e alike. still_counts k g s base span sets.set.changes.time alike)
+            (λ f first links stale e. sets.beside.of_nodes.lists (node_in k.nodes n) (given n b here))
       ]
 
       plain_each : AreNames k.names s → AllPlain s'
@@ -277,7 +313,8 @@ module _ (named : List ℕ → Option FnRef) (value : FnRef → List GraphValue 
             subst (λ (c : Body). OwnNodesOf (graph_of g) (IsWithin k.nodes n) (IsPartWithin k.nodes n) (node_in k.nodes n) c) body
             (held.today.aged n (Variable u) (ap (body_at s) same ∙ was))
         | inr other ↦ own_nodes_of_on (graph_of k.graph) (graph_of g) (IsWithin k.nodes n) (IsWithin k.nodes n)
-            (IsPartWithin k.nodes n) (IsPartWithin k.nodes n) (λ q h. h) (λ q h. h) stays (node_in k.nodes n) b (held.today.aged n b (sym (others n other) ∙ is))
+            (IsPartWithin k.nodes n) (IsPartWithin k.nodes n) (λ q h. h) (λ q h. h) stays freeze_stays (node_in k.nodes n) b
+            (held.today.aged n b (sym (others n other) ∙ is))
       ]
 
       targets_each : (n : ℕ) (d : Entry) → entry_at s' n ≡ Some d → d.target ≡ target_of_body n d.body
@@ -351,6 +388,7 @@ module _ (named : List ℕ → Option FnRef) (value : FnRef → List GraphValue 
         today = record {
           plain = plain_each names;
           aged = aged_each;
+          freezes = λ n r kid f row def. freeze_on s s' k.nodes n bodies_on (held.today.freezes n r kid f (freeze_was n r kid f row def) def);
         };
       }
 
@@ -366,7 +404,7 @@ module _ (named : List ℕ → Option FnRef) (value : FnRef → List GraphValue 
     ]
 
     watches_after : MatchesMoment F k m → Watches s' new
-    watches_after h = watches_on s s' k new sets.beside refl refl refl refl (λ n b is. refl) given body_stays target_on h.watches
+    watches_after h = watches_on s s' k new sets.beside.observers refl refl refl refl (λ n b is. refl) given body_stays target_on h.watches
 
     grabs_live : GrabsStay s s'
     grabs_live n b q live = elim (cases_eq n target) [
@@ -376,11 +414,19 @@ module _ (named : List ℕ → Option FnRef) (value : FnRef → List GraphValue 
 
     settled_after : MatchesMoment F k m → m.broken ≡ None → Settled F m.settled s' new
     settled_after h whole =
-        settled_on F m.settled s s' k new (leaves_beside k new sets.beside (let same = sets.given in omega (arith, same))) (record {
+        settled_on F m.settled s s' k new
+        (leaves_beside k new sets.beside (let same = sets.given in omega (arith, same))
+        (λ n r kid f low row def. freeze_was (h.represents whole) n r kid f row def))
+        (record {
+          stamps = stamps_grow;
+          marks = λ n low marked. inl (sym (sets.beside.of_nodes.marks n low) ∙ marked);
+        }) (record {
           formulas = formulas_on;
+          bodies = bodies_on;
           targets = targets_on;
           names = λ n d is. refl;
           rows = stays (h.represents whole);
+          freezes = freeze_stays (h.represents whole);
           lives = lives (h.represents whole);
           built = λ n q is. sets.beside.of_nodes.built n (sound.given n (rw is refl));
         }) grabs_live (scopes_still (h.represents whole)) (λ x among is. among) (h.settled whole)

@@ -2,7 +2,6 @@
 use Rattle.std.proofs.Common.{◌≡◌, ℕ, zero, suc, ◌+◌, List, [], ◌∷◌, ◌++◌, map, length, Option, None, Some, option_map, refl, ap, sym, subst, ◌∙◌, arith, slice_get}
 use Rattle.std.specs.List.{AllZip}
 use Rattle.inc_value.specs.declared.node.ObsId.{ObsId}
-use Rattle.inc_value.specs.declared.node.NodeId.{NodeId}
 use Rattle.inc_value.specs.declared.outcome.Outcome.{Outcome as GraphOutcome}
 use Rattle.inc_terms.specs.Same as engine
 use Rattle.graph.specs.Standing.{GraphView, shows_now}
@@ -23,9 +22,6 @@ use Rattle.script_graph.proofs.Told.{told_at, told_length, told_looked, none_tol
 use Rattle.transfer.specs.Both.{graph_outcome}
 
 module _ (F : Meanings) (s : State) (k : Kept) (g : GraphView (Unit {0})) where
-  abbrev N : ℕ → NodeId
-  N = node_in k.nodes
-
   -- what an observer shows then: what its target gives, which refers to what is declared, and the graph shows it; what was told of it last does, too, and
   -- is another outcome in the graph where it is another one in the script
   pub record ShowsThen (x : Observer) (p : Outcome) : Type 0 where

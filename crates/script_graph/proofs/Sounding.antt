@@ -1,24 +1,25 @@
 -- What is kept of a script still fits together.
-use Rattle.std.proofs.Common.{◌≡◌, ◌⊎◌, inl, inr, ℕ, ◌+◌, ◌<◌, ◌≤◌, List, [], ◌∷◌, ◌++◌, length, Option, None, Some, IfSome, IsSome, refl, ap, sym, subst, ◌∙◌, arith, slice_get}
+use Rattle.std.proofs.Common.{◌≡◌, ◌⊎◌, inl, inr, ℕ, ◌<◌, ◌≤◌, List, [], ◌∷◌, ◌++◌, length, Option, None, Some, IfSome, IsSome, refl, ap, sym, subst, ◌∙◌, arith, slice_get}
 use Rattle.std.proofs.lemmas.Bool.{cases_eq}
 use Rattle.std.proofs.lemmas.List.{length-append, get_or_append_left, get_or_at}
 use Rattle.std.proofs.lemmas.Option.{slice_get_within}
-use Rattle.graph.specs.Effects.{Sets}
+use Rattle.graph.specs.Effects.{Sets, TakesBeside}
 use Rattle.graph.specs.Standing.{GraphView, IsUnbroken}
 use Rattle.observers.specs.Observers.{node_at}
 use Rattle.observers.specs.declared.observer.Observer.{Observer as Looking}
 use Rattle.inc_value.specs.declared.node.NodeId.{NodeId}
 use Rattle.inc_value.specs.declared.ty.Ty.{Ty}
 use Rattle.inc_value.specs.declared.value.Value.{Value as GraphValue}
-use Rattle.inc_terms.specs.Graph.{Row, Bind, Var}
+use Rattle.inc_terms.specs.Graph as graph_def
+use Rattle.inc_terms.specs.Graph.{Row, Var}
 use Rattle.inc_terms.specs.Within.{Given}
 use Rattle.link_table.proofs.Lists.{get_append_last, get_append_other}
 use Rattle.node_arena.specs.Arena.{Arena, row_at, IsVariable, with_value}
 use Rattle.node_arena.specs.Typing.{Fits}
 use Rattle.script_functions.specs.Bodies as Bodies
 use Rattle.node_arena.specs.Sound as arena
-use Rattle.script_model.specs.Check.{Declared, Kind, Grab as GrabKind, kind_of_body, target_of_body}
-use Rattle.script_model.specs.Formula.{Body}
+use Rattle.script_model.specs.Check.{Declared, Kind, Expert as ExpertKind, Grab as GrabKind, kind_of_body, target_of_body}
+use Rattle.script_model.specs.Formula.{Body, Bind, Computed, Expert}
 use Rattle.script_graph.specs.Growing.{Extends}
 use Rattle.script_graph.specs.Kept.{Kept, arena_of, node_in, no_node}
 use Rattle.script_graph.specs.Sound.{AreFew, HasTarget, HasLiveNode, HasNode, HaveNodes, IsLiveBind, IsSoundSession, weight_at, weight_of}
@@ -31,6 +32,13 @@ use Rattle.script_graph.proofs.Making.{row_fits}
 abbrev pub declared_at : ℕ → List ℕ → Ty → Body → Declared
 declared_at n name ty body = record { name = name; ty = ty; kind = kind_of_body body; target = target_of_body n body }
 
+-- an expert stands for itself
+expert_itself : (n : ℕ) (body : Body) (element : Ty) → kind_of_body body ≡ ExpertKind element → target_of_body n body ≡ n
+expert_itself n (Expert f first links stale) element is = refl
+expert_itself n (Computed (Bind left body) kept) element is = refl
+expert_itself n (Computed f kept) element is = absurd (cc)
+expert_itself n body element is = refl
+
 -- a declaration stands at its place still, with one more behind it
 pub declared_still : (ds : List Declared) (last : Declared) (n : ℕ) (d : Declared) → slice_get ds n ≡ Some d → slice_get (ds ++ last ∷ []) n ≡ Some d
 declared_still ds last n d is = let low = slice_get_within ds n d is in get_append_other ds last n (λ e. absurd (omega (arith, low, e))) ∙ is
@@ -41,6 +49,10 @@ variable_on a a' n stay v = record { row = v.row; value = v.value; there = stay 
 
 pub bind_on : (a a' : Arena) (n : NodeId) → ((r : Row) → row_at a n ≡ Some r → row_at a' n ≡ Some r) → IsLiveBind a n → IsLiveBind a' n
 bind_on a a' n stay (r, left, f, captures, is, def) = (r, left, f, captures, stay r is, def)
+
+pub expert_on : (a a' : Arena) (n : NodeId) (element : Ty) → ((r : Row) → row_at a n ≡ Some r → row_at a' n ≡ Some r) → TakesBeside a n element
+    → TakesBeside a' n element
+expert_on a a' n element stay (r, f, first, kids, is, def, takes) = (r, f, first, kids, stay r is, def, takes)
 
 kind_or : (k : Kind) → (k ≡ GrabKind) ⊎ (k ≡ GrabKind → ⊥)
 kind_or GrabKind = inl refl
@@ -82,6 +94,8 @@ module _ (k : Kept) (h : IsSoundSession k) (sound : arena.IsSoundArena (arena_of
       outside = node.outside;
       variable = λ kind. variable_on (arena_of k) g.nodes (node_in k.nodes n) (live_stays k.graph g sound more (node_in k.nodes n)) (node.variable kind);
       bind = λ kind. bind_on (arena_of k) g.nodes (node_in k.nodes n) (live_stays k.graph g sound more (node_in k.nodes n)) (node.bind kind);
+      expert = λ element kind.
+          expert_on (arena_of k) g.nodes (node_in k.nodes n) element (live_stays k.graph g sound more (node_in k.nodes n)) (node.expert element kind);
     }
 
     -- a given node that fits a type does so still
@@ -94,6 +108,7 @@ module _ (k : Kept) (h : IsSoundSession k) (sound : arena.IsSoundArena (arena_of
     node_on : (n : ℕ) (d : Declared) → HasNode (arena_of k) k.names.declared k.nodes n d → HasNode g.nodes k.names.declared k.nodes n d
     node_on n d node = record {
       target = node.target;
+      expert = node.expert;
       live = λ itself no_grab. live_on n d (node.live itself no_grab);
       grab = λ itself grab. fits_on (node_in k.nodes n) d.ty (node.grab itself grab);
     }
@@ -150,6 +165,7 @@ module _ (k : Kept) (h : IsSoundSession k) (sound : arena.IsSoundArena (arena_of
         outside = node.outside;
         variable = λ kind. subst (λ (q : NodeId). IsVariable g.nodes q) (sym (node_low n d is)) (node.variable kind);
         bind = λ kind. subst (λ (q : NodeId). IsLiveBind g.nodes q) (sym (node_low n d is)) (node.bind kind);
+        expert = λ element kind. subst (λ (q : NodeId). TakesBeside g.nodes q element) (sym (node_low n d is)) (node.expert element kind);
       }
 
       has_old : (n : ℕ) (d : Declared) → slice_get k.names.declared n ≡ Some d → HasNode g.nodes new.names.declared new.nodes n d
@@ -157,6 +173,7 @@ module _ (k : Kept) (h : IsSoundSession k) (sound : arena.IsSoundArena (arena_of
           let node = node_on n d (h.has_nodes n d is) in
           record {
             target = target_old n d is node.target;
+            expert = node.expert;
             live = λ itself no_grab. live_old n d is (node.live itself no_grab);
             grab = λ itself grab. subst (λ (q : NodeId). Given g.nodes.given q × Fits g.nodes q d.ty) (sym (node_low n d is)) (node.grab itself grab);
           }
@@ -179,6 +196,7 @@ module _ (k : Kept) (h : IsSoundSession k) (sound : arena.IsSoundArena (arena_of
             (subst (λ (j : ℕ). HasNode g.nodes new.names.declared new.nodes j last) (sym e.0)
             (record {
               target = target;
+              expert = λ element kind. expert_itself (length k.names.declared) body element kind;
               live = λ itself other. live itself other;
               grab = λ itself grab. subst (λ (q : NodeId). Given g.nodes.given q × Fits g.nodes q ty) (sym node_new) (grab_fits grab);
             }))
@@ -248,8 +266,17 @@ module _ (k : Kept) (h : IsSoundSession k) (sound : arena.IsSoundArena (arena_of
     bind_set v p (r, left, f, captures, is, def) = elim (node_or p n) [
       | inl same ↦ absurd (
           let row : r ≡ v.row = same_row n r v.row (ap (row_at (arena_of k)) (sym same) ∙ is) v.there in
-          let clash : Bind left f captures ≡ Var v.value = sym def ∙ (ap (λ (q : Row). q.def) row ∙ v.variable) in cc)
+          let clash : graph_def.Bind left f captures ≡ Var v.value = sym def ∙ (ap (λ (q : Row). q.def) row ∙ v.variable) in cc)
       | inr other ↦ (r, left, f, captures, sets.set.changes.others p other ∙ is, def)
+    ]
+
+    -- nor is an expert
+    expert_set : IsVariable (arena_of k) n → (p : NodeId) (element : Ty) → TakesBeside (arena_of k) p element → TakesBeside g.nodes p element
+    expert_set v p element (r, f, first, kids, is, def, takes) = elim (node_or p n) [
+      | inl same ↦ absurd (
+          let row : r ≡ v.row = same_row n r v.row (ap (row_at (arena_of k)) (sym same) ∙ is) v.there in
+          let clash : graph_def.Expert f first kids ≡ Var v.value = sym def ∙ (ap (λ (q : Row). q.def) row ∙ v.variable) in cc)
+      | inr other ↦ (r, f, first, kids, sets.set.changes.others p other ∙ is, def, takes)
     ]
 
     live_set : IsVariable (arena_of k) n → (i : ℕ) (d : Declared) → HasLiveNode (arena_of k) k.nodes i d → HasLiveNode g.nodes k.nodes i d
@@ -262,6 +289,7 @@ module _ (k : Kept) (h : IsSoundSession k) (sound : arena.IsSoundArena (arena_of
           outside = r.3 ∙ node.outside;
           variable = λ kind. variable_set (node_in k.nodes i) (node.variable kind);
           bind = λ kind. bind_set v (node_in k.nodes i) (node.bind kind);
+          expert = λ element kind. expert_set v (node_in k.nodes i) element (node.expert element kind);
         }
 
     fits_set : (p : NodeId) (t : Ty) → Given (arena_of k).given p × Fits (arena_of k) p t → Given g.nodes.given p × Fits g.nodes p t
@@ -279,6 +307,7 @@ module _ (k : Kept) (h : IsSoundSession k) (sound : arena.IsSoundArena (arena_of
     has_set : IsVariable (arena_of k) n → (i : ℕ) (d : Declared) → HasNode (arena_of k) k.names.declared k.nodes i d → HasNode g.nodes k.names.declared k.nodes i d
     has_set v i d node = record {
       target = node.target;
+      expert = node.expert;
       live = λ itself no_grab. live_set v i d (node.live itself no_grab);
       grab = λ itself grab. fits_set (node_in k.nodes i) d.ty (node.grab itself grab);
     }

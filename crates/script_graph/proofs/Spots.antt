@@ -1,10 +1,10 @@
--- How many calls one visit of each place makes: the places of a state that call functions, whatever the values of the binds round them.
-use Rattle.std.proofs.Common.{◌≡◌, inr, ℕ, zero, suc, true, ◌+◌, ◌≤◌, List, [], ◌∷◌, ◌++◌, map, Some, sym, subst, arith, slice_get}
+-- How many calls one visit of each place and each name makes: those of a state that call functions, whatever the values of the binds round them.
+use Rattle.std.proofs.Common.{◌≡◌, inr, ℕ, zero, suc, true, ◌+◌, ◌≤◌, List, [], ◌∷◌, ◌++◌, map, length, Option, None, Some, sym, subst, arith, slice_get}
 use Rattle.std.specs.List.{sum_by}
 use Rattle.std.proofs.lemmas.List.Sums.{sum_by-append, sum_by-cons}
 use Rattle.inc_terms.proofs.Plan.{among_left, among_right}
 use Rattle.inc_value.specs.Choice.{Among, and_then}
-use Rattle.script_model.specs.Formula.{State, Entry, Body, Formula, Formulas, body_at, formula_of_body, Literal, Name, Bound, Apply, Fold, If, Join, Bind, At, Steps, Now, End, More, Variable, Computed, After, Every, Grab}
+use Rattle.script_model.specs.Formula.{State, Entry, Body, Formula, Formulas, body_at, formula_of_body, Literal, Name, Bound, Apply, Fold, If, Join, Bind, At, Steps, Now, End, More, Variable, Computed, Freeze, After, Every, Expert, Grab}
 use Rattle.script_model.specs.Need.{Edge, Argument, Test, Then, Else, Child, Left, Inside, argument_at, part_at, part_of, formula_at}
 use Rattle.script_model.specs.Laws.{bare}
 use Rattle.script_model.specs.Values as value
@@ -15,10 +15,10 @@ use Rattle.script_graph.proofs.Plain.{binds_round, laid_within}
 use Rattle.transfer.proofs.Places.{then_some}
 use Rattle.transfer.proofs.Typed.{body_entry}
 
--- a place, by its bare path, and how many calls of its function one visit makes
+-- a name, or a place by its bare path, and how many calls of its function one visit makes
 pub record Spot : Type 0 where
   pub owner : ℕ
-  pub path : List Edge
+  pub path : Option (List Edge)
   pub cost : ℕ
 
 -- into a bind's body, whatever its value
@@ -34,9 +34,9 @@ costs spots = sum_by (λ (y : Spot). y.cost) spots
 abbrev mutual
   -- the places that call functions, of a formula that stands at a path
   pub spots_in : ℕ → List Edge → Formula → List Spot
-  spots_in owner path (Apply f arguments) = record { owner = owner; path = path; cost = 1 } ∷ spots_each owner path 0 arguments
+  spots_in owner path (Apply f arguments) = record { owner = owner; path = Some path; cost = 1 } ∷ spots_each owner path 0 arguments
   spots_in owner path (Fold f first elements) =
-      record { owner = owner; path = path; cost = count_in elements } ∷ spots_each owner path 0 elements
+      record { owner = owner; path = Some path; cost = count_in elements } ∷ spots_each owner path 0 elements
   spots_in owner path (If test a b) =
       spots_in owner (Test ∷ path) test ++ (spots_in owner (Then ∷ path) a ++ spots_in owner (Else ∷ path) b)
   spots_in owner path (Join child) = spots_in owner (Child ∷ path) child
@@ -52,11 +52,11 @@ mutual
   formula_costs : (owner : ℕ) (path : List Edge) (f : Formula) → costs (spots_in owner path f) ≤ calls_in f
   formula_costs owner path (Apply f arguments) =
       let rest = each_costs owner path 0 arguments in
-      let all = sum_by-cons (λ (y : Spot). y.cost) (record { owner = owner; path = path; cost = 1 }) (spots_each owner path 0 arguments) in
+      let all = sum_by-cons (λ (y : Spot). y.cost) (record { owner = owner; path = Some path; cost = 1 }) (spots_each owner path 0 arguments) in
       omega (arith, rest, all)
   formula_costs owner path (Fold f first elements) =
       let rest = each_costs owner path 0 elements in
-      let all = sum_by-cons (λ (y : Spot). y.cost) (record { owner = owner; path = path; cost = count_in elements }) (spots_each owner path 0 elements) in
+      let all = sum_by-cons (λ (y : Spot). y.cost) (record { owner = owner; path = Some path; cost = count_in elements }) (spots_each owner path 0 elements) in
       omega (arith, rest, all)
   formula_costs owner path (If test a b) =
       let first = formula_costs owner (Test ∷ path) test in
@@ -147,6 +147,8 @@ module _ (owner : ℕ) (y : Spot) where
 
 abbrev spots_of_body : ℕ → Body → List Spot
 spots_of_body owner (Computed f kept) = spots_in owner [] f
+spots_of_body owner (Freeze child predicate frozen) = record { owner = owner; path = None; cost = 1 } ∷ spots_in owner [] child
+spots_of_body owner (Expert f first links stale) = record { owner = owner; path = None; cost = length links } ∷ []
 spots_of_body owner body = []
 
 -- those of declarations, from the n-th on
@@ -159,6 +161,13 @@ spots s = spots_from 0 s.entries
 
 body_costs : (n : ℕ) (b : Body) → costs (spots_of_body n b) ≤ calls_of_body b
 body_costs n (Computed f kept) = formula_costs n [] f
+body_costs n (Freeze child predicate frozen) =
+    let rest = formula_costs n [] child in
+    let all = sum_by-cons (λ (y : Spot). y.cost) (record { owner = n; path = None; cost = 1 }) (spots_in n [] child) in
+    omega (arith, rest, all)
+body_costs n (Expert f first links stale) =
+    let all = sum_by-cons (λ (y : Spot). y.cost) (record { owner = n; path = None; cost = length links }) [] in
+    omega (arith, all)
 body_costs n b = omega arith
 
 from_costs : (n : ℕ) (es : List Entry) → costs (spots_from n es) ≤ sum_by (λ (e : Entry). calls_of_body e.body) es
@@ -187,16 +196,21 @@ among_from y n (d ∷ es) (suc j) e at among =
     among_right y (spots_of_body n d.body) (spots_from (suc n) es)
     (among_from y (suc n) es j e at (subst (λ (i : ℕ). Among y (spots_of_body i e.body)) next among))
 
+-- the spots of what is declared are those of the state
+pub body_among : (s : State) (y : Spot) (owner : ℕ) (b : Body) → body_at s owner ≡ Some b → Among y (spots_of_body owner b) → Among y (spots s)
+body_among s y owner b is among =
+    let e = body_entry s owner b is in
+    let same : owner ≡ 0 + owner = omega arith in
+    among_from y 0 s.entries owner e.0 e.1
+    (subst (λ (i : ℕ). Among y (spots_of_body i e.0.body)) same
+    (subst (λ (c : Body). Among y (spots_of_body owner c)) (sym e.2) among))
+
 -- the places of what stands at a place are those of the state
 pub place_among : (s : State) → AllPlain s → (y : Spot) (owner : ℕ) (path : List Edge) (g : Formula) → formula_at s owner path ≡ Some g
     → Among y (spots_in owner (map bare path) g) → Among y (spots s)
 place_among s plain y owner path g at among =
     let b = then_some (body_at s owner) (λ b. and_then (formula_of_body b) (λ f. part_of f path)) g at in
-    let e = body_entry s owner b.0 b.1 in
-    let same : owner ≡ 0 + owner = omega arith in
-    among_from y 0 s.entries owner e.0 e.1
-    (subst (λ (i : ℕ). Among y (spots_of_body i e.0.body)) same
-    (subst (λ (c : Body). Among y (spots_of_body owner c)) (sym e.2) (by_body b.0 b.1 b.2)))
+    body_among s y owner b.0 b.1 (by_body b.0 b.1 b.2)
   where
     by_body : (b : Body) → body_at s owner ≡ Some b → and_then (formula_of_body b) (λ f. part_of f path) ≡ Some g → Among y (spots_of_body owner b)
     by_body (Computed f kept) is part = among_whole owner y f (plain owner (Computed f kept) is).0 path g part among
@@ -204,4 +218,6 @@ place_among s plain y owner path g at among =
     by_body (Grab bind v is_live) is part = absurd (cc)
     by_body (After time) is part = absurd (cc)
     by_body (Every base span) is part = absurd (cc)
-    by_body b is part = absurd (plain owner b is).0
+    by_body (Freeze child predicate frozen) is part =
+        inr (among_whole owner y child (plain owner (Freeze child predicate frozen) is).0 path g part among)
+    by_body (Expert f first links stale) is part = absurd (cc)

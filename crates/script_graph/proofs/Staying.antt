@@ -1,5 +1,5 @@
 -- What formulas outside bodies show stays where live nodes outside scopes stay, whatever else of the graph, and of the state, is another.
-use Rattle.std.proofs.Common.{◌≡◌, ℕ, List, [], ◌∷◌, map, Option, None, Some, refl, sym, ap, subst, ◌∙◌}
+use Rattle.std.proofs.Common.{◌≡◌, ℕ, List, [], ◌∷◌, map, Option, None, Some, sym, ap, subst, ◌∙◌}
 use Rattle.inc_value.specs.declared.function.FnRef.{FnRef}
 use Rattle.inc_value.specs.declared.node.NodeId.{NodeId}
 use Rattle.inc_value.specs.declared.value.Value.{Value as GraphValue}
@@ -7,10 +7,10 @@ use Rattle.inc_terms.specs.Graph as graph
 use Rattle.inc_terms.specs.Graph.{Graph, Row, Def}
 use Rattle.inc_terms.specs.Term as term
 use Rattle.inc_terms.specs.Term.{Functions, Term, Terms, refs}
-use Rattle.script_model.specs.Formula.{State, Body, Formula, Formulas, Meanings, Literal, Name, Bound, Apply, Fold, If, Join, Bind, At, Steps, Now, End, More, Variable, Computed, After, Every, Grab}
+use Rattle.script_model.specs.Formula.{State, Body, Formula, Formulas, Meanings, Literal, Name, Bound, Apply, Fold, If, Join, Bind, At, Steps, Now, End, More, Variable, Computed, Freeze, After, Every, Expert, Grab}
 use Rattle.script_graph.specs.Today.{OwnNodes, OwnNodesOfAll, WholeNodes, OwnNodesOf}
 use Rattle.transfer.specs.Both.{Both}
-use Rattle.transfer.specs.Shows.{Built, Spot, Own, taken, Writes, WritesAll, Opens, Fills, Shows, ShowsAll, IsTop}
+use Rattle.transfer.specs.Shows.{Built, Declares, Spot, Own, taken, Writes, WritesAll, Opens, Fills, Shows, ShowsAll, IsTop}
 use Rattle.transfer.proofs.Places.{opened, plain_map, plain_fold, plain_if, plain_join, plain_bind}
 
 -- live nodes outside scopes stay
@@ -259,11 +259,21 @@ module _ (F : Meanings) (M : Functions) (nodes : ℕ → NodeId) (s s' : State) 
     whole_on n Now h own = own
     whole_on n f h own = absurd own
 
-    pub own_nodes_then : (n : NodeId) (b : Body) → ((f : Formula) (kept : _) → b ≡ Computed f kept → Shows x (Built None) [] (term.Ref n) f)
-        → OwnNodesOf G P Q n b → OwnNodesOf G' P Q n b
+    pub own_nodes_then : (n : NodeId) (b : Body) → Declares x n (Some b) → OwnNodesOf G P Q n b → OwnNodesOf G' P Q n b
     own_nodes_then n (Variable v) shows own = own
-    own_nodes_then n (Computed f kept) shows own = whole_on n f (shows f kept refl) own
+    own_nodes_then n (Computed f kept) shows own = whole_on n f shows own
     own_nodes_then n (Grab bind v is_live) shows own = own
     own_nodes_then n (After time) shows own = own
     own_nodes_then n (Every base span) shows own = own
-    own_nodes_then n b shows own = absurd own
+    own_nodes_then n (Freeze child predicate frozen) (kid, top, shows, keeps) own =
+        let rows : top.0 ≡ own.1 = (let e : Some top.0 ≡ Some own.1 = sym top.1 ∙ own.3 in cc) in
+        let defs : graph.Freeze kid predicate ≡ graph.Freeze own.2 predicate = sym top.3 ∙ (ap (λ (q : Row). q.def) rows ∙ own.4) in
+        let kids : kid ≡ own.2 = cc in (
+          own.0,
+          own.1,
+          own.2,
+          tops n own.1 own.3 (ap (λ (q : Row). q.scope) (sym rows) ∙ top.2),
+          own.4,
+          own_on Q own.2 child (shown_as (term.Ref kid) (term.Ref own.2) child (ap (λ (q : NodeId). term.Ref q) kids) shows) own.5,
+        )
+    own_nodes_then n (Expert f first links stale) shows own = own

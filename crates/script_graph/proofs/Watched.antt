@@ -3,7 +3,8 @@ use Rattle.std.proofs.Common.{◌≡◌, inl, inr, ℕ, zero, suc, Bool, true, f
 use Rattle.std.proofs.lemmas.Slice.Eq.{bytes_eq-Decides}
 use Rattle.std.specs.Str.{bytes_eq}
 use Rattle.graph.specs.Effects.{Watches as Watching}
-use Rattle.graph.specs.Standing.{GraphView, graph, called_last, cutoff_of, times_linked}
+use Rattle.graph.specs.Standing.{GraphView, graph, called_last, cutoff_of, is_marked, times_linked}
+use Rattle.inc_terms.specs.Need.{IsUnfrozen}
 use Rattle.inc_value.specs.Choice.{Among}
 use Rattle.inc_value.specs.declared.node.NodeId.{NodeId}
 use Rattle.inc_value.specs.declared.node.ObsId.{ObsId}
@@ -21,15 +22,11 @@ use Rattle.script_graph.specs.Represents.{graph_observer, graph_watch, there_in,
 use Rattle.script_graph.specs.Settled.{ScopesBuilt, ShownWereRoots, StillDeclares}
 use Rattle.script_graph.specs.Sound.{AreFew, HaveNodes, IsSoundSession}
 use Rattle.script_graph.specs.State.{MatchesMoment}
-use Rattle.script_graph.proofs.Carrying.{LeavesBeside, settled_so}
+use Rattle.script_graph.proofs.Carrying.{LeavesBeside, LeavesMarks, leaves_marks, settled_so}
 use Rattle.script_graph.proofs.Held.{rooted_still}
 use Rattle.script_graph.proofs.Same.{represents_so}
 
 -- ---- lists in which one begins to be watched
-
-looked_begun : (o : Option Looking) → looked_at (option_map begun o) ≡ looked_at o
-looked_begun None = refl
-looked_begun (Some o) = refl
 
 watched_here : (os : List Looking) (i : ℕ) → slice_get (observers.watched i os) i ≡ option_map begun (slice_get os i)
 watched_here [] i = refl
@@ -244,6 +241,8 @@ module _ (k : Kept) (o : ObsId) (g : GraphView (Unit {0})) (watches : Watching k
     leaves : LeavesBeside k new
     leaves = record {
       rooted = λ p n at. rooted_still g k.graph p (sym (ap (λ (h : GraphView (Unit {0})). h.rooted) watches.rest)) (sym (looks_same p)) n at;
+      since = ap (λ (h : GraphView (Unit {0})). h.since) watches.rest;
+      unfrozen = λ n given. subst (λ (h : GraphView (Unit {0})). IsUnfrozen (graph h) n → IsUnfrozen (graph k.graph) n) (sym watches.rest) (λ u. u);
       fewer = λ p q. let same = ap (λ (h : GraphView (Unit {0})). times_linked h p q) watches.rest in omega (arith, same);
       given = let same = ap (λ (a : Arena). a.given) nodes_same in omega (arith, same);
       last = λ n given. ap (λ (h : GraphView (Unit {0})). called_last h n) watches.rest;
@@ -253,12 +252,17 @@ module _ (k : Kept) (o : ObsId) (g : GraphView (Unit {0})) (watches : Watching k
     built_same : (b : NodeId) → (graph g).built b ≡ (graph k.graph).built b
     built_same b = ap (λ (h : GraphView (Unit {0})). (graph h).built b) watches.rest
 
+    marks_still : LeavesMarks s then k new
+    marks_still = leaves_marks s then k new (λ n. refl) (λ n given. ap (λ (h : GraphView (Unit {0})). is_marked h n) watches.rest)
+
     still : StillDeclares s k.nodes (graph k.graph) then new
     still = record {
       formulas = λ owner path f is. is;
+      bodies = λ n b has is. is;
       targets = λ n e is. (e, is, refl);
       names = λ n e is. refl;
       rows = λ n r u is def. ap (λ (a : Arena). row_at a n) nodes_same ∙ is;
+      freezes = λ n r kid f is def. ap (λ (a : Arena). row_at a n) nodes_same ∙ is;
       lives = λ n r is. (r, ap (λ (a : Arena). row_at a n) nodes_same ∙ is);
       built = λ b r is. built_same b;
     }
@@ -284,7 +288,10 @@ module _ (k : Kept) (o : ObsId) (g : GraphView (Unit {0})) (watches : Watching k
       accepted = stands.accepted;
       broken = stands.broken;
       represents = λ whole.
-          represents_so F s (map (with_watch name) s.observers) s.accepted k new refl refl refl nodes_same built_same (stands.represents whole);
+          represents_so F s (map (with_watch name) s.observers) s.accepted k new refl refl refl nodes_same built_same
+          (λ n. ap (λ (h : GraphView (Unit {0})). (graph h).frozen n) watches.rest) (λ n. ap (λ (h : GraphView (Unit {0})). (graph h).lists n) watches.rest)
+          (stands.represents whole);
       watches = watching;
-      settled = λ whole. settled_so F m.settled s then k new leaves still (λ n b v was. was) scopes_still roots_still (stands.settled whole);
+      settled = λ whole.
+          settled_so F m.settled s then k new leaves marks_still still (λ n b v was. was) scopes_still roots_still (stands.settled whole);
     }

@@ -18,7 +18,10 @@ module _ {A : Type 0} where
     earlier = h.earlier;
     showing = h.showing;
     later = h.later;
+    past = h.past;
+    listed = h.listed;
     nodes = h.nodes;
+    tops = h.tops;
     scopes = h.scopes;
     built = h.built;
     inside = h.inside;
@@ -37,6 +40,7 @@ module _ {A : Type 0} where
     observers = done.observers;
     notices = done.notices;
     rooted = done.rooted;
+    since = done.since;
     shows = done.shows;
     right = done.right;
   }

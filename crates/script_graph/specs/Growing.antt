@@ -71,6 +71,23 @@ pub record FoldFits (known : FnRef → Bool) (a : Arena) (makes : List Planned) 
   pub base : IsBase (type_of v)
   pub parts_fit : Every (PartFits a makes element) parts
 
+-- a known map tells of values of the type, which a part has
+pub record FreezeFits (known : FnRef → Bool) (a : Arena) (makes : List Planned) (ty : Ty) (child : Part) (predicate : FnRef) : Type 0 where
+  pub is_known : IsTrue (known predicate)
+  pub kind : predicate.id.kind ≡ kind.Map
+  pub takes : predicate.sig.takes ≡ ty ∷ []
+  pub gives : predicate.sig.gives ≡ types.Bool
+  pub child_fits : PartFits a makes ty child
+
+-- a known map folds elements of a type from a value of the type that it gives
+pub record ExpertFits (known : FnRef → Bool) (a : Arena) (f : FnRef) (v : Value) : Type 0 where
+  pub element : Ty
+  pub is_known : IsTrue (known f)
+  pub kind : f.id.kind ≡ kind.Map
+  pub takes : f.sig.takes ≡ f.sig.gives ∷ element ∷ []
+  pub initial : type_of v ≡ f.sig.gives
+  pub refers : RefersToFit a v
+
 -- the function is to be made as the i-th, of a body that takes the one type and gives the other
 abbrev pub IsBodyOf : List Planned → ℕ → Ty → Ty → Type 0
 IsBodyOf makes i variable ty =
@@ -78,7 +95,8 @@ IsBodyOf makes i variable ty =
 
 -- a node that is to be made fits: values refer to nodes of their types, functions are known maps whose arguments have the types that they take, an if has
 -- a test and branches of its type, a join a child whose references lead to its type, and a bind a left of the type that its function takes,
--- steps values of one type, and a count of spans a base that the clock has come to
+-- steps values of one type, a count of spans a base that the clock has come to, a freeze a predicate on its child's values, and an expert a function that
+-- folds
 abbrev pub OpenFits : (FnRef → Bool) → Arena → List Planned → Open → Type 0
 OpenFits known a makes (open_def.Const v) = RefersToFit a v
 OpenFits known a makes (open_def.Var v) = RefersToFit a v
@@ -94,6 +112,8 @@ OpenFits known a makes (open_def.Steps v steps) =
     RefersToFit a v × Every (λ (s : Step). (type_of s.value ≡ type_of v) × RefersToFit a s.value) steps
 OpenFits known a makes open_def.Now = Unit {0}
 OpenFits known a makes (open_def.Every base span) = IsTimed a.time (graph_def.Every base (pos span))
+OpenFits known a makes (open_def.Freeze ty child predicate) = FreezeFits known a makes ty child predicate
+OpenFits known a makes (open_def.Expert f v) = ExpertFits known a f v
 
 -- a line calls a known map, or a function that is to be made before, which takes no more nodes and lists no others
 abbrev pub LineFits : (FnRef → Bool) → List Planned → List Listed → OpenLine → Type 0
@@ -150,6 +170,8 @@ module _ {F : Type 0} where
     pub types : (i : ℕ) (x : Open) → slice_get makes i ≡ Some (planned.Node x) → i < length made
         → (r : Row) × (row_at now.nodes (made_node made i) ≡ Some r) × (r.ty ≡ open_ty x)
     pub unbuilt : (i : ℕ) (x : Open) → slice_get makes i ≡ Some (planned.Node x) → i < length made → (graph now).built (made_node made i) ≡ None
+    pub unfrozen : (i : ℕ) (x : Open) → slice_get makes i ≡ Some (planned.Node x) → i < length made → (graph now).frozen (made_node made i) ≡ None
+    pub unlisted : (i : ℕ) (x : Open) → slice_get makes i ≡ Some (planned.Node x) → i < length made → (graph now).lists (made_node made i) ≡ []
     pub ids : (i j : ℕ) (x y : Open) → slice_get makes i ≡ Some (planned.Node x) → slice_get makes j ≡ Some (planned.Node y)
         → i < j → j < length made → (made_node made i).gen_ < (made_node made j).gen_
     pub later : (i : ℕ) (x : Open) → slice_get makes i ≡ Some (planned.Node x) → i < length made → first.nodes.given ≤ (made_node made i).gen_

@@ -4,16 +4,18 @@ use Rattle.inc_value.specs.Choice.{Among, NoRepeats}
 use Rattle.inc_value.specs.declared.function.FnRef.{FnRef}
 use Rattle.inc_value.specs.declared.node.NodeId.{NodeId}
 use Rattle.inc_value.specs.declared.node.ObsId.{ObsId}
+use Rattle.inc_value.specs.declared.ty.Ty.{Ty}
 use Rattle.inc_terms.specs.Graph as graph_def
 use Rattle.inc_terms.specs.Graph.{Def, Row}
 use Rattle.inc_terms.specs.Within.{Given}
+use Rattle.graph.specs.Effects.{TakesBeside}
 use Rattle.graph.specs.Standing.{IsUnbroken}
 use Rattle.observers.specs.Observers.{node_at}
 use Rattle.node_arena.specs.Arena.{Arena, row_at, IsVariable}
 use Rattle.node_arena.specs.Typing as typing
 use Rattle.script_functions.specs.Bodies.{Body}
 use Rattle.script_functions.specs.Keeping.{makers, side_in}
-use Rattle.script_model.specs.Check.{Declared, Variable, Bind, Grab}
+use Rattle.script_model.specs.Check.{Declared, Variable, Bind, Expert, Grab}
 use Rattle.script_graph.specs.Kept.{Kept, arena_of, node_in}
 
 -- what a declaration stands for: its target is one of the declarations, stands for itself, and has the same type and node
@@ -28,7 +30,8 @@ pub record HasTarget (declared : List Declared) (nodes : List NodeId) (n : ℕ) 
 abbrev pub IsLiveBind : Arena → NodeId → Type 0
 IsLiveBind a n = (r : Row) × (left : NodeId) × (f : FnRef) × (captures : List NodeId) × (row_at a n ≡ Some r) × (r.def ≡ graph_def.Bind left f captures)
 
--- the live node of a declaration outside all scopes, which has its type, and is a variable or a bind where the declaration is
+-- the live node of a declaration outside all scopes, which has its type, and is a variable, a bind, or an expert that takes such elements, where the
+-- declaration is
 pub record HasLiveNode (a : Arena) (nodes : List NodeId) (n : ℕ) (d : Declared) : Type 0 where
   pub row : Row
   pub is_row : row_at a (node_in nodes n) ≡ Some row
@@ -36,10 +39,13 @@ pub record HasLiveNode (a : Arena) (nodes : List NodeId) (n : ℕ) (d : Declared
   pub outside : row.scope ≡ None
   pub variable : d.kind ≡ Variable → IsVariable a (node_in nodes n)
   pub bind : d.kind ≡ Bind → IsLiveBind a (node_in nodes n)
+  pub expert : (element : Ty) → d.kind ≡ Expert element → TakesBeside a (node_in nodes n) element
 
--- the node of a declaration is its target's; that of one that stands for itself, and is no grab, is live; a grab's was given, and is of its type or dead
+-- the node of a declaration is its target's; an expert stands for itself; the node of one that stands for itself, and is no grab, is live; a grab's
+-- was given, and is of its type or dead
 pub record HasNode (a : Arena) (declared : List Declared) (nodes : List NodeId) (n : ℕ) (d : Declared) : Type 0 where
   pub target : HasTarget declared nodes n d
+  pub expert : (element : Ty) → d.kind ≡ Expert element → d.target ≡ n
   pub live : d.target ≡ n → (d.kind ≡ Grab → ⊥) → HasLiveNode a nodes n d
   pub grab : d.target ≡ n → d.kind ≡ Grab → Given a.given (node_in nodes n) × typing.Fits a (node_in nodes n) d.ty
 

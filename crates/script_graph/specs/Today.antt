@@ -1,5 +1,5 @@
--- What is so of scripts of today's forms alone, and goes with one later form or another.
-use Rattle.std.specs.Prelude.{◌≡◌, ◌<◌, ◌≤◌, ℕ, Bool, false, List, [], ◌∷◌, Option, None, Some}
+-- What is so of the names that declarations read and refer to, of the ages of their nodes, and of freezes.
+use Rattle.std.specs.Prelude.{◌≡◌, ◌<◌, ◌≤◌, ℕ, List, [], ◌∷◌, Option, Some}
 use Rattle.inc_value.specs.declared.function.FnRef.{FnRef}
 use Rattle.inc_value.specs.declared.node.NodeId.{NodeId}
 use Rattle.inc_value.specs.declared.value.Value.{Value}
@@ -8,9 +8,10 @@ use Rattle.inc_terms.specs.Graph.{Graph, Row}
 use Rattle.formula_elab.specs.Today.{IsLaidOutBody}
 use Rattle.graph.specs.Standing.{cutoff_of, graph as graph_of_standing}
 use Rattle.map_nodes.specs.declared.cutoff.Cutoff.TheVariants.{Equal}
-use Rattle.script_model.specs.Formula.{Formula, Formulas, Body, State, body_at, Literal, Name, Apply, Fold, If, Join, Bind, At, Steps, Now, End, More, Variable, Computed, After, Every, Grab}
+use Rattle.script_model.specs.Formula.{Formula, Formulas, Body, Entry, State, body_at, entry_at, Literal, Name, Apply, Fold, If, Join, Bind, At, Steps, Now, End, More, Variable, Computed, Freeze, After, Every, Expert, Grab}
+use Rattle.script_model.specs.Check.{target_of_body}
 use Rattle.script_model.specs.Leaves.{EveryReference, EveryLeafOf}
-use Rattle.script_model.specs.Values.{Outcome, Val, Invalid}
+use Rattle.script_model.specs.Values.{Value as ScriptValue, Outcome, Val, Invalid}
 use Rattle.script_graph.specs.Kept.{Kept, node_in}
 use Rattle.transfer.specs.Shows.{IsOwn}
 
@@ -20,7 +21,7 @@ use Rattle.transfer.specs.Shows.{IsOwn}
 abbrev pub IsDeclaredTarget : State → ℕ → Type 0
 IsDeclaredTarget s t = (b : Body) × (body_at s t ≡ Some b) × IsOwn (Some b)
 
--- what is declared is of such forms, or a grab, and has such names and references
+-- what is declared has such names and references
 abbrev pub IsPlainBody : (ℕ → Type 0) → (ℕ → Type 0) → Body → Type 0
 IsPlainBody P R (Grab bind v is_live) = P bind × EveryReference R v
 IsPlainBody P R body = IsLaidOutBody body × EveryLeafOf P R body
@@ -29,7 +30,7 @@ IsPlainBody P R body = IsLaidOutBody body × EveryLeafOf P R body
 abbrev pub IsEarlierTarget : State → ℕ → ℕ → Type 0
 IsEarlierTarget s n t = (t < n) × IsOwn (body_at s t)
 
--- each declaration is of today's forms, over earlier ones; what it refers to is declared
+-- each declaration reads earlier ones alone; what it refers to or is linked to is declared
 abbrev pub AllPlain : State → Type 0
 AllPlain s = (n : ℕ) (body : Body) → body_at s n ≡ Some body → IsPlainBody (IsEarlierTarget s n) (IsDeclaredTarget s) body
 
@@ -39,16 +40,6 @@ AllPlain s = (n : ℕ) (body : Body) → body_at s n ≡ Some body → IsPlainBo
 abbrev pub RefersTo : (ℕ → Type 0) → Outcome → Type 0
 RefersTo P (Val v) = EveryReference P v
 RefersTo P Invalid = Unit {0}
-
--- ---- beside the graph: no freezes, and no experts that were made stale
-
--- for which node a freeze has put need on
-abbrev pub frozen_root : NodeId → Option NodeId
-frozen_root n = None
-
--- whether a node was asked to run anew
-abbrev pub none_stale : NodeId → Bool
-none_stale n = false
 
 -- ---- ages: the nodes of a declaration outside all scopes were given after those of earlier ones, those of its parts before its own
 
@@ -108,8 +99,10 @@ OwnNodesOf G P Q n (Variable v) = P n
 OwnNodesOf G P Q n (Computed f kept) = WholeNodes G P Q n f
 OwnNodesOf G P Q n (After time) = P n
 OwnNodesOf G P Q n (Every base span) = P n
+OwnNodesOf G P Q n (Freeze child predicate frozen) =
+    P n × (r : Row) × (kid : NodeId) × (G.row n ≡ Some r) × (r.def ≡ graph.Freeze kid predicate) × OwnNodes G Q kid child
+OwnNodesOf G P Q n (Expert f first links stale) = P n
 OwnNodesOf G P Q n (Grab bind v is_live) = Unit {0}
-OwnNodesOf G P Q n body = ⊥
 
 -- a node was given no later than that of the declaration, and later than those of earlier declarations
 pub record IsWithin (nodes : List NodeId) (owner : ℕ) (n : NodeId) : Type 0 where
@@ -121,15 +114,33 @@ pub record IsPartWithin (nodes : List NodeId) (owner : ℕ) (n : NodeId) : Type 
   pub within : IsWithin nodes owner n
   pub earlier : n.gen_ < (node_in nodes owner).gen_
 
+-- ---- freezes
+
+-- the node of a freeze that is declared
+pub record IsDeclaredFreeze (s : State) (nodes : List NodeId) (n : NodeId) : Type 0 where
+  pub position : ℕ
+  pub child : Formula
+  pub predicate : FnRef
+  pub frozen : Option ScriptValue
+  pub is_body : body_at s position ≡ Some (Freeze child predicate frozen)
+  pub node : node_in nodes position ≡ n
+
+-- each live freeze is one that is declared
+abbrev pub FreezesAreDeclared : Graph → State → List NodeId → Type 0
+FreezesAreDeclared G s nodes =
+    (n : NodeId) (r : Row) (kid : NodeId) (f : FnRef) → G.row n ≡ Some r → r.def ≡ graph.Freeze kid f → IsDeclaredFreeze s nodes n
+
 -- ---- what is kept
 
--- a state of today's forms beside the graph that is kept
+-- a state beside the graph that is kept: what it reads and refers to, the ages of its nodes, and its freezes
 pub record IsTodaysScript (s : State) (k : Kept) : Type 0 where
   pub plain : AllPlain s
   pub aged : (n : ℕ) (b : Body) → body_at s n ≡ Some b
       → OwnNodesOf (graph_of_standing k.graph) (IsWithin k.nodes n) (IsPartWithin k.nodes n) (node_in k.nodes n) b
+  pub freezes : FreezesAreDeclared (graph_of_standing k.graph) s k.nodes
 
--- the state was of today's forms as the last accepted stabilize left it, and each node has cutoff Equal
+-- the state as the last accepted stabilize left it read and referred to such, its declarations had their targets, and each node has cutoff Equal
 pub record WasTodays (before : State) (k : Kept) : Type 0 where
   pub plain : AllPlain before
+  pub targets : (n : ℕ) (e : Entry) → entry_at before n ≡ Some e → e.target ≡ target_of_body n e.body
   pub equal : (n : NodeId) → cutoff_of k.graph n ≡ Equal
