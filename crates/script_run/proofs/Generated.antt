@@ -1,5 +1,5 @@
 -- Laws of runs that are summed up.
-use Rattle.std.proofs.Common.{if◌then◌else◌, ◌≡◌, true, ℕ, ◌+◌, ◌≤◌, ◌||◌, Bool, false, List, [], ◌∷◌, ◌++◌, map, Option, Result, Ok, Err, OnErr, refl, sym, ◌∙◌, ap, subst, append_assoc, append-nil, arith}
+use Rattle.std.proofs.Common.{if◌then◌else◌, ◌≡◌, true, ℕ, ◌+◌, ◌≤◌, ◌||◌, Bool, false, List, [], ◌∷◌, ◌++◌, map, Option, Result, Ok, Err, OnErr, sym, ◌∙◌, ap, subst, append_assoc, append-nil, arith}
 use Rattle.std.proofs.lemmas.Grind.{flat_map-append}
 use Rattle.std.proofs.lemmas.List.{map-append}
 use Rattle.std.proofs.lemmas.List.Sums.{sum_by-append}
@@ -37,20 +37,6 @@ work-more turns t called between calls first more =
     let whole = sum_by-append (λ (u : Turn). u.work) turns (t ∷ []) in omega (arith, first, more, whole)
 
 module _ (F : Meanings) (text : List ℕ) (called : ℕ) where
-  -- before the first line
-  pub sums_none : (kept : Kept) (calls : ℕ) (tally : Counted) → Stands F kept first_moment → tally ≡ nothing → calls ≡ called
-      → CountsSoFar F text text called kept calls tally false
-  sums_none kept calls tally stands empty same = record {
-    turns = [];
-    end = first_moment;
-    chain = refl;
-    stands = stands;
-    reads = refl;
-    within = omega (arith, same);
-    refused = refl;
-    sums = empty;
-  }
-
   module _ (rest behind line : List ℕ) (kept new : Kept) (between calls : ℕ) (tally after : Counted) (refused : Bool)
       (so : CountsSoFar F text rest called kept between tally refused) (split : lines_of rest ≡ line ∷ lines_of behind) where
     -- one line more

@@ -2,7 +2,7 @@
 use Rattle.std.proofs.Common.{◌≡◌, ℕ, ◌≤◌, ◌<◌, ◌^◌, Bool, List, [], ◌∷◌, ◌++◌, None, Some, Result, Ok, Err, refl, sym, ◌∙◌, ap, subst, append-nil, arith, IsTrue}
 use Rattle.std.specs.Result.{IfOk, OnErr, OnOk}
 use Rattle.inc_value.specs.declared.function.FnRef.{FnRef}
-use Rattle.script_graph.specs.Kept.{Script}
+use Rattle.script_graph.specs.Kept.{Kept, Script}
 use Rattle.script_graph.specs.Stabilizing.{CyclePasses, IsCycleMet, closed}
 use Rattle.script_graph.specs.State.{MatchesMoment, Stands}
 use Rattle.script_model.specs.Check.{Command}
@@ -36,6 +36,14 @@ beside_itself s = record {
   bodies = omega arith;
   watching = omega arith;
 }
+
+-- it is as it was where what is kept of it is
+pub same_script : {L : Type 0} (old new : Script L) → IsBeside 0 0 old new → new.kept ≡ old.kept → new ≡ old
+same_script old new beside kept =
+    let library : new ≡ record new { library = old.library } = ap (λ l. record new { library = l }) beside.library in
+    let builds : record new { library = old.library } ≡ record new { library = old.library; builds = old.builds } =
+    ap (λ (n : ℕ). record new { library = old.library; builds = n }) beside.builds in
+    library ∙ (builds ∙ ap (λ (k : Kept). record old { kept = k }) kept)
 
 -- where a stabilize was refused for a cycle the graph has met one
 pub met_circular : {L E : Type 0} (meanings : L → Meanings) (known : L → FnRef → Bool) (calls : L → ℕ) (old there : Script L) (how : Result Stabilized E)

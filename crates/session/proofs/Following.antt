@@ -8,13 +8,13 @@ use Rattle.inc_value.specs.Outcome as engine
 use Rattle.inc_value.specs.declared.outcome.Outcome as declared
 use Rattle.inc_value.specs.declared.ty.Ty.{Ty}
 use Rattle.script_model.specs.Check as check
-use Rattle.script_model.specs.Check.{Command, Declare, Show, Stabilize, Take, NotBuilt, NotStabilized, TooManyPlaces}
+use Rattle.script_model.specs.Check.{Command, Declare, Link, Show, Stabilize, Take, Unlink, NotBuilt, NotLinked, NotStabilized, TooManyLinks, TooManyPlaces}
 use Rattle.script_model.specs.Formula.{Body, Meanings, State, built_at, places_of, places_of_body}
 use Rattle.script_model.specs.Grammar as grammar
 use Rattle.script_model.specs.Laws.{ValidMoment}
 use Rattle.script_model.specs.Run as run
 use Rattle.script_model.specs.Run.{Halts, most_calls}
-use Rattle.script_model.specs.Step.{Moment, Reply, is_built, name_of, moved, reply_to, Done, Stable, Shown, Tells, Refused, Height, Because, Cycle, Settle, Act, Refuse, printed, Follows, Stabilizes, settles, by_cycle, by_height, verdict_of}
+use Rattle.script_model.specs.Step.{Moment, Reply, is_barred, is_built, name_of, moved, reply_to, Done, Stable, Shown, Tells, Refused, Height, Because, Cycle, Settle, Act, Refuse, printed, Follows, Stabilizes, settles, by_cycle, by_height, verdict_of}
 use Rattle.script_model.specs.Valid.{KeepToTypes}
 use Rattle.script_model.proofs.Validity.{halts_keep_validity}
 use Rattle.script_graph.specs.Kept.{Kept, node_in}
@@ -124,6 +124,33 @@ module _ (F : Meanings) (k : Kept) (m : Moment) (st : Stands F k m) (name : List
       → IsAnswered F m (Follows F m (verdict_on m (Take name ty bind))) k written appended calls calls (did.Refused 9)
   refused_grab none calls written appended print =
       refused_because F k m (Take name ty bind) NotBuilt calls written appended (rw none refl) st print
+
+-- ---- lists of experts
+
+module _ (F : Meanings) (m : Moment) (expert target : ℕ) where
+  pub followed_link : (new : Kept) (calls : ℕ) (written appended : List ℕ) → IsFalse (is_barred m.present (Link expert target) TooManyLinks)
+      → MatchesMoment F new (moved m (Link expert target)) → appended ≡ written ++ done_line
+      → IsAnswered F m (Follows F m (verdict_on m (Link expert target))) new written appended calls calls did.Accepted
+  followed_link new calls written appended room now print =
+      followed_done F new m (Link expert target) calls written appended (rw room refl) refl now print
+
+  pub refused_link : (k : Kept) → Stands F k m → IsTrue (is_barred m.present (Link expert target) TooManyLinks) → (calls : ℕ) (written appended : List ℕ)
+      → appended ≡ written ++ refused_line 24
+      → IsAnswered F m (Follows F m (verdict_on m (Link expert target))) k written appended calls calls (did.Refused 24)
+  refused_link k st full calls written appended print =
+      refused_because F k m (Link expert target) TooManyLinks calls written appended (rw full refl) st print
+
+  pub followed_unlink : (new : Kept) (calls : ℕ) (written appended : List ℕ) → IsFalse (is_barred m.present (Unlink expert target) NotLinked)
+      → MatchesMoment F new (moved m (Unlink expert target)) → appended ≡ written ++ done_line
+      → IsAnswered F m (Follows F m (verdict_on m (Unlink expert target))) new written appended calls calls did.Accepted
+  followed_unlink new calls written appended there now print =
+      followed_done F new m (Unlink expert target) calls written appended (rw there refl) refl now print
+
+  pub refused_unlink : (k : Kept) → Stands F k m → IsTrue (is_barred m.present (Unlink expert target) NotLinked) → (calls : ℕ) (written appended : List ℕ)
+      → appended ≡ written ++ refused_line 23
+      → IsAnswered F m (Follows F m (verdict_on m (Unlink expert target))) k written appended calls calls (did.Refused 23)
+  refused_unlink k st absent calls written appended print =
+      refused_because F k m (Unlink expert target) NotLinked calls written appended (rw absent refl) st print
 
 -- ---- showing
 

@@ -8,13 +8,13 @@ mod Endings
 mod Failing
 mod Following
 mod Keeping
+mod Linking
 mod Passing
 mod Placing
 mod Observed
 mod OwnNodes
 mod Owned
 mod Referred
-mod Requests
 mod Stabilized
 mod SameMakers
 mod Makers

@@ -55,7 +55,7 @@ module _ (F : Meanings) (k : Kept) (bodies : List Body) (same : makers bodies â‰
         built = h.built;
         refers = h.refers;
         grabs = h.grabs;
-        today = record { plain = h.today.plain; aged = h.today.aged };
+        today = record { plain = h.today.plain; aged = h.today.aged; freezes = h.today.freezes };
       }
 
   abbrev watches_now : (s : State) â†’ Watches s k â†’ Watches s now
@@ -84,15 +84,21 @@ module _ (F : Meanings) (k : Kept) (bodies : List Body) (same : makers bodies â‰
     scopes = h.scopes;
     still = record {
       formulas = h.still.formulas;
+      bodies = h.still.bodies;
       targets = h.still.targets;
       names = h.still.names;
       rows = h.still.rows;
+      freezes = h.still.freezes;
       built = h.still.built;
       lives = h.still.lives;
     };
     built = h.built;
     grabs = h.grabs;
     links = h.links;
+    stamps = h.stamps;
+    marks = h.marks;
+    freezes = h.freezes;
+    past = h.past;
     ran = Î» v is needed. let r = h.ran v is needed in record {
       node = r.node;
       is_node = r.is_node;
@@ -102,7 +108,7 @@ module _ (F : Meanings) (k : Kept) (bodies : List Body) (same : makers bodies â‰
       values_are = r.values_are;
     };
     watched = h.watched;
-    today = record { plain = h.today.plain; equal = h.today.equal };
+    today = record { plain = h.today.plain; equal = h.today.equal; targets = h.today.targets };
   }
 
   -- and matches the same moments

@@ -5,7 +5,7 @@ use Rattle.std.proofs.lemmas.Option.{slice_get_within}
 use Rattle.inc_value.specs.declared.node.ObsId.{ObsId}
 use Rattle.inc_value.specs.declared.node.Point.{Point}
 use Rattle.point_map.proofs.Places.{point_cases}
-use Rattle.point_map.specs.Rows.{Rows, Changes, Holds, KeepsRows, at}
+use Rattle.point_map.specs.Rows.{Rows, Changes, Holds, at}
 use Rattle.script_graph.proofs.Ending.{same_or, swap_here, swap_other, swap_within}
 use Rattle.script_graph.proofs.Observing.{get_end, get_push, get_some, get_within}
 use Rattle.session.specs.ObserverIds.{ArePlaced, IsAbsent, key_of}
@@ -23,13 +23,6 @@ pub none_placed : (positions : Rows ℕ) → positions.places ≡ [] → ArePlac
 none_placed positions empty = record {
   placed = λ i o is. absurd (cc);
   only = λ i o is. let none : at positions (key_of o) ≡ None = rw empty refl in let e : None ≡ Some i = sym none ∙ is in absurd (cc);
-}
-
--- rows that are kept keep the positions
-pub placed_still : (ids : List ObsId) (old new : Rows ℕ) → KeepsRows old new → ArePlaced ids old → ArePlaced ids new
-placed_still ids old new keeps placed = record {
-  placed = λ i o is. keeps (key_of o) ∙ placed.placed i o is;
-  only = λ i o is. placed.only i o (sym (keeps (key_of o)) ∙ is);
 }
 
 -- one that is none of them has no position
@@ -71,9 +64,6 @@ module _ (ids : List ObsId) (old mid : Rows ℕ) (i : ℕ) (o : ObsId) (placed :
 
   abbrev left : List ObsId
   left = swap_remove ids i o
-
-  pub has_position : Holds old (key_of o)
-  has_position = subst (λ (x : Option ℕ). IsSome x) (sym (placed.placed i o is_o)) refl
 
   -- who stands elsewhere is another
   apart : (j : ℕ) (p : ObsId) → slice_get ids j ≡ Some p → (j ≡ i → ⊥) → key_of p ≢ key_of o

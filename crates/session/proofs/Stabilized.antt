@@ -1,5 +1,5 @@
 -- What is kept of a script once a stabilize ended, and the faults that don't come.
-use Rattle.std.proofs.Common.{◌≡◌, ◌⊎◌, inl, inr, Bool, ℕ, ◌+◌, ◌<◌, ◌≤◌, List, [], ◌∷◌, ◌++◌, length, slice_get, arith, Option, None, Some, IsSome, is_some, Result, Err, IsErrOf, IsTrue, refl, ap, sym, subst, ◌∙◌}
+use Rattle.std.proofs.Common.{◌≡◌, ◌⊎◌, inl, inr, Bool, ℕ, ◌<◌, ◌≤◌, List, [], ◌∷◌, ◌++◌, length, slice_get, arith, Option, None, Some, IsSome, is_some, Result, Err, IsErrOf, IsTrue, refl, ap, sym, subst, ◌∙◌}
 use Rattle.std.proofs.lemmas.Bool.{cases_lt}
 use Rattle.std.specs.Prelude.{min}
 use Rattle.std.proofs.Math.Nat.{min-eq_left}
@@ -16,7 +16,6 @@ use Rattle.graph.specs.declared.fault.StabilizeFault.{StabilizeFault}
 use Rattle.graph.specs.declared.fault.StabilizeFault.TheVariants as fault
 use Rattle.observers.specs.declared.observer.Observer.{Observer as Looking}
 use Rattle.inc_terms.specs.Graph.{Row}
-use Rattle.inc_terms.specs.Rebuild.{Inside, direct, nested}
 use Rattle.inc_terms.specs.Term.{Functions}
 use Rattle.inc_terms.specs.Within.{Given}
 use Rattle.inc_value.specs.declared.function.FnKind.TheVariants.{Map}
@@ -36,6 +35,7 @@ use Rattle.script_functions.specs.Bodies.{Body}
 use Rattle.script_functions.specs.Keeping.{Maker, is_known, makers, side_in}
 use Rattle.script_functions.specs.KeepingLaws.{map_known, known_map}
 use Rattle.script_graph.proofs.Few.{sum_less}
+use Rattle.script_graph.proofs.OneOwner.{outside_is_in_none}
 use Rattle.script_graph.proofs.Refusing.{IsSessions}
 use Rattle.script_graph.proofs.Told.{told_at, told_length, told_looked}
 use Rattle.script_graph.specs.Growing.{functions_over}
@@ -72,11 +72,6 @@ told_alike shows old new told = record {
 
 -- ---- nodes that a stabilize leaves
 
--- what stands in no scope stands inside no bind
-not_inside : {A : Type 0} (g : GraphView A) (b n : NodeId) (r : Row) → row_at g.nodes n ≡ Some r → r.scope ≡ None → Inside (graph g) b n → ⊥
-not_inside g b n r row outside (direct {r = q} there scope) = let e : Some r ≡ Some q = sym row ∙ there in cc
-not_inside g b n r row outside (nested {r = q} there scope inside) = let e : Some r ≡ Some q = sym row ∙ there in cc
-
 -- what a node counts as, by its row
 abbrev counted : List Body → Option Row → ℕ
 counted bodies row = elim row [ None ↦ 0 | Some r ↦ weight_of bodies r.def ]
@@ -92,7 +87,7 @@ module _ {A : Type 0} (M : Functions) (old new : GraphView A) (before after : Co
     where
       go : (row_at new.nodes n ≡ row_at old.nodes n) ⊎ (row_at new.nodes n ≡ None) → row_at new.nodes n ≡ Some r
       go (inl same) = same ∙ is
-      go (inr dead) = let d = left.dead n r is dead in absurd (not_inside old d.0 n r is outside d.1)
+      go (inr dead) = let d = left.dead n r is dead in absurd (outside_is_in_none (graph old) d.0 n r is outside d.1)
 
   -- and nobody comes to stand there
   outside_was : (n : NodeId) (r : Row) → row_at new.nodes n ≡ Some r → r.scope ≡ None → row_at old.nodes n ≡ Some r
@@ -104,7 +99,7 @@ module _ {A : Type 0} (M : Functions) (old new : GraphView A) (before after : Co
           was : (row_at new.nodes n ≡ row_at old.nodes n) ⊎ (row_at new.nodes n ≡ None) → row_at old.nodes n ≡ Some r
           was (inl same) = sym same ∙ is
           was (inr dead) = absurd (let e : None ≡ Some r = sym dead ∙ is in cc)
-      go (inr anew) = let a = (left.born n r anew is).0 in absurd (not_inside new a.bind n r is outside a.inside)
+      go (inr anew) = let a = (left.born n r anew is).0 in absurd (outside_is_in_none (left_by old new) a.bind n r is outside a.inside)
 
   fits_still : (n : NodeId) (t : _) → Given old.nodes.given n → typing.Fits old.nodes n t → typing.Fits new.nodes n t
   fits_still n t given fits = go (stays.rows n given)
@@ -119,6 +114,7 @@ module _ {A : Type 0} (M : Functions) (old new : GraphView A) (before after : Co
       let h = have n d is in
       record {
         target = h.target;
+        expert = h.expert;
         live = λ itself no_grab. still (h.live itself no_grab);
         grab = λ itself grab.
             let g = h.grab itself grab in
@@ -135,6 +131,7 @@ module _ {A : Type 0} (M : Functions) (old new : GraphView A) (before after : Co
         outside = l.outside;
         variable = λ kind. as_variable (l.variable kind);
         bind = λ kind. as_bind (l.bind kind);
+        expert = λ element kind. let t = l.expert element kind in (t.0, t.1, t.2, t.3, there t.0 t.4, t.5, t.6);
       }
         where
           there : (r : Row) → row_at old.nodes (node_in nodes n) ≡ Some r → row_at new.nodes (node_in nodes n) ≡ Some r

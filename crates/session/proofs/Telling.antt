@@ -57,9 +57,6 @@ module _ (k : Kept) (notices : List GraphNotice) (start : List ℕ) where
     pub each : AllZip (IsNoticeLine k) (take count notices) lines
     pub written : out ≡ start ++ flat_map (λ (line : List ℕ). line) lines
 
-  pub none_written : AreWritten 0 start
-  none_written = record { lines = []; each = tt; written = sym (append-nil start) }
-
   pub more_written : (i : ℕ) (n : GraphNotice) (out next line : List ℕ) → slice_get notices i ≡ Some n → AreWritten i out → IsNoticeLine k n line
       → next ≡ out ++ line → AreWritten (i + 1) next
   more_written i n out next line is w l added =
@@ -80,10 +77,6 @@ module _ (k : Kept) (notices : List GraphNotice) (start : List ℕ) where
     (w.lines, subst (λ (ns : List GraphNotice). AllZip (IsNoticeLine k) ns w.lines) (take_all notices i past) w.each, refl),
     w.written,
   )
-
-  -- also where there is no memory for a further one
-  pub some_written : (i : ℕ) (out : List ℕ) → AreWritten i out → Extends start out
-  some_written i out w = (flat_map (λ (line : List ℕ). line) w.lines, w.written)
 
 -- ---- the model's lines
 

@@ -1,8 +1,5 @@
 -- What a line asks for, as the model of scripts sees it.
-use Rattle.std.specs.Prelude.{if◌then◌else◌}
 use Rattle.line_parser.specs.TreeView.{line_view}
-use Rattle.script_model.specs.Grammar.{Line}
-use Rattle.script_model.specs.Here.{is_here}
 use Rattle.script_model.specs.Request as model
 use Rattle.session.specs.declared.request.Request.{Request}
 use Rattle.session.specs.declared.request.Request.TheVariants as request
@@ -14,7 +11,3 @@ request_view request.Blank = model.Blank
 request_view request.Malformed = model.Malformed
 request_view request.TooDeep = model.TooDeep
 request_view (request.Asks line) = model.Asks (line_view line)
-
--- what a line of the grammar asks for
-abbrev pub asked : Line → model.Request
-asked line = if is_here line then model.Asks line else model.Malformed

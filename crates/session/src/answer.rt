@@ -1,12 +1,12 @@
 //! What a line is answered with, and what it does.
 ghost use Rattle.std.specs.Prelude.{IsTrue, true, ◌≡◌, ◌<◌, ◌≤◌, ◌+◌, ◌-◌, ◌++◌, ◌^◌, ℕ, List, None, Some, length, IfOk, OnOk, OnErr};
 ghost use Rattle.formula_lang.specs.CommandView.{body_view, constant_view};
-ghost use Rattle.formula_lang.specs.Fits.{AssignmentFits, DeclarationFits, GrabFits, ObserverFits, TimeFits};
+ghost use Rattle.formula_lang.specs.Fits.{AssignmentFits, DeclarationFits, GrabFits, IsExpertOf, LinkFits, ObserverFits, TimeFits, UnlinkFits};
+ghost use Rattle.inc_value.specs.declared.ty.Ty.{Ty as ATy};
 ghost use Rattle.line_parser.specs.TreeView.{line_view};
-ghost use Rattle.script_model.specs.Check.{Advance, Assign, Declare, Observe, Show, Stabilize, Take, Unobserve, Watch, is_among};
+ghost use Rattle.script_model.specs.Check.{Advance, Assign, Declare, Link, Observe, Show, Stabilize, Stale, Take, Unlink, Unobserve, Watch, is_among};
 ghost use Rattle.script_model.specs.Formula.{binds_of_body, meanings_of};
 ghost use Rattle.script_model.specs.Grammar.{IsLine};
-ghost use Rattle.script_model.specs.Here.{is_here};
 ghost use Rattle.session.specs.Answered.{Extends};
 ghost use Rattle.session.specs.Carried.{HasRoom, Performs, Refuses, TakesBytes, Treats};
 ghost use Rattle.session.specs.Replies.{AreNoticeLines, IsAcceptedWritten, IsNoticeLine, broken_line, cycle_line, refused_line, too_deep_line, name_in};
@@ -83,7 +83,7 @@ fn answer<L: Library>(
     }
 }
 
-/// Carries out a line of forms that are here, or refuses it.
+/// Carries out a line, or refuses it.
 fn carry_out<L: Library>(
     alloc: Global,
     script: &mut Script<L>,
@@ -91,7 +91,6 @@ fn carry_out<L: Library>(
     out: &mut Vec<u8>,
 ) -> Result<Did, AllocError>
     requires room { HasRoom script.old.kept }
-    requires here { is_here (line_view line.now) ≡ true }
     requires asked { (bytes : List ℕ) × IsLine bytes (line_view line.now) }
     ensures { Treats (λ l. meanings_of (L.named l) (L.value l)) L.known L.calls (line_view line.now) script.old script.new
         out.old.items out.new.items result }
@@ -113,6 +112,9 @@ fn carry_out<L: Library>(
         Command::Observe { observer, target } => observe(script, observer.bytes(), *target, out),
         Command::Unobserve { observer } => unobserve(script, observer.bytes(), out),
         Command::Watch { observer } => watch(script, observer.bytes(), out),
+        Command::Link { expert, target } => link(alloc, script, *expert, *target, out),
+        Command::Unlink { expert, target } => unlink(alloc, script, *expert, *target, out),
+        Command::Stale { expert } => make_stale(script, *expert, out),
         Command::Advance { time } => advance(script, *time, out),
         Command::Stabilize => stabilize(alloc, script, out),
         Command::Show { observer } => show(alloc, script, observer.bytes(), out),
@@ -272,6 +274,80 @@ fn watch<L: Library>(
     match write_done(out) {
         Ok(()) => {
             script.watch(name);
+            Ok(Did::Accepted)
+        }
+        Err(fault) => Err(fault),
+    }
+}
+
+/// Puts a declaration behind an expert's list, which isn't full.
+fn link<L: Library>(
+    alloc: Global,
+    script: &mut Script<L>,
+    expert: usize,
+    target: usize,
+    out: &mut Vec<u8>,
+) -> Result<Did, AllocError>
+    requires unbroken { script.old.kept.broken ≡ None }
+    requires fits { LinkFits script.old.kept.names expert target }
+    ensures { Performs (λ l. meanings_of (L.named l) (L.value l)) L.known L.calls (Link expert target) script.old script.new
+        out.old.items out.new.items result }
+{
+    let written = out.len();
+    match write_done(out) {
+        Ok(()) => match script.link(expert, target) {
+            Ok(true) => Ok(Did::Accepted),
+            Ok(false) => {
+                out.truncate(written);
+                refuse(alloc, Refusal::TooManyLinks.number(), out)
+            }
+            Err(fault) => Err(fault),
+        },
+        Err(fault) => Err(fault),
+    }
+}
+
+/// Takes a declaration off an expert's list, where it stands there.
+fn unlink<L: Library>(
+    alloc: Global,
+    script: &mut Script<L>,
+    expert: usize,
+    target: usize,
+    out: &mut Vec<u8>,
+) -> Result<Did, AllocError>
+    requires unbroken { script.old.kept.broken ≡ None }
+    requires fits { UnlinkFits script.old.kept.names expert target }
+    ensures { Performs (λ l. meanings_of (L.named l) (L.value l)) L.known L.calls (Unlink expert target) script.old script.new
+        out.old.items out.new.items result }
+{
+    let written = out.len();
+    match write_done(out) {
+        Ok(()) => {
+            if script.unlink(expert, target) {
+                Ok(Did::Accepted)
+            } else {
+                out.truncate(written);
+                refuse(alloc, Refusal::NotLinked.number(), out)
+            }
+        }
+        Err(fault) => Err(fault),
+    }
+}
+
+/// Has an expert's function called anew.
+fn make_stale<L: Library>(
+    script: &mut Script<L>,
+    expert: usize,
+    out: &mut Vec<u8>,
+) -> Result<Did, AllocError>
+    requires unbroken { script.old.kept.broken ≡ None }
+    requires fits { (element : ATy) × IsExpertOf script.old.kept.names expert element }
+    ensures { Performs (λ l. meanings_of (L.named l) (L.value l)) L.known L.calls (Stale expert) script.old script.new
+        out.old.items out.new.items result }
+{
+    match write_done(out) {
+        Ok(()) => {
+            script.make_stale(expert);
             Ok(Did::Accepted)
         }
         Err(fault) => Err(fault),

@@ -47,9 +47,11 @@ pub(crate) fn room_behind_body(body: &Declaration, room: usize) -> Option<usize>
     ensures { MatchOption result (room < places_of_body (body_view body.now)) (λ left. left + places_of_body (body_view body.now) ≡ room) }
 {
     match body {
-        Declaration::Variable(_) | Declaration::After(_) | Declaration::Every { .. } => {
-            room.checked_sub(1)
-        }
+        Declaration::Variable(_)
+        | Declaration::After(_)
+        | Declaration::Every { .. }
+        | Declaration::Expert { .. } => room.checked_sub(1),
+        Declaration::Frozen { child, .. } => room_behind(child, room)?.checked_sub(1),
         Declaration::Computed(formula) => room_behind(formula, room),
     }
 }

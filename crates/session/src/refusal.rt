@@ -11,6 +11,8 @@ pub(crate) enum Refusal {
     LineTooLong,
     NotStabilized,
     NotBuilt,
+    NotLinked,
+    TooManyLinks,
     TooManyPlaces,
     LineTooDeep,
     /// The session is broken, with the number of what broke it.
@@ -27,6 +29,8 @@ impl Refusal {
             Refusal::LineTooLong => 2,
             Refusal::NotStabilized => 13,
             Refusal::NotBuilt => 9,
+            Refusal::NotLinked => 23,
+            Refusal::TooManyLinks => 24,
             Refusal::TooManyPlaces => 19,
             Refusal::LineTooDeep => 25,
             Refusal::Broken { .. } => 22,

@@ -1,6 +1,7 @@
 //! The lines that a session writes.
 ghost use Rattle.std.specs.Prelude.{◌≡◌, ◌++◌, OnOk, OnErr};
-ghost use Rattle.session.specs.Replies.{broken_line, change_line, done_line, first_line, invalid_line, refused_line, shown_line, stable_line, too_deep_line};
+ghost use Rattle.inc_value.specs.Outcome.{printed_outcome};
+ghost use Rattle.session.specs.Replies.{broken_line, change_line, done_line, first_line, invalid_line, line_of, refused_line, shown_line, stable_line, too_deep_line};
 
 use inc_value::Outcome;
 use std::alloc::{AllocError, Global};
@@ -57,6 +58,27 @@ pub(crate) fn write_stable(alloc: Global, round: u64, out: &mut Vec<u8>) -> Resu
     out.extend_from_slice(line.as_bytes())
 }
 
+/// Appends an observer's name, these bytes and an outcome, where a reference is printed as the name `referred`.
+fn write_outcome(
+    alloc: Global,
+    observer: &[u8],
+    between: &[u8],
+    outcome: &Outcome,
+    referred: &[u8],
+    out: &mut Vec<u8>,
+) -> Result<(), AllocError>
+    ensures ok { OnOk result (out.new.items
+        ≡ out.old.items ++ line_of (observer.now ++ (between.now ++ printed_outcome referred.now outcome.now))) }
+    ensures err { OnErr result (out.new.items ≡ out.old.items) }
+{
+    let mut line = Vec::new(alloc);
+    line.extend_from_slice(observer)?;
+    line.extend_from_slice(between)?;
+    outcome.print_into(alloc, referred, &mut line)?;
+    line.push(b'\n')?;
+    out.extend_from_slice(&line)
+}
+
 /// Appends what an observer shows, where a reference is printed as the name `referred`.
 pub(crate) fn write_shown(
     alloc: Global,
@@ -68,12 +90,7 @@ pub(crate) fn write_shown(
     ensures ok { OnOk result (out.new.items ≡ out.old.items ++ shown_line observer.now referred.now outcome.now) }
     ensures err { OnErr result (out.new.items ≡ out.old.items) }
 {
-    let mut line = Vec::new(alloc);
-    line.extend_from_slice(observer)?;
-    line.extend_from_slice(b" = ")?;
-    outcome.print_into(alloc, referred, &mut line)?;
-    line.push(b'\n')?;
-    out.extend_from_slice(&line)
+    write_outcome(alloc, observer, b" = ", outcome, referred, out)
 }
 
 /// Appends the first notice of a watched observer, where a reference is printed as the name `referred`.
@@ -87,12 +104,7 @@ pub(crate) fn write_init(
     ensures ok { OnOk result (out.new.items ≡ out.old.items ++ first_line observer.now referred.now outcome.now) }
     ensures err { OnErr result (out.new.items ≡ out.old.items) }
 {
-    let mut line = Vec::new(alloc);
-    line.extend_from_slice(observer)?;
-    line.extend_from_slice(b" init ")?;
-    outcome.print_into(alloc, referred, &mut line)?;
-    line.push(b'\n')?;
-    out.extend_from_slice(&line)
+    write_outcome(alloc, observer, b" init ", outcome, referred, out)
 }
 
 /// Appends a notice of a change, where references are printed as these names.

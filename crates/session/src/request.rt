@@ -2,10 +2,9 @@
 ghost use Rattle.std.specs.Prelude.{◌≡◌, IfOk};
 ghost use Rattle.script_model.specs.Language.{is_blank, without_return};
 ghost use Rattle.script_model.specs.Request.{IsRequest};
-ghost use Rattle.line_parser.specs.TreeView.{line_view};
-ghost use Rattle.session.specs.RequestView.{asked, request_view};
+ghost use Rattle.session.specs.RequestView.{request_view};
 
-use line_parser::{Line, ParseFault, is_here, parse};
+use line_parser::{Line, ParseFault, parse};
 use std::alloc::{AllocError, Global};
 
 /// The most bytes that a line may have.
@@ -44,18 +43,6 @@ fn is_blank(content: &[u8]) -> bool
     true
 }
 
-/// What a line of the grammar asks for: a line of a form that isn't here yet is malformed.
-fn asked(line: Line) -> Request
-    ensures { request_view result ≡ asked (line_view line) }
-{
-    if is_here(&line) {
-        Request::Asks(line)
-    } else {
-        drop(line);
-        Request::Malformed
-    }
-}
-
 /// What a line of a script, without its newline, asks for.
 pub(crate) fn read_request(alloc: Global, line: &[u8]) -> Result<Request, AllocError>
     ensures { IfOk result (λ r. IsRequest line.now (request_view r)) }
@@ -68,7 +55,7 @@ pub(crate) fn read_request(alloc: Global, line: &[u8]) -> Result<Request, AllocE
         return Ok(Request::Blank);
     }
     match parse(alloc, content) {
-        Ok(line) => Ok(asked(line)),
+        Ok(line) => Ok(Request::Asks(line)),
         Err(ParseFault::Form) => Ok(Request::Malformed),
         Err(ParseFault::Level) => Ok(Request::TooDeep),
         Err(ParseFault::Memory) => Err(AllocError),

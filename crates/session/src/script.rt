@@ -9,6 +9,7 @@ ghost use Rattle.session.specs.Replies.{name_in};
 mod advancing;
 mod declaring;
 mod grabbing;
+mod linking;
 mod naming;
 mod observing;
 mod setting;

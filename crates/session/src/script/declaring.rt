@@ -8,7 +8,6 @@ ghost use Rattle.formula_elab.specs.Opened.{AreInOrder, node_at, node_of};
 ghost use Rattle.formula_elab.specs.declared.make.Made.{Made};
 ghost use Rattle.formula_lang.specs.CommandView.{body_view};
 ghost use Rattle.formula_lang.specs.Fits.{BodyFits, DeclarationFits};
-ghost use Rattle.formula_lang.specs.NamesView.{kind_view};
 ghost use Rattle.graph.specs.Standing.{IsUnbroken};
 ghost use Rattle.inc_value.specs.declared.ty.Ty.{Ty as ATy};
 ghost use Rattle.node_arena.specs.Arena.{live};
@@ -27,7 +26,7 @@ ghost use Rattle.session.specs.Making.{AreMade, IsServing, KeepsFunctions, StayK
 
 use super::{Script, no_memory, or_no_memory};
 use formula_elab::{Made, Make, Plan, elaborate};
-use formula_lang::{Declaration, Formula, Kind, Names};
+use formula_lang::{Declaration, Names};
 use graph::{Graph, GraphFault};
 use inc_value::{NodeId, Ty};
 use indexed_nodes::IndexedNodes;
@@ -125,7 +124,7 @@ fn add_declared<L: Library>(
         Ok(node) => {
             nodes.reserve(1)?;
             let target = body.target(names.len());
-            match names.declare(name, ty, kind_of(body), target) {
+            match names.declare(name, ty, body.kind(), target) {
                 Ok(()) => {
                     nodes.push(node);
                     Ok(())
@@ -261,29 +260,5 @@ fn keep_body<L: Library>(graph: &mut Graph<ScriptFns<L>>, body: Body) -> Result<
             drop(body);
             Err(no_memory(fault))
         }
-    }
-}
-
-/// How a declaration is declared.
-fn kind_of(body: &Declaration) -> Kind
-    ensures { kind_view result ≡ kind_of_body (body_view body.now) }
-{
-    match body {
-        Declaration::Variable(_) => Kind::Var,
-        Declaration::Computed(
-            Formula::Literal(_)
-            | Formula::Name(_)
-            | Formula::Bound(_)
-            | Formula::Apply { .. }
-            | Formula::Fold { .. }
-            | Formula::If { .. }
-            | Formula::Join(_)
-            | Formula::At(_)
-            | Formula::Steps { .. }
-            | Formula::Now,
-        )
-        | Declaration::After(_)
-        | Declaration::Every { .. } => Kind::Let,
-        Declaration::Computed(Formula::Bind { .. }) => Kind::Bind,
     }
 }

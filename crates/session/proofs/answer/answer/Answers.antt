@@ -27,7 +27,7 @@ returns-in-Ok-Asks g c = taken_line _ _ _ _ _ _ _ _ (line_view c.in-Ok-Asks.line
 pub carry_out-answered-requires-clause-asked : goal.carry_out-answered-requires-clause-asked
 carry_out-answered-requires-clause-asked g c =
     let asks = rw c.in-Ok-Asks.field-0-is at c.in-Ok-Asks.ensures in
-    (without_return c.args.text.now, asks.1.1.line)
+    (without_return c.args.text.now, asks.1.1)
 
 pub returns-in-Err : goal.returns-in-Err
 returns-in-Err g c = carried_nothing _ _ _ _ _ _ _ _ _ _ refl

@@ -10,7 +10,7 @@ use Rattle.session.specs.Carried.{Performs}
 use Rattle.session.proofs.Answering.{answered_broken, answered_refused, followed_line, stabilize_line}
 use Rattle.session.proofs.Carried.{carried_nothing, carried_on, carried_refused, performed_as}
 use Rattle.session.proofs.Failing.{none_of}
-use Rattle.session.proofs.answer.carry_out.Goals.{in-Declare, in-Grab, in-Assign, in-Observe, in-Unobserve, in-Watch, in-Advance, in-Stabilize, in-Show}
+use Rattle.session.proofs.answer.carry_out.Goals.{in-Declare, in-Grab, in-Assign, in-Observe, in-Unobserve, in-Watch, in-Link, in-Unlink, in-Stale, in-Advance, in-Stabilize, in-Show}
 use Rattle.session.proofs.answer.carry_out.Goals as goal
 
 pub returns-in-Some : goal.returns-in-Some
@@ -36,6 +36,9 @@ returns g c =
       | in-Observe w ↦ let is = ap (λ (n : List ℕ). Observe n w.in-Observe.target) w.bytes-in-Observe.ensures ∙ ap command_view (sym w.in-Observe.is) in rw (w.script-is, w.out-is, w.done-is) (performed_as _ _ _ _ _ is _ _ _ _ _ w.observe-done.ensures)
       | in-Unobserve w ↦ let is = ap (λ (n : List ℕ). Unobserve n) w.bytes-in-Unobserve.ensures ∙ ap command_view (sym w.in-Unobserve.is) in rw (w.script-is, w.out-is, w.done-is) (performed_as _ _ _ _ _ is _ _ _ _ _ w.unobserve-done.ensures)
       | in-Watch w ↦ let is = ap (λ (n : List ℕ). Watch n) w.bytes-in-Watch.ensures ∙ ap command_view (sym w.in-Watch.is) in rw (w.script-is, w.out-is, w.done-is) (performed_as _ _ _ _ _ is _ _ _ _ _ w.watch-done.ensures)
+      | in-Link w ↦ let is = ap command_view (sym w.in-Link.is) in rw (w.script-is, w.out-is, w.done-is) (performed_as _ _ _ _ _ is _ _ _ _ _ w.link-done.ensures)
+      | in-Unlink w ↦ let is = ap command_view (sym w.in-Unlink.is) in rw (w.script-is, w.out-is, w.done-is) (performed_as _ _ _ _ _ is _ _ _ _ _ w.unlink-done.ensures)
+      | in-Stale w ↦ let is = ap command_view (sym w.in-Stale.is) in rw (w.script-is, w.out-is, w.done-is) (performed_as _ _ _ _ _ is _ _ _ _ _ w.make_stale-done.ensures)
       | in-Advance w ↦ let is = ap command_view (sym w.in-Advance.is) in rw (w.script-is, w.out-is, w.done-is) (performed_as _ _ _ _ _ is _ _ _ _ _ w.advance-done.ensures)
       | in-Stabilize w ↦ let is = ap command_view (sym w.in-Stabilize.is) in rw (w.script-is, w.out-is, w.done-is) (performed_as _ _ _ _ _ is _ _ _ _ _ w.stabilize-done.ensures)
       | in-Show w ↦ let is = ap (λ (n : List ℕ). Show n) w.bytes-in-Show.ensures ∙ ap command_view (sym w.in-Show.is) in rw (w.script-is, w.out-is, w.done-is) (performed_as _ _ _ _ _ is _ _ _ _ _ w.show-done.ensures)

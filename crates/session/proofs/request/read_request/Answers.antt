@@ -2,7 +2,6 @@ use Rattle.std.proofs.Common.{◌≡◌, false, ℕ, List, arith, sym, ap, subst
 use Rattle.line_parser.specs.TreeView.{line_view}
 use Rattle.script_model.specs.Grammar.{IsLine}
 use Rattle.script_model.specs.Language.{is_blank, without_return}
-use Rattle.session.proofs.Requests.{asks}
 use Rattle.session.proofs.request.read_request.Goals as goal
 
 pub returns-in-Ok : goal.returns-in-Ok
@@ -12,4 +11,4 @@ returns-in-Ok c =
     ap is_blank (sym content) ∙ (sym c.is_blank.ensures ∙ c.if-is_blank.false) in
     let limit = c.if-line-gt-LINE_LIMIT.false in
     let is = subst (λ (bytes : List ℕ). IsLine bytes (line_view c.in-Ok.line)) content c.in-Ok.ensures.line in
-    rw c.asked.ensures (asks c.args.line.now (line_view c.in-Ok.line) (omega (arith, limit)) some is)
+    (omega (arith, limit), (some, is))

@@ -1,4 +1,4 @@
-use Rattle.std.proofs.Common.{◌≡◌, [], ap, ◌∙◌}
+use Rattle.std.proofs.Common.{◌≡◌, [], ap, arith, ◌∙◌}
 use Rattle.node_arena.specs.RightSide.{Tally}
 use Rattle.script_graph.specs.Kept.{without_functions}
 use Rattle.script_graph.proofs.Beginning.{first_sound, first_stands}
@@ -12,7 +12,7 @@ returns-clause-first g c =
     ∙ none_there _ (ap (λ (t : Tally). t.taken) c.new.ensures.tally) in
     rw (c.new-3.ensures, c.new-4.ensures.items, c.new-5.ensures.items, bodies)
     (first_stands (without_functions c.new-2.result) c.new-2.ensures.nodes c.new-2.ensures.observers (g.L.Library.named l) (g.L.Library.value l)
-    c.new-2.ensures.time c.new-2.ensures.cutoff
+    c.new-2.ensures.time (let none = c.new-2.ensures.since in omega (arith, none)) c.new-2.ensures.cutoff
     (library_keeps (g.L.Library.named l) (g.L.Library.known l) (g.L.Library.value l) (g.met.L.Library.names_maps l) (g.met.L.Library.typed l)
     (g.met.L.Library.proper l)))
 
