@@ -7,6 +7,8 @@ mod driver;
 #[cfg(test)]
 mod generated;
 #[cfg(test)]
+mod lists;
+#[cfg(test)]
 mod rows;
 #[cfg(test)]
 mod tests;

@@ -38,7 +38,7 @@ pub(super) struct Row {
 }
 
 /// With room for all, and five bytes a read.
-const USUAL: Outside = Outside {
+pub(super) const USUAL: Outside = Outside {
     limit: 4_000_000,
     piece: 5,
     failing_read: 0,
@@ -46,7 +46,7 @@ const USUAL: Outside = Outside {
 };
 
 /// With room for all, and a page a read.
-const WIDE: Outside = Outside {
+pub(super) const WIDE: Outside = Outside {
     limit: 4_000_000,
     piece: 4_096,
     failing_read: 0,
@@ -62,7 +62,7 @@ const BYTE_BY_BYTE: Outside = Outside {
 };
 
 /// With seven bytes a read.
-const SEVEN_BYTES: Outside = Outside {
+pub(super) const SEVEN_BYTES: Outside = Outside {
     limit: 4_000_000,
     piece: 7,
     failing_read: 0,

@@ -2,6 +2,7 @@
 
 use crate::driver::is_answered;
 use crate::generated::{GENERATED, is_summed_up};
+use crate::lists::LISTS;
 use crate::rows::{BINDS, CHOICES, CLOCK, LANGUAGE, LIMITS, Row, STREAMS, SUMS, WATCHES};
 use std::alloc::Global;
 use std::test::Fail;
@@ -57,6 +58,11 @@ fn clock_is_answered(rt: HostRuntime) -> Result<(), Fail> {
 #[test]
 fn watches_are_answered(rt: HostRuntime) -> Result<(), Fail> {
     are_answered(rt.alloc(), WATCHES)
+}
+
+#[test]
+fn lists_are_answered(rt: HostRuntime) -> Result<(), Fail> {
+    are_answered(rt.alloc(), LISTS)
 }
 
 #[test]
