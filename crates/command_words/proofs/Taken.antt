@@ -1,15 +1,10 @@
 -- What is read of the words.
-use Rattle.std.proofs.Common.{◌≡◌, ℕ, List, [], ◌∷◌, Option, None, Some, Result, Ok, Err, option_map, map, refl, sym, ◌∙◌, ap, subst}
-use Rattle.std.specs.Prelude.{Box}
-use Rattle.std.specs.Box.{box_value}
+use Rattle.std.proofs.Common.{◌≡◌, ℕ, List, [], ◌∷◌, Option, None, Some, Result, Ok, Err, map, refl, sym, ◌∙◌, ap, subst}
 use Rattle.std.specs.Str.Parse.{ParsesUnsigned, digits_value, without_leading_plus}
-use Rattle.clap.specs.Words.{IsUnsignedIn, ReadsOne, Row, Text, one_of, rows_of, subcommand_name_of, subcommand_rows, subcommand_rows_of, subcommand_of}
-use Rattle.clap.specs.declared.parser.matches.ArgMatches.{ArgMatches}
-use Rattle.clap.specs.declared.parser.matches.ArgMatches.TheViews.{out-ArgMatches, out-SubCommand}
+use Rattle.clap.specs.Words.{IsUnsignedIn, ReadsOne, Row, Text, one_of, rows_of, subcommand_of}
 use Rattle.clap.specs.declared.parser.matches.Found.{Found}
-use Rattle.clap.specs.declared.parser.matches.SubCommand.{SubCommand}
 use Rattle.command_words.specs.Command.{incr}
-use Rattle.command_words.specs.Words.{AreTaken, AsksFor, AsksIn, GivesNumber, IsNumber}
+use Rattle.command_words.specs.Words.{AreTaken, AsksFor, AsksIn}
 use Rattle.command_words.specs.declared.asked.Asked.{Asked}
 use Rattle.command_words.specs.declared.asked.Asked.TheVariants as asked
 
@@ -32,28 +27,6 @@ number_is f name text given n here there read =
     let same : text ≡ given = let both = sym here ∙ there in cc in
     let number : n ≡ digits_value 10 (without_leading_plus given) = cc in
     number ∙ ap (λ (t : Text). digits_value 10 (without_leading_plus t)) (sym same)
-
--- the numbers that `gen` asks for
-pub is_number : (rows : List Row) (name : Text) (least most n : ℕ) (g : GivesNumber rows name least most)
-    → n ≡ digits_value 10 (without_leading_plus g.text) → IsNumber rows name least most n
-is_number rows name least most n g is = record {
-  text = g.text;
-  given = g.given;
-  is = is;
-  low = rw is g.taken.2;
-  high = rw is g.taken.3;
-}
-
--- the subcommand that was met, by its name and what it was given
-met_in : {Z : Type 0} (o : Option (Box SubCommand Z)) (name : Text) (rows : List Row)
-    → Some name ≡ option_map (λ b. (out-SubCommand (box_value b)).name.now) o → Some rows ≡ option_map (λ (p : Text × List Row). p.1) (subcommand_rows o)
-    → subcommand_rows o ≡ Some (name, rows)
-met_in None name rows named given = cc
-met_in (Some b) name rows named given = cc
-
-pub met_is : (m : ArgMatches) (name : Text) (rows : List Row) → Some name ≡ subcommand_name_of m
-    → Some rows ≡ option_map (λ (p : Text × List Row). p.1) (subcommand_rows_of m) → subcommand_rows_of m ≡ Some (name, rows)
-met_is m name rows named given = met_in (out-ArgMatches m).subcommand name rows named given
 
 -- no subcommand asks for nothing
 asks_some : (o : Option (Text × List Row)) → AsksIn o asked.Nothing → ⊥

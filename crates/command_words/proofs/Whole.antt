@@ -59,9 +59,6 @@ run_built = bare_built (codes "run")
 abbrev gen_built : Shape
 gen_built = record (bare_built (codes "gen")) { rules = gen_args }
 
-subs_built : (built incr).subs ≡ run_built ∷ gen_built ∷ []
-subs_built = refl
-
 -- ---- no fault
 
 both_none : (kinds more : Kinds) → or_else kinds more ≡ [] → (kinds ≡ []) × (more ≡ [])

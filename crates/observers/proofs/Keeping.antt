@@ -9,9 +9,9 @@ use Rattle.observers.specs.declared.observer.Observer.{Observer}
 use Rattle.observers.specs.declared.observer.Watch.{Watch}
 use Rattle.observers.specs.declared.observer.Watch.TheVariants.{Off, Fresh, Since}
 use Rattle.observers.specs.declared.looking.Looking.{Looking}
-use Rattle.observers.specs.Observers.{new_observer, ended, looked_at, watched, watch_from, begun, told_by, after, watch_after}
+use Rattle.observers.specs.Observers.{new_observer, looked_at, watched, watch_from, begun, told_by, after, watch_after}
 use Rattle.observers.specs.Keeping.{LooksAll, AwaitingAreDue, ShowWhatWasTold, IsToldShown, KeepsListed, StayDue, listed_at, awaits, is_off, open_in}
-use Rattle.observers.proofs.Lists.{some_is, no_some, no_bool, get_push, get_set, within}
+use Rattle.observers.proofs.Lists.{some_is, no_some, no_bool, get_push, within}
 
 -- ---- one more is made
 
@@ -36,24 +36,6 @@ told_more xs n told i o at = elim (get_push xs (new_observer n) i o at) [
 ]
 
 -- ---- one is ended
-
-pub looks_ended : (xs : List Observer) (k : ℕ) (n : NodeId) (looking : Rows Looking) → LooksAll xs looking → LooksAll (slice_set xs k (ended n)) looking
-looks_ended xs k n looking looks i o there used = elim (get_set xs k (ended n) i o there) [
-  | inl is ↦ no_bool (sym (ap (λ (p : Observer). p.in_use) is.1) ∙ used)
-  | inr was ↦ looks i o was used
-]
-
-pub due_ended : (xs : List Observer) (k : ℕ) (n : NodeId) (due : List ℕ) → AwaitingAreDue xs due → AwaitingAreDue (slice_set xs k (ended n)) due
-due_ended xs k n due waiting i o there e = elim (get_set xs k (ended n) i o there) [
-  | inl is ↦ no_bool (sym (ap awaits is.1) ∙ e)
-  | inr was ↦ waiting i o was e
-]
-
-pub told_ended : (xs : List Observer) (k : ℕ) (n : NodeId) → ShowWhatWasTold xs → ShowWhatWasTold (slice_set xs k (ended n))
-told_ended xs k n told i o there = elim (get_set xs k (ended n) i o there) [
-  | inl is ↦ subst (λ (p : Observer). IsToldShown p.watch p.shown) (sym is.1) tt
-  | inr was ↦ told i o was
-]
 
 -- ---- one is watched
 

@@ -83,16 +83,6 @@ set_length [] k y = refl
 set_length (x ∷ xs) zero y = refl
 set_length (x ∷ xs) (suc k) y = (let b = set_length xs k y in omega (arith, b))
 
--- what is set beyond the end of a list changes nothing
-pub set_beyond : {A : Type 0} (xs : List A) (k : ℕ) (y : A) → length xs ≤ k → slice_set xs k y ≡ xs
-set_beyond [] k y h = refl
-set_beyond (x ∷ xs) zero y h = absurd (omega (arith, h))
-set_beyond (x ∷ xs) (suc k) y h = ap (λ ys. x ∷ ys) (set_beyond xs k y (omega (arith, h)))
-
-pub none_more : {A : Type 0} (xs : List A) → xs ++ [] ≡ xs
-none_more [] = refl
-none_more (x ∷ xs) = ap (λ ys. x ∷ ys) (none_more xs)
-
 -- ---- the rest of a list from a place on
 
 pub drop_next : {A : Type 0} (xs : List A) (i : ℕ) (d : A) → i < length xs → drop i xs ≡ slice_index_or xs i d ∷ drop (i + 1) xs
