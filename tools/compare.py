@@ -450,8 +450,8 @@ def main():
     parser.add_argument("--profile", default=REPOSITORY / "crates/incr_profile/out/incr_profile",
                         help="default: incr_profile of this repository; an empty word for none")
     parser.add_argument("--through", type=int, default=8, help="the model's stage of the language (default 8)")
-    parser.add_argument("--later", type=int, nargs="*", default=[7], help="stages among these whose forms are yet to come, and are "
-                        "refused with 1 (default 7)")
+    parser.add_argument("--later", type=int, nargs="*", default=[], help="stages among these whose forms are yet to come, and are "
+                        "refused with 1 (default none)")
     parser.add_argument("--written", type=int, help="the stage that the model's own scripts are written for (default: that of --through): "
                         "lines of forms that come behind --through are to be refused with 1")
     parser.add_argument("--chain", type=int, help="how many points each chain has (default: 120 to 135, of which 129 may be needed)")

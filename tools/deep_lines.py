@@ -49,11 +49,11 @@ LINES = [
     ("let y ", "(", 4000, "", "", "refused 25"),
     ("let y ", "if ", 1300, "", "", "refused 25"),
     ("let y ", "bind v = ", 400, "", "", "refused 25"),
-    # of forms that aren't here yet
-    ("let y ", "freeze ", 290, "x", " when f", "refused 1"),
+    # freezes round one another, and what is no line
+    ("let y ", "freeze ", 290, "x", " when f", "refused 5"),
     ("let y ", "freeze ", 584, "", "", "refused 1"),
     ("let y ", "freeze ", 290, "x", " when ", "refused 1"),
-    ("let y ", "freeze join(", 64, "x", ") when f", "refused 1"),
+    ("let y ", "freeze join(", 64, "x", ") when f", "refused 5"),
     ("let y ", "after ", 600, "1", "", "refused 1"),
 ]
 

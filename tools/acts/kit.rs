@@ -1,5 +1,5 @@
-//! What stands for the kit's memory, `Vec`, `Slab`, `SmallVec`, `IndexMap`, `HashMap` and texts in crates that were translated to
-//! plain Rust, as far as they use these.
+//! What stands for the kit's memory, `Vec`, `VecDeque`, `Slab`, `SmallVec`, `IndexMap`, `HashMap` and texts in crates that were
+//! translated to plain Rust, as far as they use these.
 
 use std::cell::Cell;
 use std::collections;
@@ -239,6 +239,38 @@ impl<T> IntoIterator for Vec<T> {
 
     fn into_iter(self) -> std::vec::IntoIter<T> {
         self.0.into_iter()
+    }
+}
+
+/// Values of which the first is taken off first.
+pub struct VecDeque<T>(collections::VecDeque<T>);
+
+impl<T> VecDeque<T> {
+    pub fn with_capacity(_: Global, count: usize) -> Result<VecDeque<T>, AllocError> {
+        let mut all = VecDeque(collections::VecDeque::new());
+        all.reserve(count)?;
+        Ok(all)
+    }
+
+    pub fn reserve(&mut self, more: usize) -> Result<(), AllocError> {
+        if self.0.capacity() - self.0.len() < more {
+            take_memory()?;
+            self.0.reserve(more);
+        }
+        Ok(())
+    }
+
+    pub fn push_back_reserved(&mut self, value: T) {
+        assert!(self.0.len() < self.0.capacity(), "no room was made");
+        self.0.push_back(value);
+    }
+
+    pub fn pop_front(&mut self) -> Option<T> {
+        self.0.pop_front()
+    }
+
+    pub fn is_empty(&self) -> bool {
+        self.0.is_empty()
     }
 }
 

@@ -2,11 +2,12 @@
 
 use crate::state::{Body, Declared, Kind, Observer, Place, State, Watch};
 use crate::syntax::{Command, Formula, Literal, Time};
-use crate::values::{BOOL, INT, Outcome, TEXT, Type, Value, function};
+use crate::values::{BOOL, Base, INT, Outcome, TEXT, Type, Value, function};
 use std::collections::BTreeSet;
 use std::rc::Rc;
 
 const MOST_PLACES: usize = 1_048_575;
+const MOST_LINKS: usize = 4096;
 
 /// A state, and what it printed.
 pub struct Answer {
@@ -42,7 +43,8 @@ pub fn answers(state: State, parsed: &Result<Option<Command>, u8>) -> Vec<Answer
 /// The refusals up to the types.
 fn check(state: &State, command: &Command) -> Result<(), u8> {
     refuse_if(state.broken.is_some(), 22)?;
-    if let Command::Var(name, ..) | Command::Let(name, _) | Command::Grab(name, _) = command {
+    if let Command::Var(name, ..) | Command::Let(name, _) | Command::Expert(name, ..) | Command::Grab(name, _) = command
+    {
         refuse_if(state.find(name).is_some(), 3)?;
     }
     if let Command::Observe(observer, _) = command {
@@ -56,8 +58,11 @@ fn check(state: &State, command: &Command) -> Result<(), u8> {
     }
     if let Command::Let(_, formula) = command {
         refuse_if(!functions_are_known(formula), 5)?;
-        let is_top_form = |it: &Formula| matches!(it, Formula::After(_) | Formula::Every(_));
+        let is_top_form = |it: &Formula| matches!(it, Formula::After(_) | Formula::Every(_) | Formula::Freeze(..));
         refuse_if(formula.kids().iter().any(|kid| kid.holds(is_top_form)), 14)?;
+    }
+    if let Command::Expert(_, name, _) = command {
+        refuse_if(function(name).is_none(), 5)?;
     }
     let body = |name| &state.declared[state.target(found(state, name))].body;
     if let Command::Set(name, _) = command {
@@ -65,6 +70,9 @@ fn check(state: &State, command: &Command) -> Result<(), u8> {
     }
     if let Command::Grab(_, bind) = command {
         refuse_if(state.bind(state.target(found(state, bind))).is_none(), 8)?;
+    }
+    if let Command::Link(expert, _) | Command::Unlink(expert, _) | Command::Stale(expert) = command {
+        refuse_if(!matches!(body(expert), Body::Expert(..)), 10)?;
     }
     Ok(())
 }
@@ -86,7 +94,9 @@ fn names_read<'a>(command: &'a Command, read: &mut Vec<&'a str>) {
             reference_read(literal, read);
         }
         Command::Let(_, formula) => free_names(formula, &mut Vec::new(), read),
-        Command::Grab(_, name) | Command::Observe(_, name) => read.push(name),
+        Command::Expert(_, _, first) => reference_read(first, read),
+        Command::Link(expert, name) | Command::Unlink(expert, name) => read.extend([expert.as_str(), name]),
+        Command::Stale(name) | Command::Grab(_, name) | Command::Observe(_, name) => read.push(name),
         Command::Unobserve(_)
         | Command::Watch(_)
         | Command::Show(_)
@@ -126,8 +136,10 @@ fn free_names<'a>(formula: &'a Formula, variables: &mut Vec<&'a str>, read: &mut
 }
 
 fn functions_are_known(formula: &Formula) -> bool {
-    let calls_another =
-        |it: &Formula| matches!(it, Formula::Call(name, _) | Formula::Fold(name, ..) if function(name).is_none());
+    let calls_another = |it: &Formula| match it {
+        Formula::Call(name, _) | Formula::Fold(name, ..) | Formula::Freeze(_, name) => function(name).is_none(),
+        _ => false,
+    };
     !formula.holds(calls_another)
 }
 
@@ -137,6 +149,11 @@ fn carry_out(mut state: State, command: &Command) -> Vec<Answer> {
         Command::Var(name, ty, literal) => declare_variable(&mut state, name, *ty, literal).err(),
         Command::Let(name, formula) => declare_formula(&mut state, name, formula).err(),
         Command::Set(name, literal) => set(&mut state, name, literal).err(),
+        Command::Expert(name, function, first) => declare_expert(&mut state, name, function, first).err(),
+        Command::Link(expert, name) => link(&mut state, expert, name).err(),
+        Command::Unlink(expert, name) => unlink(&mut state, expert, name).err(),
+        // (what is shown tells nothing of it)
+        Command::Stale(_) => None,
         Command::Grab(name, bind) => return grab(state, name, bind),
         Command::Observe(observer, name) => {
             let target = state.target(found(&state, name));
@@ -233,19 +250,67 @@ fn set(state: &mut State, name: &str, literal: &Literal) -> Result<(), u8> {
     Ok(())
 }
 
+fn declare_expert(state: &mut State, name: &str, called: &str, first: &Literal) -> Result<(), u8> {
+    let function = function(called).expect("functions were looked up");
+    let (ty, first) = typed_literal(state, first)?;
+    refuse_if(function.folds().is_none() || ty != Type::Base(function.gives), 6)?;
+    refuse_if(state.counted + 1 > MOST_PLACES, 19)?;
+    state.counted += 1;
+    state.lists.insert(state.declared.len(), Vec::new());
+    declare(state, name, ty, None, Body::Expert(function, first));
+    Ok(())
+}
+
+/// The list of an expert, and the type of what it lists.
+fn listed<'a>(state: &'a mut State, expert: &str) -> (&'a mut Vec<usize>, Type) {
+    let expert = state.target(found(state, expert));
+    let Body::Expert(function, _) = state.declared[expert].body else { unreachable!("it is an expert") };
+    let element = function.folds().expect("its function folds");
+    (state.lists.get_mut(&expert).expect("it has a list"), Type::Base(element))
+}
+
+fn link(state: &mut State, expert: &str, name: &str) -> Result<(), u8> {
+    let position = found(state, name);
+    let (target, ty) = (state.target(position), state.declared[position].ty);
+    let (list, element) = listed(state, expert);
+    refuse_if(ty != element, 6)?;
+    refuse_if(list.len() == MOST_LINKS, 24)?;
+    list.push(target);
+    Ok(())
+}
+
+fn unlink(state: &mut State, expert: &str, name: &str) -> Result<(), u8> {
+    let target = state.target(found(state, name));
+    let (list, _) = listed(state, expert);
+    let place = list.iter().position(|listed| *listed == target).ok_or(23)?;
+    list.remove(place);
+    Ok(())
+}
+
 fn declare_formula(state: &mut State, name: &str, formula: &Formula) -> Result<(), u8> {
     if let Formula::Name(other) = formula {
         let position = found(state, other);
         declare(state, name, state.declared[position].ty, Some(state.target(position)), Body::Alias);
         return Ok(());
     }
-    let mut typing = Typing { state, places: Vec::new(), binds: Vec::new(), counted: 0 };
-    let (outermost, ty) = typing.formula(formula)?;
+    let predicate = match formula {
+        Formula::Freeze(_, predicate) => Some(function(predicate).expect("functions were looked up")),
+        _ => None,
+    };
+    let mut typing = Typing { state, places: Vec::new(), binds: Vec::new(), counted: usize::from(predicate.is_some()) };
+    let (outermost, ty) = typing.formula(if let Formula::Freeze(child, _) = formula { child } else { formula })?;
     let (places, counted) = (typing.places, typing.counted);
+    if let Some(predicate) = predicate {
+        refuse_if(!matches!(predicate.takes, [takes] if Type::Base(*takes) == ty) || predicate.gives != Base::Bool, 6)?;
+    }
     check_times(formula, state.now)?;
     refuse_if(state.counted + counted > MOST_PLACES, 19)?;
     state.counted += counted;
     state.places.extend(places.into_iter().map(|place| Rc::new(place.expect("each place was typed"))));
+    if let Some(predicate) = predicate {
+        declare(state, name, ty, None, Body::Freeze(outermost, predicate));
+        return Ok(());
+    }
     if let Kind::Bind { .. } = state.places[outermost].kind {
         state.built.insert(state.declared.len(), BTreeSet::from([None]));
     }
@@ -374,6 +439,7 @@ impl<'a> Typing<'a> {
             Formula::After(span) => Ok((Kind::At(behind(self.state.now, *span).unwrap_or(0)), BOOL)),
             Formula::Now => Ok((Kind::Now, INT)),
             Formula::Every(span) => Ok((Kind::Every { base: self.state.now, span: span.unwrap_or(0) }, INT)),
+            Formula::Freeze(..) => unreachable!("it is no part of a formula"),
             Formula::Steps(first, steps) => {
                 let (ty, first) = typed_literal(self.state, first)?;
                 let mut later = Vec::new();

@@ -20,9 +20,13 @@ pub enum Count {
     Turned,
     Watches,
     Notices,
+    Frozen,
+    Links,
+    Unlinks,
+    Stales,
 }
 
-const COUNTED: [&str; 16] = [
+const COUNTED: [&str; 20] = [
     "sessions",
     "lines answered as they may be",
     "stabilizes accepted",
@@ -39,6 +43,10 @@ const COUNTED: [&str; 16] = [
     "needed places that the clock turned since the stabilize before",
     "watches",
     "notices",
+    "freezes that came to keep a value",
+    "links put on",
+    "links taken off",
+    "experts made stale",
 ];
 
 #[derive(Default)]

@@ -2,7 +2,7 @@
 //! the formulas alone. Nothing passes from one state to another.
 
 use crate::state::{Body, Kind, State};
-use crate::values::{Outcome, Value};
+use crate::values::{Function, Outcome, Value};
 use std::cell::RefCell;
 use std::collections::{BTreeSet, HashMap, HashSet};
 use std::hash::{BuildHasherDefault, Hasher};
@@ -109,11 +109,29 @@ impl<'a> View<'a> {
         let outcome = match &state.declared[name].body {
             Body::Var => Some(Outcome::Value(state.values[&name].clone())),
             Body::Let(formula) => self.place(*formula, NOWHERE),
+            Body::Freeze(child, _) => match state.frozen.get(&name) {
+                Some(value) => Some(Outcome::Value(value.clone())),
+                None => self.place(*child, NOWHERE),
+            },
+            Body::Expert(function, first) => self.expert(name, function, first),
             Body::Grab { bind, left } => self.grab(name, *bind, left),
             Body::Alias => self.name(state.target(name)),
         };
         self.values.insert(Item::Name(name), outcome.clone());
         outcome
+    }
+
+    fn expert(&mut self, expert: usize, function: &Function, first: &Value) -> Option<Outcome> {
+        let state = self.state;
+        let outcomes: Option<Vec<Outcome>> = state.lists[&expert].iter().map(|&name| self.name(name)).collect();
+        let mut sum = first.clone();
+        for outcome in outcomes? {
+            match outcome {
+                Outcome::Value(element) => sum = (function.meaning)(&[sum, element]),
+                Outcome::Invalid => return Some(Outcome::Invalid),
+            }
+        }
+        Some(Outcome::Value(sum))
     }
 
     fn grab(&mut self, grab: usize, bind: usize, value: &Value) -> Option<Outcome> {
@@ -219,6 +237,9 @@ impl<'a> View<'a> {
         match &state.declared[name].body {
             Body::Var => Vec::new(),
             Body::Let(formula) => vec![Item::Place(*formula, NOWHERE)],
+            Body::Freeze(..) if state.frozen.contains_key(&name) => Vec::new(),
+            Body::Freeze(child, _) => vec![Item::Place(*child, NOWHERE)],
+            Body::Expert(..) => state.lists[&name].iter().map(|&listed| Item::Name(listed)).collect(),
             Body::Grab { .. } if !state.live.contains(&name) => Vec::new(),
             Body::Grab { bind, left: value } => {
                 let (left, body) = state.bind(*bind).expect("a grab is of a bind");
@@ -327,6 +348,12 @@ impl<'a> View<'a> {
         let depth = match &state.declared[name].body {
             Body::Var => Some(0),
             Body::Let(formula) => self.place_depth(*formula, NOWHERE),
+            Body::Freeze(..) if state.frozen.contains_key(&name) => Some(0),
+            Body::Freeze(child, _) => self.place_depth(*child, NOWHERE).map(|depth| depth + 1),
+            Body::Expert(..) => {
+                let depths: Option<Vec<u32>> = state.lists[&name].iter().map(|&listed| self.name_depth(listed)).collect();
+                depths.map(|depths| depths.into_iter().max().map_or(0, |depth| depth + 1))
+            }
             Body::Grab { bind, left } => self.grab_depth(name, *bind, left),
             Body::Alias => self.name_depth(state.target(name)),
         };

@@ -8,7 +8,7 @@ use crate::counts::{Count, Counts};
 use crate::evaluation::{Environments, Item, Items, NOWHERE, View};
 use crate::state::{Body, Observer, State, Watch};
 use crate::syntax::{Command, parse};
-use crate::values::Outcome;
+use crate::values::{Outcome, Value};
 use std::cell::RefCell;
 use std::collections::{BTreeSet, HashMap, HashSet, VecDeque};
 use std::rc::Rc;
@@ -35,6 +35,8 @@ pub struct Outlook {
     pub too_high: BTreeSet<usize>,
     /// The binds whose left was met, and what it gives; whether it is needed.
     lefts: Vec<(usize, Outcome, bool)>,
+    /// The freezes that are to keep a value.
+    fires: Vec<(usize, Value)>,
     deepest: u32,
     /// How many needed places show something else by the clock than at the stabilize before.
     turned: u64,
@@ -142,6 +144,9 @@ impl Judge {
             Ok(Some(Command::Show(_))) if given.ends_with(b"= invalid\n") => counts.count(Count::Invalid, 1),
             Ok(Some(Command::Show(_))) => counts.count(Count::Values, 1),
             Ok(Some(Command::Grab(..))) => counts.count(Count::Grabs, 1),
+            Ok(Some(Command::Link(..))) => counts.count(Count::Links, 1),
+            Ok(Some(Command::Unlink(..))) => counts.count(Count::Unlinks, 1),
+            Ok(Some(Command::Stale(_))) => counts.count(Count::Stales, 1),
             Ok(Some(Command::Advance(_) | Command::AdvanceTo(_))) => counts.count(Count::Moves, 1),
             _ => {}
         }
@@ -162,6 +167,7 @@ impl Judge {
         counts.count(Count::GreatestDepth, u64::from(outlook.deepest == GREATEST_DEPTH));
         counts.count(Count::Builds, outlook.builds(&was.state));
         counts.count(Count::Turned, outlook.turned);
+        counts.count(Count::Frozen, outlook.fires.len() as u64);
         counts.count(Count::Deaths, (was.state.live.len() - reading.state.live.len()) as u64);
     }
 
@@ -260,6 +266,13 @@ fn look(before: &State, state: &State) -> Outlook {
     outlook.blocked |= outlook.circles.iter().any(|&name| needed.contains(&Item::Name(name)));
     if !outlook.blocked {
         outlook.shown = state.observers.iter().map(|observer| view.name(observer.target)).collect();
+        for (freeze, child, predicate) in state.unfrozen() {
+            if let Some(Outcome::Value(value)) = view.place(child, NOWHERE) {
+                if (predicate.meaning)(std::slice::from_ref(&value)) == Value::Bool(true) {
+                    outlook.fires.push((freeze, value));
+                }
+            }
+        }
     }
     for &bind in state.built.keys() {
         let (left, _) = state.bind(bind).expect("it is a bind");
@@ -401,6 +414,7 @@ impl Outlook {
     fn settled(&self, state: &State) -> Vec<State> {
         let mut after = state.clone();
         after.stabilizes += 1;
+        after.frozen.extend(self.fires.iter().cloned());
         for (observer, shown) in after.observers.iter_mut().zip(&self.shown) {
             observer.shown = shown.clone();
             if let (Watch::Fresh | Watch::Told(_), Some(now)) = (&observer.watch, shown) {

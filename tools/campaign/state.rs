@@ -18,6 +18,10 @@ pub enum Body {
     Var,
     /// A formula, by its outermost place.
     Let(usize),
+    /// The outermost place of what it follows, and the predicate.
+    Freeze(usize, &'static Function),
+    /// A fold of a list from a first value on.
+    Expert(&'static Function, Value),
     /// The right side that a bind had for this left value.
     Grab {
         bind: usize,
@@ -110,6 +114,10 @@ pub struct State {
     /// How many places count against the limit.
     pub counted: usize,
     pub values: BTreeMap<usize, Value>,
+    /// What freezes keep.
+    pub frozen: BTreeMap<usize, Value>,
+    /// What experts list, by target.
+    pub lists: BTreeMap<usize, Vec<usize>>,
     /// The clock, in nanoseconds.
     pub now: i64,
     /// The outcomes that each bind of a `let` may have been built for last, `None` for never. There is more than one
@@ -163,9 +171,18 @@ impl State {
         }
     }
 
-    /// The targets of the observers in use.
+    /// The freezes that keep no value, each with what it follows and its predicate.
+    pub fn unfrozen(&self) -> impl Iterator<Item = (usize, usize, &'static Function)> + '_ {
+        self.declared.iter().enumerate().filter_map(|(name, declared)| match declared.body {
+            Body::Freeze(child, predicate) if !self.frozen.contains_key(&name) => Some((name, child, predicate)),
+            _ => None,
+        })
+    }
+
+    /// Where need begins: the targets of the observers in use, and the freezes that keep no value.
     pub fn roots(&self) -> BTreeSet<usize> {
-        self.observers.iter().map(|observer| observer.target).collect()
+        let observed = self.observers.iter().map(|observer| observer.target);
+        observed.chain(self.unfrozen().map(|freeze| freeze.0)).collect()
     }
 
     pub fn print_outcome(&self, outcome: &Outcome, out: &mut Vec<u8>) {

@@ -13,6 +13,11 @@ pub enum Command {
     Var(String, Type, Literal),
     Set(String, Literal),
     Let(String, Formula),
+    /// An expert, its function and its first value.
+    Expert(String, String, Literal),
+    Link(String, String),
+    Unlink(String, String),
+    Stale(String),
     Grab(String, String),
     Observe(String, String),
     Unobserve(String),
@@ -47,6 +52,8 @@ pub enum Formula {
     Now,
     After(Time),
     Every(Time),
+    /// The formula, and the predicate.
+    Freeze(Box<Formula>, String),
 }
 
 impl Formula {
@@ -56,7 +63,7 @@ impl Formula {
             Formula::Call(_, kids) | Formula::Fold(_, _, kids) => kids,
             Formula::If(kids) => kids.as_slice(),
             Formula::Bind(_, parts) => parts.as_slice(),
-            Formula::Join(kid) => std::slice::from_ref(kid),
+            Formula::Join(kid) | Formula::Freeze(kid, _) => std::slice::from_ref(kid),
             _ => &[],
         }
     }
@@ -214,6 +221,10 @@ impl Rest<'_> {
             "var" => Command::Var(self.name()?, self.ty()?, self.literal()?),
             "set" => Command::Set(self.name()?, self.literal()?),
             "let" => Command::Let(self.name()?, self.formula()?),
+            "expert" => self.expert()?,
+            "link" => Command::Link(self.name()?, self.name()?),
+            "unlink" => Command::Unlink(self.name()?, self.name()?),
+            "stale" => Command::Stale(self.name()?),
             "grab" => Command::Grab(self.name()?, self.name()?),
             "observe" => Command::Observe(self.name()?, self.name()?),
             "unobserve" => Command::Unobserve(self.name()?),
@@ -223,6 +234,14 @@ impl Rest<'_> {
             "stabilize" => Command::Stabilize,
             _ => return None,
         })
+    }
+
+    fn expert(&mut self) -> Option<Command> {
+        let name = self.name()?;
+        self.word("fold")?;
+        let function = self.name()?;
+        self.word("from")?;
+        Some(Command::Expert(name, function, self.literal()?))
     }
 
     fn next(&mut self) -> Option<&Token> {
@@ -281,7 +300,7 @@ impl Rest<'_> {
         let Some(Token::Word(word)) = self.tokens.first() else { return Some(Formula::Literal(self.literal()?)) };
         match word.as_str() {
             "true" | "false" => return Some(Formula::Literal(self.literal()?)),
-            "if" | "bind" | "join" | "fold" | "at" | "steps" | "now" | "after" | "every" => self.next()?,
+            "if" | "bind" | "join" | "fold" | "at" | "steps" | "now" | "after" | "every" | "freeze" => self.next()?,
             _ => {
                 let name = self.name()?;
                 return Some(if self.begins_with(b'(') {
@@ -310,6 +329,11 @@ impl Rest<'_> {
             "now" => Formula::Now,
             "after" => Formula::After(self.time()?),
             "every" => Formula::Every(self.time()?),
+            "freeze" => {
+                let kid = self.formula()?;
+                self.word("when")?;
+                Formula::Freeze(Box::new(kid), self.name()?)
+            }
             "steps" => {
                 let first = self.literal()?;
                 self.sign(b'[')?;

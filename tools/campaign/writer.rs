@@ -1,6 +1,7 @@
 //! Writes the lines of one session at random, one after the other, by what the judge knows of the session.
 
 mod clock;
+mod lists;
 
 use crate::judge::{Judge, Outlook};
 use crate::state::{Kind, State};
@@ -70,6 +71,9 @@ pub struct Writer {
     tops: Vec<String>,
     /// Whether the session reads the clock and moves it.
     timed: bool,
+    /// Whether it has freezes and experts, and whether one of these is filled with links.
+    listed: bool,
+    fills: bool,
     /// The variables that the last stabilize needed.
     needed: Vec<usize>,
 }
@@ -90,6 +94,8 @@ impl Writer {
         let rounds = chance.between(size / 2, 4 * size);
         let chains = chance.percent(30);
         let timed = chance.percent(75);
+        let listed = chance.percent(70);
+        let fills = listed && chance.percent(1);
         let rest = chance.below(4);
         let (planned, tops, needed) = (VecDeque::new(), Vec::new(), Vec::new());
         Writer {
@@ -105,6 +111,8 @@ impl Writer {
             chains,
             tops,
             timed,
+            listed,
+            fills,
             needed,
         }
     }
@@ -334,6 +342,9 @@ impl Writer {
 
     fn round(&mut self, state: &State) {
         let room = state.declared.len() < self.size;
+        if self.listed {
+            self.list(state, room);
+        }
         match self.chance.below(100) {
             0..=19 if room => self.declare(state),
             20..=25 if self.chains && room => self.chain(state),
@@ -369,6 +380,25 @@ impl Writer {
             self.move_clock(state);
         }
         self.plan([Step::Stabilize, Step::Shows]);
+    }
+
+    fn list(&mut self, state: &State, room: bool) {
+        match self.chance.below(100) {
+            0..=7 if room => self.freeze(state),
+            8..=10 if room => self.frozen_circle(),
+            11..=16 if room => self.new_expert(state),
+            17..=40 => self.relist(state),
+            41..=44 => {
+                let new = self.fresh("w");
+                let text = self.wrong_list(state, &new);
+                self.plan([line(text)]);
+            }
+            45 if room && self.fills => {
+                self.fills = false;
+                self.full_list();
+            }
+            _ => {}
+        }
     }
 
     fn show(&mut self, state: &State) {
@@ -456,10 +486,12 @@ impl Writer {
             let truth = *self.chance.pick(&truths);
             return format!("set {} {}", state.declared[truth].name, state.values[&truth] != Value::Bool(true));
         }
-        match self.observer(state) {
-            Some(observer) => format!("unobserve {observer}"),
-            None => "# nothing is observed".to_owned(),
-        }
+        // (a freeze is needed though nobody observes it)
+        let unlinked = if self.chance.percent(50) { self.unlinked(state) } else { None };
+        unlinked.or_else(|| self.observer(state).map(|observer| format!("unobserve {observer}"))).unwrap_or_else(|| {
+            let reference = self.variable(state, Type::Node(Base::Int)).expect("there is one");
+            format!("set {reference} &x0")
+        })
     }
 
     /// A chain of negations over a variable, over what a reference names or in a right side, and another one over it.
@@ -721,7 +753,7 @@ impl Writer {
             11 => format!("let {new} {}", nested(65, &name)),
             12 => format!("# {}", "x".repeat(4096)),
             13 => "   # a note".to_owned(),
-            14 => format!("let {new} freeze {name} when pos"),
+            14 => format!("let {new} freeze {name}"),
             15 => format!("watch {new}"),
             _ => format!("let {new} bind {name} = {name} in if {name} then 1 else 2"),
         };
