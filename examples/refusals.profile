@@ -8,9 +8,9 @@ refused 1
 refused 1
 refused 1
 refused 1
-refused 1
-refused 1
-refused 1
+refused 3
+refused 3
+refused 4
 refused 1
 refused 1
 refused 1

@@ -1,0 +1,16 @@
+ok
+ok
+ok
+ok
+ok
+ok
+stable 1
+calls 0
+ok
+stable 2
+calls 0
+ok
+stable 3
+calls 0
+o = 103
+m = &paris
