@@ -14,7 +14,7 @@ use Rattle.link_table.specs.Ends.{end, row_ends, ends_at, ends_with, points, lin
 use Rattle.link_table.proofs.Lists.{split}
 
 -- how often the point of a row reads q
-kids_times : (p q : Point) (ends : List End) → count_by (same_link p q) (map (λ e. link p e.point) ends) ≡ ends_with ends q
+pub kids_times : (p q : Point) (ends : List End) → count_by (same_link p q) (map (λ e. link p e.point) ends) ≡ ends_with ends q
 kids_times p q [] = refl
 kids_times p q (e ∷ rest) =
     let next = kids_times p q rest in let self = same_point_self p in
@@ -26,7 +26,7 @@ kids_times p q (e ∷ rest) =
     ) refl
 
 -- the point of another row doesn't
-others_times : (r p q : Point) (ends : List End) → same_point r p ≡ false → count_by (same_link p q) (map (λ e. link r e.point) ends) ≡ 0
+pub others_times : (r p q : Point) (ends : List End) → same_point r p ≡ false → count_by (same_link p q) (map (λ e. link r e.point) ends) ≡ 0
 others_times r p q [] other = refl
 others_times r p q (e ∷ rest) other =
     let next = others_times r p q rest other in
@@ -89,7 +89,7 @@ module _ (fewer more : EndLists) (once : StandsOnce fewer.rows.places) (once_mor
   links_kept h a b = times_of_ends more once_more a b ∙ ap (λ l. ends_with l b) (h a) ∙ sym (times_of_ends fewer once a b)
 
 -- an end at a place is counted
-leads_counted : (ends : List End) (q : Point) (i : ℕ) → LeadsTo ends q i → 0 < ends_with ends q
+pub leads_counted : (ends : List End) (q : Point) (i : ℕ) → LeadsTo ends q i → 0 < ends_with ends q
 leads_counted [] q i h = absurd (none-some q h)
 leads_counted (x ∷ xs) q zero h =
     let same = same_Some x.point q h in let self = same_point_self q in
@@ -118,7 +118,7 @@ pub place_there : (kids : EndLists) → StandsOnce kids.rows.places → (p q : P
 place_there kids once p q x some none r = (told_place kids once p q x some none).1 r
 
 -- where there are ends, one leads somewhere
-leads_somewhere : (ends : List End) → ends ≢ [] → (r : Point) × (0 < ends_with ends r)
+pub leads_somewhere : (ends : List End) → ends ≢ [] → (r : Point) × (0 < ends_with ends r)
 leads_somewhere [] some = absurd (some refl)
 leads_somewhere (e ∷ rest) some = (e.point, leads_counted (e ∷ rest) e.point 0 refl)
 

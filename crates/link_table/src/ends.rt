@@ -12,8 +12,8 @@ use std::alloc::{AllocError, Global};
 /// among the ends that are kept there.
 #[derive(Clone, Copy)]
 pub struct End {
-    pub(crate) point: Point,
-    pub(crate) back: usize,
+    pub point: Point,
+    pub back: usize,
 }
 
 /// What stands in a place that is not used.
@@ -32,13 +32,12 @@ impl Default for End {
 /// The ends of links at each point. A point at which there are none takes no room.
 pub(crate) struct EndLists {
     pub(crate) rows: PointMap<SmallVec<End, 2>>,
-    alloc: Global,
 }
 
 // (written out: whoever drops one proves one call, and no drop of its parts)
 impl Drop for EndLists {
     fn drop(self) {
-        let EndLists { rows, alloc: _ } = self;
+        let EndLists { rows } = self;
         drop(rows);
     }
 }
@@ -50,7 +49,6 @@ impl EndLists {
     {
         EndLists {
             rows: PointMap::new(alloc),
-            alloc,
         }
     }
 
@@ -65,7 +63,7 @@ impl EndLists {
     }
 
     /// Puts an end behind those of a point. Without memory every point keeps its ends.
-    pub fn push(&mut self, p: Point, end: End) -> Result<(), AllocError>
+    pub fn push(&mut self, alloc: Global, p: Point, end: End) -> Result<(), AllocError>
         ensures more { OnOk result (OneEndMore self.old self.new p end) }
         ensures err { OnErr result (KeepsEnds self.old self.new) }
         ensures tight { HasNoEmptyRow self.old → HasNoEmptyRow self.new }
@@ -75,7 +73,7 @@ impl EndLists {
                 row.push(end)?;
                 Ok(())
             }
-            None => self.push_first(p, end),
+            None => self.push_first(alloc, p, end),
         }
     }
 
@@ -127,22 +125,22 @@ impl EndLists {
         row[i] = end;
     }
 
-    fn push_first(&mut self, p: Point, end: End) -> Result<(), AllocError>
+    fn push_first(&mut self, alloc: Global, p: Point, end: End) -> Result<(), AllocError>
         requires absent { at self.old.rows p ≡ None }
         ensures more { OnOk result (OneEndMore self.old self.new p end) }
         ensures err { OnErr result (KeepsEnds self.old self.new) }
         ensures tight { HasNoEmptyRow self.old → HasNoEmptyRow self.new }
     {
         self.rows.reserve(1)?;
-        let mut row = SmallVec::new(self.alloc);
+        let mut row = SmallVec::new(alloc);
         row.push_reserved(end);
         self.rows.insert(p, row);
         Ok(())
     }
 }
 
-// Takes the i-th of these ends off. The last one comes into its place and is given, unless it was that end itself.
-fn take_from(row: &mut SmallVec<End, 2>, i: usize) -> Option<End>
+/// Takes the i-th of these ends off. The last one comes into its place and is given, unless it was that end itself.
+pub fn take_from(row: &mut SmallVec<End, 2>, i: usize) -> Option<End>
     requires there { i < length row.old.items }
     ensures taken { ItemIsTaken row.old.items row.new.items i }
     ensures moved { result ≡ slice_get row.new.items i }

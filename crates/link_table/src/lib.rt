@@ -7,6 +7,8 @@ mod sides;
 mod table;
 mod walks;
 
+pub use ends::{End, take_from};
 pub use link::Link;
+pub use sides::{last_beside, place_of};
 pub use table::LinkTable;
 pub use walks::{Kids, Readers};

@@ -5,10 +5,11 @@ ghost use Rattle.link_table.specs.Ends.{end, ends_at, end_at, ends_with, HasNoEm
 
 use crate::ends::{End, EndLists};
 use inc_value::Point;
-use std::alloc::AllocError;
+use std::alloc::{AllocError, Global};
 
 /// Makes p read q, once more. Without memory the links stay as they are.
 pub(crate) fn add_ends(
+    alloc: Global,
     kids: &mut EndLists,
     readers: &mut EndLists,
     p: Point,
@@ -21,8 +22,8 @@ pub(crate) fn add_ends(
 {
     let i = kids.of(p).len();
     let back = readers.of(q).len();
-    kids.push(p, End { point: q, back })?;
-    if let Err(e) = readers.push(q, End { point: p, back: i }) {
+    kids.push(alloc, p, End { point: q, back })?;
+    if let Err(e) = readers.push(alloc, q, End { point: p, back: i }) {
         kids.take_last(p);
         return Err(e);
     }
@@ -95,8 +96,8 @@ fn take_end(side: &mut EndLists, other: &mut EndLists, p: Point, i: usize)
     }
 }
 
-// A place of an end of a link with q, and the place of the link's other end.
-fn place_of(ends: &[End], q: Point) -> Option<(usize, usize)>
+/// A place of an end of a link with q, and the place of the link's other end.
+pub fn place_of(ends: &[End], q: Point) -> Option<(usize, usize)>
     ensures some { IfSome result (λ r. slice_get ends.now r.0 ≡ Some (end q r.1)) }
     ensures none { IfNone result (ends_with ends.now q ≡ 0) }
 {
@@ -109,7 +110,7 @@ fn place_of(ends: &[End], q: Point) -> Option<(usize, usize)>
 }
 
 /// The last end that leads to another point than this one, with its place.
-pub(crate) fn last_beside(ends: &[End], kept: Point) -> Option<(usize, End)>
+pub fn last_beside(ends: &[End], kept: Point) -> Option<(usize, End)>
     ensures there { IfSome result (λ r. slice_get ends.now r.0 ≡ Some r.1) }
     ensures other { IfSome result (λ r. r.1.point ≢ kept) }
     ensures none { IfNone result ((q : APoint) → q ≢ kept → ends_with ends.now q ≡ 0) }

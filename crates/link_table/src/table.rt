@@ -18,6 +18,7 @@ use std::marker::Model;
 /// the two tells the place of the other. So a link goes in constant time, however many others its points have,
 /// but for a search through the shorter of the two lists.
 pub struct LinkTable {
+    alloc: Global,
     kids: EndLists,
     readers: EndLists,
 }
@@ -25,7 +26,11 @@ pub struct LinkTable {
 // (written out: whoever drops one proves one call, and no drop of its parts)
 impl Drop for LinkTable {
     fn drop(self) {
-        let LinkTable { kids, readers } = self;
+        let LinkTable {
+            alloc: _,
+            kids,
+            readers,
+        } = self;
         drop(kids);
         drop(readers);
     }
@@ -49,6 +54,7 @@ impl LinkTable {
         ensures none { result.all ≡ [] }
     {
         LinkTable {
+            alloc,
             kids: EndLists::new(alloc),
             readers: EndLists::new(alloc),
         }
@@ -59,7 +65,7 @@ impl LinkTable {
         ensures added { OnOk result (OneLinkMore self.old self.new p q) }
         ensures err { OnErr result (KeepsLinks self.old self.new) }
     {
-        let done = add_ends(&mut self.kids, &mut self.readers, p, q);
+        let done = add_ends(self.alloc, &mut self.kids, &mut self.readers, p, q);
         // The walk over its places is what says that each point has one row.
         let _places = self.kids.rows.places();
         done

@@ -1,4 +1,7 @@
 //! Walks over the links of a point.
+ghost use Rattle.std.specs.Prelude.{◌≡◌};
+ghost use Rattle.link_table.specs.Ends.{points};
+ghost use Rattle.link_table.specs.Walks.{kids_left, readers_left};
 
 use crate::ends::End;
 use inc_value::Point;
@@ -13,6 +16,26 @@ pub struct Kids<'a> {
 #[derive(Drop)]
 pub struct Readers<'a> {
     pub(crate) ends: &'a [End],
+}
+
+impl<'a> Kids<'a> {
+    /// The points at the other ends.
+    #[inline]
+    pub fn over(ends: &'a [End]) -> Kids<'a>
+        ensures { kids_left result ≡ points ends.now }
+    {
+        Kids { ends }
+    }
+}
+
+impl<'a> Readers<'a> {
+    /// The points at the other ends.
+    #[inline]
+    pub fn over(ends: &'a [End]) -> Readers<'a>
+        ensures { readers_left result ≡ points ends.now }
+    {
+        Readers { ends }
+    }
 }
 
 impl<'a> Iterator for Kids<'a> {
