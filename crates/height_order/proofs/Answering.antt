@@ -135,6 +135,13 @@ module _ {A : Type 0} (old : Web) (p q : Point) (before : List Point) where
     moved = moved;
   }
 
+  -- the link is made, and heights stay
+  pub made_still : (new : Web) (x : A) → OneLinkMore old.links new.links p q → AreSoundHeights new.heights new.links → new.heights ≡ old.heights
+      → IsLinkAnswer {A = A} old new p q before before (Ok x)
+  made_still new x linked sound same = made_told new before x linked sound (λ _ y. ap (λ m. at m y) same)
+      (λ y differs. absurd (differs (ap (λ m. level m y) same))) (λ y. ap (λ m. is_some (at m y)) same)
+      (tells_none (level old.heights) (level new.heights) before (λ y. ap (λ m. level m y) same))
+
 -- what is led to over the links with the new one, by a point that is to be lifted, is near
 pub fitted_near : (heights : Rows ℕ) (links more : Links) (p q : Point) (lifts : Rows Lift) → AreSoundHeights heights links → IsClimbed heights links p q lifts
     → OneLinkMore links more p q → (top x : Point) → Holds lifts top → Leads (Reads more) top x → IsNear links p q x
@@ -147,17 +154,17 @@ fitted_near heights links more p q lifts sound climbed one top x there leads =
 
 module _ {A E : Type 0} (old : Rows ℕ) (links : Links) (p q : Point) (before : List Point) (sound : AreSoundHeights old links) where
   -- the ends are levelled
-  pub ends_adopted : (r : Result A E) (levels new : Rows ℕ) (after : List Point) → AreLevels links (bound old old) levels
+  pub ends_adopted : (r : Result A E) (levels new : Rows ℕ) (after : List Point) → AreLevels links (bound {R = Lift} old None) levels
       → ((x : Point) → IsBelow links p q x → Holds levels x)
       → ((x : Point) → Holds levels x → IsBelow links p q x)
       → OnOk r ((x : Point) → level new x ≡ levelled old levels x) → OnErr r (new ≡ old) → OnErr r (after ≡ before)
       → KeepsPoints old new → Tells (level old) (level new) before after → AreEndsLevelled old new links p q before after r
   ends_adopted (Ok u) levels new after so all below written err untold kept moved = record {
-    sound = sound_again old levels new links (bound old old) so written (height_under old old sound.low) sound kept;
-    exact = λ x leads. now_longest old levels new links (bound old old) so written x (all x leads);
+    sound = sound_again old levels new links (bound {R = Lift} old None) so written (λ x. let l = sound.low x in omega (arith, l)) sound kept;
+    exact = λ x leads. now_longest old levels new links (bound {R = Lift} old None) so written x (all x leads);
     err = tt;
     points = kept;
-    below = λ x differs. below x (changed_there old levels new links (bound old old) so written x differs);
+    below = λ x differs. below x (changed_there old levels new links (bound {R = Lift} old None) so written x differs);
     moved = moved;
   }
   ends_adopted (Err e) levels new after so all below written err untold kept moved = record {
@@ -228,19 +235,19 @@ module _ {E : Type 0} (old : Rows ℕ) (links : Links) (lifts : Rows Lift) (befo
 
 -- lifted points are levelled, and fit
 pub fitted_told : {E : Type 0} (old levels new : Rows ℕ) (links : Links) (lifts : Rows Lift) (before after : List Point)
-    → AreLevels links (bound old lifts) levels → ((x : Point) → level new x ≡ levelled old levels x) → IsRanked (Reads links) old lifts → ((x : Point) → Holds lifts x → Holds levels x)
+    → AreLevels links (bound old (Some lifts)) levels → ((x : Point) → level new x ≡ levelled old levels x) → IsRanked (Reads links) old lifts → ((x : Point) → Holds lifts x → Holds levels x)
     → ((x : Point) → Holds levels x → (top : Point) × Holds lifts top × Leads (Reads links) top x)
     → Ends old links → AllLow (level old) → ((x : Point) → level levels x ≤ 128) → KeepsPoints old new → Tells (level old) (level new) before after
     → IsFitted {E = E} old new links lifts before after (Ok None)
 fitted_told old levels new links lifts before after so written ranked each below ends low fits kept moved = record {
-  sound = sound_levels old levels new links (bound old lifts) so written (height_under old lifts low) ranked.rank ranked.rises
+  sound = sound_levels old levels new links (bound old (Some lifts)) so written (height_under old lifts low) ranked.rank ranked.rises
       (λ x none. ranked.same x (no_lift x none (there_cases lifts x))) ends kept low (λ x there. fits x);
   chain = tt;
   chain_length = tt;
   kept = tt;
   err = tt;
   points = kept;
-  near = λ x differs. below x (changed_there old levels new links (bound old lifts) so written x differs);
+  near = λ x differs. below x (changed_there old levels new links (bound old (Some lifts)) so written x differs);
   moved = moved;
 }
   where

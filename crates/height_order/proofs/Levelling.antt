@@ -59,28 +59,28 @@ module _ (heights levels : Rows ℕ) where
 
 module _ {R : Type 0} (heights : Rows ℕ) (free : Rows R) where
   -- a point that isn't free is bounded by its height
-  pub bound_none : (p : Point) → at free p ≡ None → bound heights free p ≡ level heights p
+  pub bound_none : (p : Point) → at free p ≡ None → bound heights (Some free) p ≡ level heights p
   bound_none p e = ap (λ o. bound_by (level heights p) o) e
 
-  pub bound_free : (p : Point) → Holds free p → bound heights free p ≡ 257
+  pub bound_free : (p : Point) → Holds free p → bound heights (Some free) p ≡ 257
   bound_free p there = let r = row_there free p there in ap (λ o. bound_by (level heights p) o) r.1
 
-  over_by : (p : Point) → level heights p ≤ 128 → (at free p ≡ None) ⊎ Holds free p → level heights p ≤ bound heights free p
+  over_by : (p : Point) → level heights p ≤ 128 → (at free p ≡ None) ⊎ Holds free p → level heights p ≤ bound heights (Some free) p
   over_by p low (inl none) = let e = bound_none p none in omega (arith, e)
   over_by p low (inr there) = let e = bound_free p there in omega (arith, e, low)
 
   -- no height is above its bound
-  pub height_under : AllLow (level heights) → (p : Point) → level heights p ≤ bound heights free p
+  pub height_under : AllLow (level heights) → (p : Point) → level heights p ≤ bound heights (Some free) p
   height_under low p = over_by p (low p) (there_cases free p)
 
   module _ (links : Links) (rank : Point → ℕ) (rises : Rises (Reads links) rank) (low : (p : Point) → rank p ≤ 257)
       (same : (p : Point) → at free p ≡ None → rank p ≡ level heights p) where
-    rank_under : (p : Point) → (at free p ≡ None) ⊎ Holds free p → rank p ≤ bound heights free p
+    rank_under : (p : Point) → (at free p ≡ None) ⊎ Holds free p → rank p ≤ bound heights (Some free) p
     rank_under p (inl none) = let e = bound_none p none in let s = same p none in omega (arith, e, s)
     rank_under p (inr there) = let e = bound_free p there in let l = low p in omega (arith, e, l)
 
     -- these are bounds where numbers rise along all links that are the heights of points that aren't free
-    pub are_bounds : AreBounds links (bound heights free)
+    pub are_bounds : AreBounds links (bound heights (Some free))
     are_bounds p list chain starts =
         let h = none_longer_by (Reads links) rank rises p list chain starts in
         let u = rank_under p (there_cases free p) in omega (arith, h, u)

@@ -10,7 +10,7 @@ use Rattle.height_order.specs.Levels.{level, levelled, Rises, AllLow, Ends, AreS
 use Rattle.height_order.specs.Climbs.{lifted, IsClimbed, IsRanked}
 use Rattle.height_order.proofs.Points.{row_there, there_cases, not_both, some_there, still_there}
 use Rattle.height_order.proofs.Chaining.{none_longer_by, longest_under, longest_falls, along}
-use Rattle.height_order.proofs.Levelling.{none_at, level_at, levelled_none, levelled_there, longest_there, bound_free, are_bounds}
+use Rattle.height_order.proofs.Levelling.{none_at, level_at, levelled_none, levelled_there, longest_there, are_bounds}
 use Rattle.height_order.proofs.Lifting.{lifted_none}
 use Rattle.height_order.proofs.Sounding.{reads_from}
 
@@ -104,23 +104,27 @@ short_by_rank heights lifts links s p list chain starts =
     let h = none_longer_by (Reads links) s.rank s.rises p list chain starts in let l = s.low p in omega (arith, h, l)
 
 -- what bounds levels where heights rise, and where some points are lifted
-pub bounded_by_heights : {R : Type 0} (heights : Rows ℕ) (free : Rows R) (links : Links) → AreSoundHeights heights links → AreBounds links (bound heights free)
+pub bounded_by_heights : {R : Type 0} (heights : Rows ℕ) (free : Rows R) (links : Links) → AreSoundHeights heights links → AreBounds links (bound heights (Some free))
 bounded_by_heights heights free links s =
     are_bounds heights free links (level heights) s.rises (λ p. let l = s.low p in omega (arith, l)) (λ p none. refl)
 
-pub bounded_by_rank : (heights : Rows ℕ) (lifts : Rows Lift) (links : Links) → IsRanked (Reads links) heights lifts → AreBounds links (bound heights lifts)
+pub bounded_by_rank : (heights : Rows ℕ) (lifts : Rows Lift) (links : Links) → IsRanked (Reads links) heights lifts → AreBounds links (bound heights (Some lifts))
 bounded_by_rank heights lifts links s = are_bounds heights lifts links s.rank s.rises s.low s.same
 
+-- where all points are free
+pub bounded_all : (heights : Rows ℕ) (links : Links) → AreSoundHeights heights links → AreBounds links (bound {R = Lift} heights None)
+bounded_all heights links s p list chain starts = let h = short_by_heights heights links s p list chain starts in omega (arith, h)
+
 -- where all points are free, what a point that has a level reads has its own
-pub all_closed : (heights levels : Rows ℕ) (links : Links) → AreSoundHeights heights links → AreLevels links (bound heights heights) levels
+pub all_closed : (heights levels : Rows ℕ) (links : Links) → AreSoundHeights heights links → AreLevels links (bound {R = Lift} heights None) levels
     → (a b : Point) → Holds levels a → Reads links a b → Holds levels b
 all_closed heights levels links s so a b there reads = let r = row_there levels a there in by r.0 r.1 (so.closed a b r.0 r.1 reads)
   where
-    by : (n : ℕ) → at levels a ≡ Some n → Holds levels b ⊎ (bound heights heights b < n) → Holds levels b
+    by : (n : ℕ) → at levels a ≡ Some n → Holds levels b ⊎ (257 < n) → Holds levels b
     by n here (inl has) = has
     by n here (inr under) =
         let l = longest_under (Reads links) a n 128 (so.longest a n here) (short_by_heights heights links s a) in
-        let e = bound_free heights heights b (s.ends a b reads).1 in absurd (omega (arith, under, l, e))
+        absurd (omega (arith, under, l))
 
 module _ {R : Type 0} (points : Rows R) (none levels : Rows ℕ) (links : Links) (empty : none.places ≡ [])
     (below : (x : Point) → Holds levels x → Holds none x ⊎ ((y : Point) × Holds points y × Leads (Reads links) y x)) where

@@ -70,9 +70,10 @@ abbrev pub bound_by : {R : Type 0} → ℕ → Option R → ℕ
 bound_by h None = h
 bound_by h (Some r) = 257
 
--- the greatest level that a point may have: its height, and 257 where it is free
-abbrev pub bound : {R : Type 0} → Rows ℕ → Rows R → Point → ℕ
-bound heights free p = bound_by (level heights p) (at free p)
+-- the greatest level that a point may have: its height, and 257 where it is free. Without a map all points are free.
+abbrev pub bound : {R : Type 0} → Rows ℕ → Option (Rows R) → Point → ℕ
+bound heights None p = 257
+bound heights (Some free) p = bound_by (level heights p) (at free p)
 
 -- no chain goes over more links than the bound of its first point
 abbrev pub AreBounds : Links → (Point → ℕ) → Type 0

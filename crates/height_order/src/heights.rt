@@ -9,6 +9,7 @@ ghost use Rattle.height_order.specs.Answers.{IsLinkAnswer};
 use crate::climb::ClimbQueue;
 use crate::levels::{add_at, level_of};
 use crate::linking::{adopt_all, make_link};
+use crate::table::Tables;
 use inc_value::Point;
 use link_table::{Link, LinkTable};
 use point_map::PointMap;
@@ -40,8 +41,7 @@ impl From<AllocError> for LinkFault {
 /// every point that it reads.
 pub struct Heights {
     alloc: Global,
-    heights: PointMap<u32>,
-    links: LinkTable,
+    tables: Tables,
     queue: ClimbQueue,
 }
 
@@ -50,12 +50,10 @@ impl Drop for Heights {
     fn drop(self) {
         let Heights {
             alloc: _,
-            heights,
-            links,
+            tables,
             queue,
         } = self;
-        drop(heights);
-        drop(links);
+        drop(tables);
         drop(queue);
     }
 }
@@ -65,9 +63,9 @@ impl Model for Heights {
 
     ghost Value = { Web };
 
-    ghost view = { λ s. record { heights = s.heights; links = s.links } };
+    ghost view = { λ s. record { heights = s.tables.heights; links = s.tables.links } };
 
-    ghost invariant = { λ s. AreSoundHeights s.heights s.links };
+    ghost invariant = { λ s. AreSoundHeights s.tables.heights s.tables.links };
 }
 
 impl Heights {
@@ -78,8 +76,10 @@ impl Heights {
     {
         Heights {
             alloc,
-            heights: PointMap::new(alloc),
-            links: LinkTable::new(alloc),
+            tables: Tables {
+                heights: PointMap::new(alloc),
+                links: LinkTable::new(alloc),
+            },
             queue: ClimbQueue::new(alloc),
         }
     }
@@ -104,7 +104,7 @@ impl Heights {
         ensures links { self.new.links ≡ self.old.links }
         ensures err { OnErr result (KeepsRows self.old.heights self.new.heights) }
     {
-        add_at(&mut self.heights, p, height)
+        add_at(&mut self.tables.heights, p, height)
     }
 
     /// Drops a point without links.
@@ -115,14 +115,14 @@ impl Heights {
         ensures dropped { Changes self.old.heights self.new.heights p None }
         ensures links { self.new.links ≡ self.old.links }
     {
-        self.heights.remove(p);
+        self.tables.heights.remove(p);
     }
 
     /// Whether the point is there.
     pub fn holds(&self, p: Point) -> bool
         ensures { result ≡ is_some (at self.now.heights p) }
     {
-        self.heights.holds(p)
+        self.tables.heights.holds(p)
     }
 
     /// The height of a point, at most 128.
@@ -132,7 +132,7 @@ impl Heights {
         ensures low { result ≤ 128 }
         ensures rises { Rises (Reads self.now.links) (level self.now.heights) }
     {
-        level_of(&self.heights, p)
+        level_of(&self.tables.heights, p)
     }
 
     /// Makes `p` read `q` once more. Each point whose height changes is appended to `moved`, once,
@@ -149,14 +149,7 @@ impl Heights {
         ensures { IsLinkAnswer self.old self.new p q moved.old.items moved.new.items result }
     {
         let new = Link { reader: p, kid: q };
-        make_link(
-            self.alloc,
-            &mut self.heights,
-            &mut self.links,
-            &mut self.queue,
-            new,
-            moved,
-        )
+        make_link(self.alloc, &mut self.tables, &mut self.queue, new, moved)
     }
 
     /// Takes one link off. Heights stay.
@@ -165,7 +158,7 @@ impl Heights {
         ensures unlinked { OneLinkMore self.new.links self.old.links p q }
         ensures heights { self.new.heights ≡ self.old.heights }
     {
-        self.links.remove(p, q);
+        self.tables.links.remove(p, q);
     }
 
     /// Lowers each height to the length of its point's longest chain. Each point whose height changes is
@@ -178,7 +171,7 @@ impl Heights {
         ensures err { OnErr result (self.new ≡ self.old) }
     {
         let mut levels = PointMap::new(self.alloc);
-        let levelled = adopt_all(&mut self.heights, &self.links, &mut levels, moved);
+        let levelled = adopt_all(&mut self.tables, &mut levels, moved);
         drop(levels);
         levelled
     }

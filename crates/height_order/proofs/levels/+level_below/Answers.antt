@@ -1,4 +1,5 @@
 use Rattle.std.proofs.Common.{◌+◌, ap, sym, subst, arith}
+use Rattle.std.specs.Prelude.{option_copied}
 use Rattle.link_table.specs.Links.{Reads}
 use Rattle.link_table.specs.Walks.{kids_left}
 use Rattle.height_order.specs.Levels.{bound}
@@ -10,7 +11,9 @@ use Rattle.height_order.proofs.levels.+level_below.Goals as goal
 
 -- a level that is kept
 pub returns-in-Some-clause-adds : goal.returns-in-Some-clause-adds
-returns-in-Some-clause-adds g t c = adds_none c.args.links.now c.args.levels.now c.args.p
+returns-in-Some-clause-adds g t c =
+    let web = g.T.HeightTable.web c.args.table.now in
+    adds_none web.links c.args.levels.now c.args.p
 
 -- no kid
 pub add_at-requires : goal.add_at-requires
@@ -18,8 +21,9 @@ add_at-requires g t c = record { absent = none_found c.args.levels.now c.args.p 
 
 pub returns-in_default-highest_kid-clause-levels : goal.returns-in_default-highest_kid-clause-levels
 returns-in_default-highest_kid-clause-levels g t c =
-    let links = c.args.links.now in
-    let bounds = bound c.args.heights.now c.args.free.now in
+    let web = g.T.HeightTable.web c.args.table.now in
+    let links = web.links in
+    let bounds = bound web.heights (option_copied c.args.free) in
     let absent = none_found c.args.levels.now c.args.p _ c.copied.result c.get.ensures c.copied.ensures c.in_default.is in
     level_more links bounds c.args.levels.now c.args.levels.now c.args.p c.args.most 0 c.requires.bounds
     (kids_none links bounds c.args.levels.now c.args.p c.args.most c.requires.levels absent c.in_default-highest_kid.ensures.none) c.add_at.new.heights
@@ -27,8 +31,9 @@ returns-in_default-highest_kid-clause-levels g t c =
 
 pub returns-in_default-highest_kid-clause-adds : goal.returns-in_default-highest_kid-clause-adds
 returns-in_default-highest_kid-clause-adds g t c =
-    let links = c.args.links.now in
-    let bounds = bound c.args.heights.now c.args.free.now in
+    let web = g.T.HeightTable.web c.args.table.now in
+    let links = web.links in
+    let bounds = bound web.heights (option_copied c.args.free) in
     let absent = none_found c.args.levels.now c.args.p _ c.copied.result c.get.ensures c.copied.ensures c.in_default.is in
     level_adds links bounds c.args.levels.now c.args.levels.now c.args.p c.args.most 0 c.requires.bounds
     (kids_none links bounds c.args.levels.now c.args.p c.args.most c.requires.levels absent c.in_default-highest_kid.ensures.none) c.add_at.new.heights
@@ -40,27 +45,31 @@ returns-in_default-highest_kid-clause-level g t c = c.in_ok-add_at.ensures.added
 -- the kid of greatest bound
 pub overflow_sub-most : goal.overflow_sub-most
 overflow_sub-most g t c =
-    let some = some_link (Reads c.args.links.now) c.args.p c.in-Some-highest_kid.highest c.args.most c.requires.short c.in-Some-highest_kid.ensures.kid in omega (arith, some)
+    let web = g.T.HeightTable.web c.args.table.now in
+    let some = some_link (Reads web.links) c.args.p c.in-Some-highest_kid.highest c.args.most c.requires.short c.in-Some-highest_kid.ensures.kid in omega (arith, some)
 
 pub level_below-requires : goal.level_below-requires
 level_below-requires g t c lifetimes alive =
+    let web = g.T.HeightTable.web c.args.table.now in
     let reads = c.in-Some-highest_kid.ensures.kid in
-    let some = some_link (Reads c.args.links.now) c.args.p c.in-Some-highest_kid.highest c.args.most c.requires.short reads in
+    let some = some_link (Reads web.links) c.args.p c.in-Some-highest_kid.highest c.args.most c.requires.short reads in
     let is = c.decreases in
-    (omega (arith, some, is), (alive, (c.requires.levels, (c.requires.bounds, shorter (Reads c.args.links.now) c.args.p c.in-Some-highest_kid.highest c.args.most c.requires.short reads))))
+    (omega (arith, some, is), (alive.0, (alive.1, (c.requires.levels, (c.requires.bounds, shorter (Reads web.links) c.args.p c.in-Some-highest_kid.highest c.args.most c.requires.short reads)))))
 
 pub overflow_add-level : goal.overflow_add-level
 overflow_add-level g t c =
+    let web = g.T.HeightTable.web c.args.table.now in
     let highest = c.in-Some-highest_kid.highest in
     let n = c.in_ok-level.field-0 in
     let done = c.in_ok-level.ensures in
-    let low = kid_low c.args.links.now c.args.p highest c.args.most n c.requires.short c.in-Some-highest_kid.ensures.kid (done.levels.longest highest n done.level) in
+    let low = kid_low web.links c.args.p highest c.args.most n c.requires.short c.in-Some-highest_kid.ensures.kid (done.levels.longest highest n done.level) in
     let fits = c.ranges.most.fits in omega (arith, low, fits)
 
 pub loop-kid-init : goal.loop-kid-init
 loop-kid-init g t c =
-    let links = c.args.links.now in
-    let bounds = bound c.args.heights.now c.args.free.now in
+    let web = g.T.HeightTable.web c.args.table.now in
+    let links = web.links in
+    let bounds = bound web.heights (option_copied c.args.free) in
     let levels = c.args.levels.now in
     let p = c.args.p in
     let most = c.args.most in
@@ -78,16 +87,18 @@ loop-kid-init g t c =
 -- the others
 pub loop-kid-preserved-then-bound_of-level : goal.loop-kid-preserved-then-bound_of-level
 loop-kid-preserved-then-bound_of-level g t c =
-    let links = c.args.links.now in
-    let bounds = bound c.args.heights.now c.args.free.now in
+    let web = g.T.HeightTable.web c.args.table.now in
+    let links = web.links in
+    let bounds = bound web.heights (option_copied c.args.free) in
     let so = subst (LevelsKids links bounds c.args.levels.now c.loop-kid.levels c.args.p c.args.most c.loop-kid.level) c.in-Some-kid.ensures.steps c.loop-kid.invariant in
     kids_pass links bounds c.args.levels.now c.loop-kid.levels c.args.p c.in-Some-kid.kid (kids_left c.next.new.self) c.args.most c.loop-kid.level
     (let e = c.bound_of.ensures in let t = c.if-bound_of-level.true in omega (arith, e, t)) so
 
 pub overflow_sub-most-in-loop-kid : goal.overflow_sub-most-in-loop-kid
 overflow_sub-most-in-loop-kid g t c =
-    let links = c.args.links.now in
-    let bounds = bound c.args.heights.now c.args.free.now in
+    let web = g.T.HeightTable.web c.args.table.now in
+    let links = web.links in
+    let bounds = bound web.heights (option_copied c.args.free) in
     let kid = c.in-Some-kid.kid in
     let so = subst (LevelsKids links bounds c.args.levels.now c.loop-kid.levels c.args.p c.args.most c.loop-kid.level) c.in-Some-kid.ensures.steps c.loop-kid.invariant in
     let some = some_link (Reads links) c.args.p kid c.args.most c.requires.short (so.covers.among kid (occurs_first kid (kids_left c.next.new.self))) in
@@ -95,19 +106,21 @@ overflow_sub-most-in-loop-kid g t c =
 
 pub level_below-requires-in-loop-kid : goal.level_below-requires-in-loop-kid
 level_below-requires-in-loop-kid g t c lifetimes alive =
-    let links = c.args.links.now in
-    let bounds = bound c.args.heights.now c.args.free.now in
+    let web = g.T.HeightTable.web c.args.table.now in
+    let links = web.links in
+    let bounds = bound web.heights (option_copied c.args.free) in
     let kid = c.in-Some-kid.kid in
     let so = subst (LevelsKids links bounds c.args.levels.now c.loop-kid.levels c.args.p c.args.most c.loop-kid.level) c.in-Some-kid.ensures.steps c.loop-kid.invariant in
     let reads = so.covers.among kid (occurs_first kid (kids_left c.next.new.self)) in
     let some = some_link (Reads links) c.args.p kid c.args.most c.requires.short reads in
     let is = c.decreases in
-    (omega (arith, some, is), (alive, (c.loop-kid.invariant.levels_so, (c.requires.bounds, shorter (Reads links) c.args.p kid c.args.most c.requires.short reads))))
+    (omega (arith, some, is), (alive.0, (alive.1, (c.loop-kid.invariant.levels_so, (c.requires.bounds, shorter (Reads links) c.args.p kid c.args.most c.requires.short reads)))))
 
 pub overflow_add-branch : goal.overflow_add-branch
 overflow_add-branch g t c =
-    let links = c.args.links.now in
-    let bounds = bound c.args.heights.now c.args.free.now in
+    let web = g.T.HeightTable.web c.args.table.now in
+    let links = web.links in
+    let bounds = bound web.heights (option_copied c.args.free) in
     let kid = c.in-Some-kid.kid in
     let n = c.in_ok-level_below.field-0 in
     let done = c.in_ok-level_below.ensures in
@@ -118,8 +131,9 @@ overflow_add-branch g t c =
 
 pub loop-kid-preserved : goal.loop-kid-preserved
 loop-kid-preserved g t c =
-    let links = c.args.links.now in
-    let bounds = bound c.args.heights.now c.args.free.now in
+    let web = g.T.HeightTable.web c.args.table.now in
+    let links = web.links in
+    let bounds = bound web.heights (option_copied c.args.free) in
     let n = c.in_ok-level_below.field-0 in
     let done = c.in_ok-level_below.ensures in
     let so = subst (LevelsKids links bounds c.args.levels.now c.loop-kid.levels c.args.p c.args.most c.loop-kid.level) c.in-Some-kid.ensures.steps c.loop-kid.invariant in
@@ -128,16 +142,18 @@ loop-kid-preserved g t c =
 
 pub returns-clause-levels : goal.returns-clause-levels
 returns-clause-levels g t c =
-    let links = c.args.links.now in
-    let bounds = bound c.args.heights.now c.args.free.now in
+    let web = g.T.HeightTable.web c.args.table.now in
+    let links = web.links in
+    let bounds = bound web.heights (option_copied c.args.free) in
     let so = subst (LevelsKids links bounds c.args.levels.now c.loop-kid.levels c.args.p c.args.most c.loop-kid.level) c.in-None.ensures.steps.0 c.loop-kid.invariant in
     level_more links bounds c.args.levels.now c.loop-kid.levels c.args.p c.args.most c.loop-kid.level c.requires.bounds so c.add_at-2.new.heights
     c.in_ok-add_at-2.ensures.added
 
 pub returns-clause-adds : goal.returns-clause-adds
 returns-clause-adds g t c =
-    let links = c.args.links.now in
-    let bounds = bound c.args.heights.now c.args.free.now in
+    let web = g.T.HeightTable.web c.args.table.now in
+    let links = web.links in
+    let bounds = bound web.heights (option_copied c.args.free) in
     let so = subst (LevelsKids links bounds c.args.levels.now c.loop-kid.levels c.args.p c.args.most c.loop-kid.level) c.in-None.ensures.steps.0 c.loop-kid.invariant in
     level_adds links bounds c.args.levels.now c.loop-kid.levels c.args.p c.args.most c.loop-kid.level c.requires.bounds so c.add_at-2.new.heights
     c.in_ok-add_at-2.ensures.added

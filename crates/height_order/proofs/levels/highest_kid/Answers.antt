@@ -1,4 +1,5 @@
 use Rattle.std.proofs.Common.{◌≤◌, ap, sym, subst, arith}
+use Rattle.std.specs.Prelude.{option_copied}
 use Rattle.link_table.specs.Links.{Reads}
 use Rattle.link_table.specs.Walks.{kids_left}
 use Rattle.height_order.specs.Levels.{bound}
@@ -7,16 +8,18 @@ use Rattle.height_order.proofs.levels.highest_kid.Goals as goal
 
 pub returns-in_default-clause-none : goal.returns-in_default-clause-none
 returns-in_default-clause-none g c =
-    let links = c.args.links.now in
+    let web = g.T.HeightTable.web c.args.table.now in
+    let links = web.links in
     let p = c.args.p in
     let covers = kids_cover (λ _. ⊥) links p (kids_left c.kids-kids.result) c.kids-kids.ensures in
     covers_end (Reads links p) (λ _. ⊥) (subst (Covers (Reads links p) (λ _. ⊥)) c.in_default.ensures.steps.0 covers)
 
 pub loop-kid-init : goal.loop-kid-init
 loop-kid-init g c =
-    let links = c.args.links.now in
+    let web = g.T.HeightTable.web c.args.table.now in
+    let links = web.links in
     let p = c.args.p in
-    let limit = bound c.args.heights.now c.args.free.now in
+    let limit = bound web.heights (option_copied c.args.free) in
     let first = c.in-Some.highest in
     let rest = kids_left c.next.new.self in
     let covers = subst (Covers (Reads links p) (λ k. limit k ≤ c.bound_of-most.result)) c.in-Some.ensures.steps
@@ -31,9 +34,10 @@ loop-kid-init g c =
 
 pub loop-kid-preserved-then-bound-most : goal.loop-kid-preserved-then-bound-most
 loop-kid-preserved-then-bound-most g c =
-    let links = c.args.links.now in
+    let web = g.T.HeightTable.web c.args.table.now in
+    let links = web.links in
     let p = c.args.p in
-    let limit = bound c.args.heights.now c.args.free.now in
+    let limit = bound web.heights (option_copied c.args.free) in
     let so = c.loop-kid.invariant in
     let covers = subst (Covers (Reads links p) (λ k. limit k ≤ c.loop-kid.most)) c.in-Some-kid.ensures.steps so.covers in
     record {
@@ -45,9 +49,10 @@ loop-kid-preserved-then-bound-most g c =
 
 pub loop-kid-preserved : goal.loop-kid-preserved
 loop-kid-preserved g c =
-    let links = c.args.links.now in
+    let web = g.T.HeightTable.web c.args.table.now in
+    let links = web.links in
     let p = c.args.p in
-    let limit = bound c.args.heights.now c.args.free.now in
+    let limit = bound web.heights (option_copied c.args.free) in
     let so = c.loop-kid.invariant in
     let covers = subst (Covers (Reads links p) (λ k. limit k ≤ c.loop-kid.most)) c.in-Some-kid.ensures.steps so.covers in
     let next = c.bound_of-bound.result in
@@ -60,9 +65,10 @@ loop-kid-preserved g c =
 
 pub returns-clause-highest : goal.returns-clause-highest
 returns-clause-highest g c q reads =
-    let links = c.args.links.now in
+    let web = g.T.HeightTable.web c.args.table.now in
+    let links = web.links in
     let p = c.args.p in
-    let limit = bound c.args.heights.now c.args.free.now in
+    let limit = bound web.heights (option_copied c.args.free) in
     let so = c.loop-kid.invariant in
     let most = so.most in
     let under = covers_end (Reads links p) (λ k. limit k ≤ c.loop-kid.most) (subst (Covers (Reads links p) (λ k. limit k ≤ c.loop-kid.most)) c.in-None.ensures.steps.0 so.covers)

@@ -6,6 +6,7 @@ use Rattle.height_order.proofs.Covering.{Covers}
 use Rattle.height_order.proofs.levels.kid_below.Given as goal
 
 abbrev pub invariant-loop-kid : goal.invariant-loop-kid
-invariant-loop-kid l = record {
-  covers : Covers (Reads l.links l.fn.p) (λ k. level l.levels k + 1 < level l.levels l.fn.p) (kids_left l.kid-iterator);
-}
+invariant-loop-kid g l =
+    let web = g.T.HeightTable.web l.table in record {
+      covers : Covers (Reads web.links l.fn.p) (λ k. level l.levels k + 1 < level l.levels l.fn.p) (kids_left l.kid-iterator);
+    }

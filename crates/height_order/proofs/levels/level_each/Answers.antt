@@ -23,7 +23,8 @@ loop-i-preserved-in_default g c =
 
 pub loop-i-preserved : goal.loop-i-preserved
 loop-i-preserved g c =
-    let links = c.args.links.now in
+    let web = g.T.HeightTable.web c.args.table.now in
+    let links = web.links in
     let new = c.level_below.new.levels in
     let p = c.in-Some.p in
     let so = c.loop-i.invariant in

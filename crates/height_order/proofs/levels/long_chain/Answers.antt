@@ -8,14 +8,16 @@ use Rattle.height_order.proofs.Levelling.{kid_some}
 use Rattle.height_order.proofs.levels.long_chain.Goals as goal
 
 pub unwrap-last-requires : goal.unwrap-last-requires
-unwrap-last-requires c =
-    kid_some c.args.links.now c.args.levels.now c.loop-last.last c.kid_below.result c.requires.next
+unwrap-last-requires g c =
+    let web = g.T.HeightTable.web c.args.table.now in
+    kid_some web.links c.args.levels.now c.loop-last.last c.kid_below.result c.requires.next
     (let h = c.loop-last.invariant.high in let t = c.loop-last-test.true in let n = c.len.ensures in let ok = c.loop-last.list.ok.0 in omega (arith, h, t, n, ok))
     c.kid_below.ensures.none
 
 pub loop-last-preserved : goal.loop-last-preserved
-loop-last-preserved c =
-    let reads = Reads c.args.links.now in
+loop-last-preserved g c =
+    let web = g.T.HeightTable.web c.args.table.now in
+    let reads = Reads web.links in
     let so = c.loop-last.invariant in
     let xs = c.loop-last.list.items in
     let next = c.unwrap-last.result in

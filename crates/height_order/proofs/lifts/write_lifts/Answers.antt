@@ -7,70 +7,90 @@ use Rattle.height_order.proofs.Moving.{Writes, writes_none, writes_vacant, write
 use Rattle.height_order.proofs.lifts.write_lifts.Goals as goal
 
 pub loop-i-init : goal.loop-i-init
-loop-i-init c = record {
-  writes = writes_none c.args.lifts.now (lifted c.args.heights.now c.args.lifts.now) c.args.heights.now c.args.moved.now.items c.args.moved.now.items refl;
-  room = (let r = c.requires.room in omega (arith, r));
-}
+loop-i-init g c =
+    let web = g.T.HeightTable.web in record {
+      writes = writes_none c.args.lifts.now (lifted (web c.args.table.now).heights c.args.lifts.now) (web c.args.table.now).heights c.args.moved.now.items c.args.moved.now.items refl;
+      links = refl;
+      rest = refl;
+      room = (let r = c.requires.room in omega (arith, r));
+    }
 
 pub loop-i-preserved-in_default : goal.loop-i-preserved-in_default
-loop-i-preserved-in_default c =
+loop-i-preserved-in_default g c =
+    let web = g.T.HeightTable.web in
     let so = c.loop-i.invariant in
     record {
-      writes = writes_vacant c.args.lifts.now (lifted c.args.heights.now c.args.lifts.now) c.args.heights.now c.args.moved.now.items
-          c.loop-i.heights c.loop-i.moved.items c.loop-i.i so.writes (sym c.point_at.ensures ∙ c.in_default.is);
+      writes = writes_vacant c.args.lifts.now (lifted (web c.args.table.now).heights c.args.lifts.now) (web c.args.table.now).heights c.args.moved.now.items
+          (web c.loop-i.table).heights c.loop-i.moved.items c.loop-i.i so.writes (sym c.point_at.ensures ∙ c.in_default.is);
+      links = so.links;
+      rest = so.rest;
       room = (let r = so.room in omega (arith, r));
     }
 
 pub loop-i-preserved-then-level_of-height : goal.loop-i-preserved-then-level_of-height
-loop-i-preserved-then-level_of-height c =
-    let heights = c.args.heights.now in
+loop-i-preserved-then-level_of-height g c =
+    let web = g.T.HeightTable.web in
+    let heights = (web c.args.table.now).heights in
     let lifts = c.args.lifts.now in
     let p = c.in-Some.p in
     let so = c.loop-i.invariant in
     let stands = stands_there lifts c.args.places c.loop-i.i p c.requires.walk (sym c.in-Some.ensures) in
-    let is = c.lifted_level-height.ensures ∙ lifted_alike heights c.loop-i.heights lifts p stands in
+    let is = c.lifted_level-height.ensures ∙ lifted_alike heights (web c.loop-i.table).heights lifts p stands in
     record {
-      writes = writes_same lifts (lifted heights lifts) heights c.args.moved.now.items c.loop-i.heights c.loop-i.moved.items c.loop-i.i so.writes p
+      writes = writes_same lifts (lifted heights lifts) heights c.args.moved.now.items (web c.loop-i.table).heights c.loop-i.moved.items c.loop-i.i so.writes p
           (sym c.in-Some.ensures) (let a = c.level_of.ensures in let t = c.if-level_of-height.true in omega (arith, a, t, is));
+      links = so.links;
+      rest = so.rest;
       room = (let r = so.room in omega (arith, r));
     }
 
-pub replace-requires : goal.replace-requires
-replace-requires c =
+pub set_level-requires : goal.set_level-requires
+set_level-requires g c =
+    let web = g.T.HeightTable.web in
     let p = c.in-Some.p in
     record {
-      there = still_there c.args.heights.now c.loop-i.heights p c.loop-i.invariant.writes.written.points
+      there = still_there (web c.args.table.now).heights (web c.loop-i.table).heights p c.loop-i.invariant.writes.written.points
           (c.requires.there p (stands_there c.args.lifts.now c.args.places c.loop-i.i p c.requires.walk (sym c.in-Some.ensures)));
     }
 
 pub push_reserved-requires : goal.push_reserved-requires
-push_reserved-requires c = let t = c.loop-i-test.true in let r = c.loop-i.invariant.room in omega (arith, t, r)
+push_reserved-requires g c = let t = c.loop-i-test.true in let r = c.loop-i.invariant.room in omega (arith, t, r)
 
 pub loop-i-preserved : goal.loop-i-preserved
-loop-i-preserved c =
-    let heights = c.args.heights.now in
+loop-i-preserved g c =
+    let web = g.T.HeightTable.web in
+    let heights = (web c.args.table.now).heights in
     let lifts = c.args.lifts.now in
     let p = c.in-Some.p in
     let so = c.loop-i.invariant in
-    let now = c.loop-i.heights in
+    let now = (web c.loop-i.table).heights in
     let stands = stands_there lifts c.args.places c.loop-i.i p c.requires.walk (sym c.in-Some.ensures) in
     let is = c.lifted_level-height.ensures ∙ lifted_alike heights now lifts p stands in
     record {
-      writes = subst (λ xs. Writes lifts (lifted heights lifts) heights c.args.moved.now.items c.replace.new.self xs (c.loop-i.i + 1)) (sym c.push_reserved.ensures.items)
-          (writes_more lifts (lifted heights lifts) heights c.args.moved.now.items now c.loop-i.moved.items c.loop-i.i so.writes c.replace.new.self p
+      writes = subst (λ xs. Writes lifts (lifted heights lifts) heights c.args.moved.now.items (web c.set_level.new.self).heights xs (c.loop-i.i + 1)) (sym c.push_reserved.ensures.items)
+          (writes_more lifts (lifted heights lifts) heights c.args.moved.now.items now c.loop-i.moved.items c.loop-i.i so.writes (web c.set_level.new.self).heights p
           c.lifted_level-height.result (sym c.in-Some.ensures)
           (λ e. let a = c.level_of.ensures in let f = c.if-level_of-height.false in omega (arith, a, f, is, e)) is
-          (still_there heights now p so.writes.written.points (c.requires.there p stands)) c.replace.ensures.changes);
+          (still_there heights now p so.writes.written.points (c.requires.there p stands)) c.set_level.ensures.changes);
+      links = c.set_level.ensures.links ∙ so.links;
+      rest = c.set_level.ensures.rest ∙ so.rest;
       room = (let n = c.push_reserved.ensures.len in let k = c.push_reserved.ensures.capacity in let r = so.room in omega (arith, n, k, r));
     }
 
 pub returns-clause-points : goal.returns-clause-points
-returns-clause-points c = c.loop-i.invariant.writes.written.points
+returns-clause-points g c = c.loop-i.invariant.writes.written.points
 
 pub returns-clause-written : goal.returns-clause-written
-returns-clause-written c =
-    writes_whole c.args.lifts.now (lifted c.args.heights.now c.args.lifts.now) c.args.heights.now c.args.moved.now.items c.loop-i.heights c.loop-i.moved.items
-    c.loop-i.i c.loop-i.invariant.writes c.args.places c.requires.walk c.loop-i-test.false (lifted_none c.args.heights.now c.args.lifts.now)
+returns-clause-written g c =
+    let web = g.T.HeightTable.web in
+    writes_whole c.args.lifts.now (lifted (web c.args.table.now).heights c.args.lifts.now) (web c.args.table.now).heights c.args.moved.now.items (web c.loop-i.table).heights c.loop-i.moved.items
+    c.loop-i.i c.loop-i.invariant.writes c.args.places c.requires.walk c.loop-i-test.false (lifted_none (web c.args.table.now).heights c.args.lifts.now)
 
 pub returns-clause-moved : goal.returns-clause-moved
-returns-clause-moved c = c.loop-i.invariant.writes.told
+returns-clause-moved g c = c.loop-i.invariant.writes.told
+
+pub returns-clause-links : goal.returns-clause-links
+returns-clause-links g c = c.loop-i.invariant.links
+
+pub returns-clause-rest : goal.returns-clause-rest
+returns-clause-rest g c = c.loop-i.invariant.rest

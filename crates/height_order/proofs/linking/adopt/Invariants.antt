@@ -1,11 +1,14 @@
-use Rattle.std.proofs.Common.{◌≤◌, ◌+◌}
+use Rattle.std.proofs.Common.{◌≡◌, ◌≤◌, ◌+◌}
 use Rattle.std.specs.Prelude.{vec_len, vec_capacity}
 use Rattle.height_order.specs.Levels.{levelled}
 use Rattle.height_order.proofs.Moving.{Writes}
 use Rattle.height_order.proofs.linking.adopt.Given as goal
 
 abbrev pub invariant-loop-i : goal.invariant-loop-i
-invariant-loop-i l = record {
-  writes : Writes l.levels (levelled l.fn.heights l.levels) l.fn.heights l.fn.moved.items l.heights l.moved.items l.i;
-  room : vec_len l.moved + l.places ≤ vec_capacity l.moved + l.i;
-}
+invariant-loop-i g l =
+    let web = g.T.HeightTable.web in record {
+      writes : Writes l.levels (levelled (web l.fn.table).heights l.levels) (web l.fn.table).heights l.fn.moved.items (web l.table).heights l.moved.items l.i;
+      links : (web l.table).links ≡ (web l.fn.table).links;
+      rest : g.T.HeightTable.rest l.table ≡ g.T.HeightTable.rest l.fn.table;
+      room : vec_len l.moved + l.places ≤ vec_capacity l.moved + l.i;
+    }
