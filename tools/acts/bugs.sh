@@ -12,7 +12,7 @@ missed=0
 try() {
     name=$(basename "$2" .edit)
     rm -rf "$copy/crates" && mkdir "$copy/crates" || exit 1
-    for below in inc_value point_map link_table recompute_heap necessity height_order necessary_graph; do
+    for below in inc_value point_map slot_map row_map link_table recompute_heap necessity height_order point_rows necessary_graph; do
         mkdir "$copy/crates/$below" && cp -r "$crates/$below/src" "$copy/crates/$below" || exit 1
     done
     ../campaign/plant.py "$2" "$copy/crates/$1" && make -s CRATES="$copy/crates" OUT="$out/$name" || exit 1
@@ -24,7 +24,7 @@ try() {
     fi
 }
 
-for crate in point_map link_table recompute_heap height_order necessary_graph; do
+for crate in point_map slot_map row_map recompute_heap height_order point_rows necessary_graph; do
     for edit in "$crates/$crate"/must-fail/*.edit "$crates/../planted/$crate"/*.edit; do
         [ ! -f "$edit" ] || try "$crate" "$edit"
     done

@@ -8,11 +8,12 @@ use Rattle.inc_value.specs.Choice.{Reaches, here, step}
 use Rattle.point_map.specs.Rows.{Rows, at, Holds, Changes}
 use Rattle.point_map.proofs.Places.{point_cases}
 use Rattle.link_table.specs.Links.{Links, times, Reads, IsRead}
+use Rattle.necessity.specs.Need.{root_times}
 use Rattle.height_order.specs.Levels.{level, Rises, Ends}
 use Rattle.necessary_graph.specs.Part.{NecessaryPart, Needed}
 use Rattle.necessary_graph.specs.Room.{HasRoom}
 use Rattle.necessary_graph.specs.Sweep.{IsSwept, IsHeld, IsBare, IsGone, IsLeft}
-use Rattle.necessary_graph.proofs.Reaching.{thinned_down}
+use Rattle.necessary_graph.proofs.Reaching.{thinned_down, root_needed}
 use Rattle.necessary_graph.proofs.Room.{room_dropped}
 use Rattle.necessary_graph.proofs.Sweeping.{IsOff, off_fewer, off_read, again_swept, swept_then, more_swept, out_still}
 
@@ -100,11 +101,15 @@ module _ (leaf : Point → Bool) (p : Point) (s0 : NecessaryPart) (unneeded : Ne
           level_there : level s.heights p ≡ level s0.heights p
           level_there = rw w.there refl
 
+    unneeded_now : Needed s p → ⊥
+    unneeded_now n = unneeded (thinned_down s0 s w.swept.thinned p n)
+
+    -- it is no root either
+    pub end_unrooted : 0 < root_times s.roots p → ⊥
+    end_unrooted root = unneeded_now (root_needed s p root)
+
     -- no link is left, and a leaf that nobody reads is dropped
     module _ (heights : Rows ℕ) (points left : ℕ) (none : (q : Point) → times s.links p q ≡ 0) where
-      unneeded_now : Needed s p → ⊥
-      unneeded_now n = unneeded (thinned_down s0 s w.swept.thinned p n)
-
       shed_alone : IsGone leaf s.links p s.heights heights points left → IsSwept leaf p s (record s { heights = heights })
       shed_alone g = record {
         thinned = record { roots = λ a. refl; fewer = λ a b. omega arith; kept = λ a b n. refl };

@@ -4,8 +4,11 @@ pub mod Cutting
 pub mod Descending
 pub mod Found
 pub mod Linking
+pub mod Off
+pub mod Putting
 pub mod Raising
 pub mod Reaching
+pub mod Rests
 pub mod Standing
 pub mod Room
 pub mod Sweeping

@@ -1,6 +1,9 @@
 -- Readers of a point come into the heap.
-use Rattle.std.proofs.Common.{◌≡◌, ◌⊎◌, inl, inr, ℕ, Bool, true, false, Some, ◌∷◌, List, refl, sym, ap, subst, ◌∙◌, arith}
+use Rattle.std.proofs.Common.{◌≡◌, ◌⊎◌, inl, inr, ℕ, ◌+◌, Bool, true, false, Some, ◌∷◌, List, drop, refl, sym, ap, subst, ◌∙◌, arith}
+use Rattle.std.specs.Prelude.{slice_get}
 use Rattle.std.proofs.lemmas.Bool.{cases_lt}
+use Rattle.std.proofs.lemmas.List.{drop_more}
+use Rattle.std.proofs.lemmas.Option.{slice_get_within, get_or_from_slice_get}
 use Rattle.inc_value.specs.declared.node.Point.{Point}
 use Rattle.point_map.specs.Rows.{Rows, at, Changes}
 use Rattle.point_map.proofs.Places.{point_cases}
@@ -19,6 +22,10 @@ IsDone skipped heights heap p = (skipped p ≡ true) ⊎ (at heap p ≡ at heigh
 pub record IsTelling (heights : Rows ℕ) (links : Links) (q : Point) (skipped : Point → Bool) (old now : Rows ℕ) (left : List Point) : Type 0 where
   pub covers : Covers (λ (p : Point). Reads links p q) (IsDone skipped heights now) left
   pub others : (p : Point) → (Reads links p q → skipped p ≡ false → ⊥) → at now p ≡ at old p
+
+-- the reader at a place is the first of those from there on
+pub left_at : (list : List Point) (i : ℕ) (r : Point) → slice_get list i ≡ Some r → drop i list ≡ r ∷ drop (i + 1) list
+left_at list i r e = drop_more list i r (slice_get_within list i r e) ∙ ap (λ x. x ∷ drop (i + 1) list) (get_or_from_slice_get list i r r e)
 
 module _ (heights : Rows ℕ) (links : Links) (q : Point) (skipped : Point → Bool) (old : Rows ℕ) where
   pub telling_first : (left : List Point) → AreReaders links q left → IsTelling heights links q skipped old old left

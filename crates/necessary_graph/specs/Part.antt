@@ -5,6 +5,7 @@ use Rattle.point_map.specs.Rows.{Rows, at, Holds}
 use Rattle.link_table.specs.Links.{Links, Reads}
 use Rattle.necessity.specs.Need.{Roots, Web, IsNeeded}
 use Rattle.height_order.specs.Levels.{level, Rises, AllLow, Ends}
+use Rattle.point_rows.specs.Standing.{Standing}
 
 -- the points that are there with their heights, the roots, the links, and what is to be recomputed with its heights
 pub record NecessaryPart : Type 0 where
@@ -13,13 +14,9 @@ pub record NecessaryPart : Type 0 where
   pub links : Links
   pub heap : Rows ℕ
 
--- a map of counts as roots
-abbrev pub seen_roots : Rows ℕ → Roots
-seen_roots counts = record { counts = counts.places }
-
--- links, heights, counted roots and a heap as one
-abbrev pub part_of : Links → Rows ℕ → Rows ℕ → Rows ℕ → NecessaryPart
-part_of links heights roots heap = record { heights = heights; roots = seen_roots roots; links = links; heap = heap }
+-- what the rows of the points have
+abbrev pub part_of : Standing → NecessaryPart
+part_of rows = record { heights = rows.heights; roots = rows.roots; links = rows.links; heap = rows.heap }
 
 -- the roots and links, which tell who is needed
 abbrev pub web : NecessaryPart → Web

@@ -14,13 +14,11 @@ ghost use Rattle.necessary_graph.specs.Readers.{HasReaders};
 ghost use Rattle.necessary_graph.specs.Sweep.{IsUnlinked, IsReduced, IsUnrooted};
 
 use crate::readers::{Skip, put, put_readers};
-use crate::roots::{add_root, is_held, remove_root, root_count};
 use crate::sweep::{Leaves, raise_moved, sweep_unheld, take_out};
-use height_order::{ClimbQueue, LinkFault, add_at, level_of, make_link};
+use height_order::{ClimbQueue, LinkFault, make_link};
 use inc_value::Point;
-use link_table::{Kids, Link, LinkTable, Readers};
-use point_map::PointMap;
-use recompute_heap::RecomputeHeap;
+use link_table::{Kids, Link, Readers};
+use point_rows::PointRows;
 use std::alloc::{AllocError, Global};
 use std::marker::Model;
 
@@ -30,10 +28,7 @@ use std::marker::Model;
 /// and nothing is counted but roots.
 pub struct NecessaryGraph {
     alloc: Global,
-    links: LinkTable,
-    heights: PointMap<u32>,
-    roots: PointMap<usize>,
-    heap: RecomputeHeap,
+    rows: PointRows,
     points: usize,
     climb: ClimbQueue,
     moved: Vec<Point>,
@@ -44,18 +39,12 @@ impl Drop for NecessaryGraph {
     fn drop(self) {
         let NecessaryGraph {
             alloc: _,
-            links,
-            heights,
-            roots,
-            heap,
+            rows,
             points: _,
             climb,
             moved,
         } = self;
-        drop(links);
-        drop(heights);
-        drop(roots);
-        drop(heap);
+        drop(rows);
         drop(climb);
         drop(moved);
     }
@@ -68,11 +57,11 @@ impl Model for NecessaryGraph {
 
     ghost Value = { NecessaryPart };
 
-    ghost view = { λ g. part_of g.links g.heights g.roots g.heap };
+    ghost view = { λ g. part_of g.rows };
 
     ghost invariant = { λ g.
-        IsInStep (part_of g.links g.heights g.roots g.heap)
-        × HasRoom g.heights g.heap g.points };
+        IsInStep (part_of g.rows)
+        × HasRoom g.rows.heights g.rows.heap g.points };
 }
 
 impl NecessaryGraph {
@@ -86,10 +75,7 @@ impl NecessaryGraph {
     {
         NecessaryGraph {
             alloc,
-            links: LinkTable::new(alloc),
-            heights: PointMap::new(alloc),
-            roots: PointMap::new(alloc),
-            heap: RecomputeHeap::new(alloc),
+            rows: PointRows::new(alloc),
             points: 0,
             climb: ClimbQueue::new(alloc),
             moved: Vec::new(alloc),
@@ -108,8 +94,8 @@ impl NecessaryGraph {
         ensures in_step { IsInStep self.new }
     {
         let points = self.points.checked_add(1).ok_or(AllocError)?;
-        self.heap.reserve(points - self.heap.len())?;
-        add_at(&mut self.heights, p, height)?;
+        self.rows.reserve(points - self.rows.heap_len())?;
+        self.rows.add(p, height)?;
         self.points = points;
         Ok(())
     }
@@ -124,7 +110,7 @@ impl NecessaryGraph {
         ensures heap { self.new.heap ≡ self.old.heap }
         ensures in_step { IsInStep self.new }
     {
-        self.heights.remove(p);
+        self.rows.drop_point(p);
         self.points -= 1;
     }
 
@@ -140,8 +126,8 @@ impl NecessaryGraph {
         ensures heap { self.new.heap ≡ self.old.heap }
         ensures in_step { IsInStep self.new }
     {
-        let newly = !is_held(&self.links, &self.roots, p);
-        add_root(&mut self.roots, p)?;
+        let newly = !self.rows.is_held(p);
+        self.rows.add_root(p)?;
         Ok(newly)
     }
 
@@ -152,16 +138,8 @@ impl NecessaryGraph {
         ensures unrooted { IsUnrooted (L.is_leaf leaves.now) self.old self.new p }
         ensures in_step { IsInStep self.new }
     {
-        remove_root(&mut self.roots, p);
-        sweep_unheld(
-            &mut self.links,
-            &mut self.heights,
-            &self.roots,
-            &mut self.heap,
-            &mut self.points,
-            p,
-            leaves,
-        );
+        self.rows.remove_root(p);
+        sweep_unheld(&mut self.rows, &mut self.points, p, leaves);
     }
 
     /// Makes `p` read `q`, once more, and answers whether `q` wasn't needed before. Heights may change of points that
@@ -190,17 +168,16 @@ impl NecessaryGraph {
         ensures still { level self.old.heights q < level self.old.heights p → KeepsRows self.old.heights self.new.heights }
         ensures in_step { IsInStep self.new }
     {
-        let newly = !is_held(&self.links, &self.roots, q);
+        let newly = !self.rows.is_held(q);
         self.moved.clear();
         let linked = make_link(
             self.alloc,
-            &mut self.heights,
-            &mut self.links,
+            &mut self.rows,
             &mut self.climb,
             Link { reader: p, kid: q },
             &mut self.moved,
         );
-        raise_moved(&self.heights, &mut self.heap, &self.moved);
+        raise_moved(&mut self.rows, &self.moved);
         linked?;
         Ok(newly)
     }
@@ -212,16 +189,8 @@ impl NecessaryGraph {
         ensures unlinked { IsUnlinked (L.is_leaf leaves.now) self.old self.new p q }
         ensures in_step { IsInStep self.new }
     {
-        self.links.remove(p, q);
-        sweep_unheld(
-            &mut self.links,
-            &mut self.heights,
-            &self.roots,
-            &mut self.heap,
-            &mut self.points,
-            q,
-            leaves,
-        );
+        self.rows.remove_link(p, q);
+        sweep_unheld(&mut self.rows, &mut self.points, q, leaves);
     }
 
     /// Takes all links of a needed point off but those to one point. What is no longer needed then loses its links and
@@ -244,16 +213,8 @@ impl NecessaryGraph {
         ensures was_in_step { IsInStep self.old }
         ensures in_step { IsInStep self.new }
     {
-        let kid = self.links.pop_kid_beside(p, kept)?;
-        sweep_unheld(
-            &mut self.links,
-            &mut self.heights,
-            &self.roots,
-            &mut self.heap,
-            &mut self.points,
-            kid,
-            leaves,
-        );
+        let kid = self.rows.pop_kid_beside(p, kept)?;
+        sweep_unheld(&mut self.rows, &mut self.points, kid, leaves);
         Some(kid)
     }
 
@@ -264,7 +225,7 @@ impl NecessaryGraph {
         ensures rest { self.new ≡ record self.old { heap = self.new.heap } }
         ensures in_step { IsInStep self.new }
     {
-        put(&self.heights, &mut self.heap, p);
+        put(&mut self.rows, p);
     }
 
     /// Puts the readers of a point into the heap, each at its height, but for those that are in and those that are
@@ -274,7 +235,7 @@ impl NecessaryGraph {
         ensures rest { self.new ≡ record self.old { heap = self.new.heap } }
         ensures in_step { IsInStep self.new }
     {
-        put_readers(&self.heights, &self.links, &mut self.heap, q, skip);
+        put_readers(&mut self.rows, q, skip);
     }
 
     /// Takes a point from the heap, if it is in.
@@ -283,7 +244,7 @@ impl NecessaryGraph {
         ensures rest { self.new ≡ record self.old { heap = self.new.heap } }
         ensures in_step { IsInStep self.new }
     {
-        take_out(&mut self.heap, p);
+        take_out(&mut self.rows, p);
     }
 
     /// Takes a point of least height from the heap and gives it, any one of them. None where the heap is empty.
@@ -296,7 +257,7 @@ impl NecessaryGraph {
         ensures rest { self.new ≡ record self.old { heap = self.new.heap } }
         ensures in_step { IsInStep self.new }
     {
-        let (p, _height) = self.heap.pop_least()?;
+        let p = self.rows.pop_least()?;
         Some(p)
     }
 
@@ -304,28 +265,28 @@ impl NecessaryGraph {
     pub fn holds(&self, p: Point) -> bool
         ensures { result ≡ is_some (at self.now.heap p) }
     {
-        self.heap.holds(p)
+        self.rows.in_heap(p)
     }
 
     /// Whether the point is there.
     pub fn is_there(&self, p: Point) -> bool
         ensures { result ≡ is_some (at self.now.heights p) }
     {
-        self.heights.holds(p)
+        self.rows.holds(p)
     }
 
     /// Whether the point is a root.
     pub fn is_root(&self, p: Point) -> bool
         ensures { IsTrue result ↔ IsRoot (web self.now) p }
     {
-        root_count(&self.roots, p) > 0
+        self.rows.root_count(p) > 0
     }
 
     /// Whether the point is a root, or reached from one over links.
     pub fn is_needed(&self, p: Point) -> bool
         ensures { IsTrue result ↔ Needed self.now p }
     {
-        is_held(&self.links, &self.roots, p)
+        self.rows.is_held(p)
     }
 
     /// The height of a point, at most 128.
@@ -334,27 +295,27 @@ impl NecessaryGraph {
         ensures height { result ≡ level self.now.heights p }
         ensures low { result ≤ 128 }
     {
-        level_of(&self.heights, p)
+        self.rows.level_of(p)
     }
 
     /// Whether `p` reads `q`.
     pub fn reads(&self, p: Point, q: Point) -> bool
         ensures { IsTrue result ↔ Reads self.now.links p q }
     {
-        self.links.reads(p, q)
+        self.rows.reads(p, q)
     }
 
     /// The points that read `q`, each once for each link.
     pub fn readers(&self, q: Point) -> Readers<'_>
         ensures { AreReaders self.now.links q (readers_left result) }
     {
-        self.links.readers(q)
+        self.rows.readers(q)
     }
 
     /// The points that `p` reads, each once for each link.
     pub fn kids(&self, p: Point) -> Kids<'_>
         ensures { AreKids self.now.links p (kids_left result) }
     {
-        self.links.kids(p)
+        self.rows.kids(p)
     }
 }

@@ -4,7 +4,6 @@
 
 mod graph;
 mod readers;
-mod roots;
 mod sweep;
 
 pub use graph::NecessaryGraph;

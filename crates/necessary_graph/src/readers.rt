@@ -7,11 +7,8 @@ ghost use Rattle.height_order.specs.Levels.{level, AllLow};
 ghost use Rattle.necessary_graph.specs.Readers.{HasHeights, HasReaders};
 ghost use Rattle.necessary_graph.specs.Room.{HasRoom};
 
-use height_order::level_of;
 use inc_value::Point;
-use link_table::LinkTable;
-use point_map::PointMap;
-use recompute_heap::RecomputeHeap;
+use point_rows::PointRows;
 
 /// Tells which points to pass over.
 pub trait Skip {
@@ -27,39 +24,37 @@ pub trait Skip {
 }
 
 /// Puts a point into the heap at its height, unless it is in.
-pub fn put(heights: &PointMap<u32>, heap: &mut RecomputeHeap, p: Point)
-    requires there { Holds heights.now p }
-    requires low { AllLow (level heights.now) }
-    requires heights { HasHeights heights.now heap.old }
-    requires room { (points : ℕ) × HasRoom heights.now heap.old points }
-    ensures put { Changes heap.old heap.new p (at heights.now p) }
-    ensures heights { HasHeights heights.now heap.new }
-    ensures room { (points : ℕ) → HasRoom heights.now heap.old points → HasRoom heights.now heap.new points }
+pub fn put(rows: &mut PointRows, p: Point)
+    requires there { Holds rows.old.heights p }
+    requires low { AllLow (level rows.old.heights) }
+    requires heights { HasHeights rows.old.heights rows.old.heap }
+    requires room { (points : ℕ) × HasRoom rows.old.heights rows.old.heap points }
+    ensures put { Changes rows.old.heap rows.new.heap p (at rows.old.heights p) }
+    ensures rest { rows.new ≡ record rows.old { heap = rows.new.heap } }
+    ensures heights { HasHeights rows.old.heights rows.new.heap }
+    ensures room { (points : ℕ) → HasRoom rows.old.heights rows.old.heap points → HasRoom rows.old.heights rows.new.heap points }
 {
-    if !heap.holds(p) {
-        heap.insert(p, level_of(heights, p));
-    }
+    rows.put(p);
 }
 
 /// Puts the readers of a point into the heap, each at its height, but for those that are passed over.
-pub fn put_readers<S: Skip>(
-    heights: &PointMap<u32>,
-    links: &LinkTable,
-    heap: &mut RecomputeHeap,
-    q: Point,
-    skip: &S,
-)
-    requires there { (p : Point) → Reads links.now p q → Holds heights.now p }
-    requires low { AllLow (level heights.now) }
-    requires heights { HasHeights heights.now heap.old }
-    requires room { (points : ℕ) × HasRoom heights.now heap.old points }
-    ensures put { HasReaders heights.now links.now q (S.skipped skip.now) heap.old heap.new }
-    ensures heights { HasHeights heights.now heap.new }
-    ensures room { (points : ℕ) → HasRoom heights.now heap.old points → HasRoom heights.now heap.new points }
+pub fn put_readers<S: Skip>(rows: &mut PointRows, q: Point, skip: &S)
+    requires there { (p : Point) → Reads rows.old.links p q → Holds rows.old.heights p }
+    requires low { AllLow (level rows.old.heights) }
+    requires heights { HasHeights rows.old.heights rows.old.heap }
+    requires room { (points : ℕ) × HasRoom rows.old.heights rows.old.heap points }
+    ensures put { HasReaders rows.old.heights rows.old.links q (S.skipped skip.now) rows.old.heap rows.new.heap }
+    ensures rest { rows.new ≡ record rows.old { heap = rows.new.heap } }
+    ensures heights { HasHeights rows.old.heights rows.new.heap }
+    ensures room { (points : ℕ) → HasRoom rows.old.heights rows.old.heap points → HasRoom rows.old.heights rows.new.heap points }
 {
-    for reader in links.readers(q) {
+    let count = rows.reader_count(q);
+    for i in 0..count {
+        let Some(reader) = rows.reader_at(q, i) else {
+            continue;
+        };
         if !skip.skips(reader) {
-            put(heights, heap, reader);
+            put(rows, reader);
         }
     }
 }

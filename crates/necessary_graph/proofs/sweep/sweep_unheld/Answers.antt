@@ -6,7 +6,7 @@ use Rattle.necessary_graph.proofs.sweep.sweep_unheld.Goals as goal
 
 pub sweep-requires : goal.sweep-requires
 sweep-requires g c =
-    let t : NecessaryPart = part_of c.args.links.now c.args.heights.now c.args.roots.now c.args.heap.now in record {
+    let t : NecessaryPart = part_of c.args.rows.now in record {
       ends = c.requires.ends;
       rises = c.requires.rises;
       there = c.requires.there;
@@ -19,7 +19,7 @@ returns-then-not-is_held g c = record { swept = c.sweep.ensures.swept; dealt = i
 
 pub returns-else-not-is_held : goal.returns-else-not-is_held
 returns-else-not-is_held g c =
-    let t : NecessaryPart = part_of c.args.links.now c.args.heights.now c.args.roots.now c.args.heap.now in record {
+    let t : NecessaryPart = part_of c.args.rows.now in record {
       swept = again_swept (g.L.Leaves.is_leaf c.args.leaves.now) c.args.p t t (λ a. refl) (λ a b. refl) refl refl;
       dealt = inl (c.if-not-is_held.ensures.0 refl);
       room = c.requires.room;

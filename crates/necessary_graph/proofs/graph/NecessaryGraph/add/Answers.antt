@@ -1,34 +1,46 @@
-use Rattle.std.proofs.Common.{◌≡◌, ◌+◌, arith, ap}
+use Rattle.std.proofs.Common.{◌≡◌, ◌+◌, arith, refl, ap}
 use Rattle.std.specs.Prelude.{is_some}
+use Rattle.point_rows.specs.Standing.{Standing}
 use Rattle.necessary_graph.specs.Part.{part_of}
+use Rattle.necessary_graph.proofs.Rests.{added_rest}
 use Rattle.necessary_graph.proofs.Room.{room_added, room_kept, one_more}
 use Rattle.necessary_graph.proofs.Standing.{same_in_step, added_in_step}
 use Rattle.necessary_graph.proofs.graph.NecessaryGraph.add.Goals as goal
 
-pub invariant_of-self-in_err-add_at : goal.invariant_of-self-in_err-add_at
-invariant_of-self-in_err-add_at c =
-    let i = c.self.inside in
-    let heights = c.in_err-add_at.ensures.err in
-    let heap = c.reserve.ensures.points in (
-      same_in_step (part_of i.links i.heights i.roots i.heap) c.self.invariant.0 c.add_at.new.heights c.reserve.new.self heights heap,
-      room_kept i.heights c.add_at.new.heights i.heap c.reserve.new.self i.points c.self.invariant.1 (λ a. ap is_some (heights a))
-          (λ a. ap is_some (heap a)) c.reserve.ensures.count c.reserve.ensures.spare,
+pub add-requires : goal.add-requires
+add-requires c = rw c.reserve.ensures.rest (record { absent = rw (← c.self.view_is) at c.requires.absent })
+
+pub invariant_of-self-in_err-add : goal.invariant_of-self-in_err-add
+invariant_of-self-in_err-add c =
+    let rows = c.self.inside.rows in
+    let inv = c.self.invariant in
+    let e = c.reserve.ensures in
+    rw (c.in_err-add.ensures.err, e.rest) (
+      same_in_step (part_of rows) inv.0 rows.heights c.reserve.new.self.heap (λ a. refl) e.points,
+      room_kept rows.heights rows.heights rows.heap c.reserve.new.self.heap c.self.inside.points inv.1 (λ a. refl) (λ a. ap is_some (e.points a))
+          e.count e.spare,
     )
 
 pub invariant_of-self-2 : goal.invariant_of-self-2
 invariant_of-self-2 c =
     let i = c.self.inside in
+    let rows = i.rows in
+    let inv = c.self.invariant in
     let absent = rw (← c.self.view_is) at c.requires.absent in
-    let added = c.in_ok-add_at.ensures.added in
-    let heap = c.reserve.ensures.points in
-    let e : c.in_ok-points.points ≡ i.points + 1 = one_more _ _ _ _ c.checked_add.ensures c.in_ok-points.ensures.ok_part in (
-      added_in_step (part_of i.links i.heights i.roots i.heap) c.self.invariant.0 c.add_at.new.heights c.reserve.new.self c.args.p c.args.height c.requires.low absent added heap,
-      rw e (room_added i.heights c.add_at.new.heights i.heap c.reserve.new.self i.points c.args.p c.args.height c.self.invariant.1 absent added heap
-          c.reserve.ensures.count (omega (arith, e, c.len.ensures, c.reserve.ensures.count, c.in_ok-reserve.ensures.room))),
+    let e = c.reserve.ensures in
+    let heights = c.add.new.self.heights in
+    let heap = c.reserve.new.self.heap in
+    let before : c.reserve.new.self.heights ≡ rows.heights = ap (λ (s : Standing). s.heights) e.rest in
+    let added = rw before at c.in_ok-add.ensures.added in
+    let more : c.in_ok-points.points ≡ i.points + 1 = one_more _ _ _ _ c.checked_add.ensures c.in_ok-points.ensures.ok_part in
+    rw (added_rest rows c.reserve.new.self c.add.new.self e.rest c.add.ensures.rest, more) (
+      added_in_step (part_of rows) inv.0 heights heap c.args.p c.args.height c.requires.low absent added e.points,
+      room_added rows.heights heights rows.heap heap i.points c.args.p c.args.height inv.1 absent added e.points e.count
+          (omega (arith, more, c.heap_len.ensures, e.count, c.in_ok-reserve.ensures.room)),
     )
 
-pub returns-in_err-add_at-clause-in_step : goal.returns-in_err-add_at-clause-in_step
-returns-in_err-add_at-clause-in_step c = (invariant_of-self-in_err-add_at c).0
+pub returns-in_err-add-clause-in_step : goal.returns-in_err-add-clause-in_step
+returns-in_err-add-clause-in_step c = (invariant_of-self-in_err-add c).0
 
 pub returns-clause-in_step : goal.returns-clause-in_step
 returns-clause-in_step c = (invariant_of-self-2 c).0

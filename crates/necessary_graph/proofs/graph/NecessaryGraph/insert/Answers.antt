@@ -5,9 +5,11 @@ use Rattle.necessary_graph.proofs.graph.NecessaryGraph.insert.Goals as goal
 pub invariant_of-self : goal.invariant_of-self
 invariant_of-self c =
     let i = c.self.inside in
-    let needed = rw (← c.self.view_is) at c.requires.needed in (
-      put_stands (part_of i.links i.heights i.roots i.heap) c.self.invariant.0 c.put.new.heap c.args.p needed c.put.ensures.put,
-      c.put.ensures.room i.points c.self.invariant.1,
+    let e = c.put.ensures in
+    let needed = rw (← c.self.view_is) at c.requires.needed in
+    rw e.rest (
+      put_stands (part_of i.rows) c.self.invariant.0 c.put.new.rows.heap c.args.p needed e.put,
+      e.room i.points c.self.invariant.1,
     )
 
 pub returns-clause-in_step : goal.returns-clause-in_step

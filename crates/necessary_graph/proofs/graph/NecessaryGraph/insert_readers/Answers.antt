@@ -5,9 +5,9 @@ use Rattle.necessary_graph.proofs.graph.NecessaryGraph.insert_readers.Goals as g
 pub invariant_of-self : goal.invariant_of-self
 invariant_of-self g c =
     let i = c.self.inside in
-    let e = c.put_readers.ensures in (
-      readers_stand (part_of i.links i.heights i.roots i.heap) c.self.invariant.0 c.put_readers.new.heap c.args.q (g.S.Skip.skipped c.args.skip.now)
-          e.heights e.put,
+    let e = c.put_readers.ensures in
+    rw e.rest (
+      readers_stand (part_of i.rows) c.self.invariant.0 c.put_readers.new.rows.heap c.args.q (g.S.Skip.skipped c.args.skip.now) e.heights e.put,
       e.room i.points c.self.invariant.1,
     )
 

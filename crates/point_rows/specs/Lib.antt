@@ -1,0 +1,4 @@
+pub mod Cells
+pub mod Heap
+pub mod Standing
+pub mod Written
