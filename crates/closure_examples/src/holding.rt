@@ -76,7 +76,7 @@ pub fn kept<F: Functions>(
         return None;
     }
     match functions.more(alloc, m) {
-        Ok(_) => functions.apply(alloc, *older, &[Value::Int(3)]).ok(),
+        Ok(_) => functions.apply(alloc, older, &[Value::Int(3)]).ok(),
         Err(_) => None,
     }
 }

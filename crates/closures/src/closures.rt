@@ -246,7 +246,7 @@ impl Functions for Closures {
         }
     }
 
-    fn apply(&mut self, alloc: Global, f: FnRef, args: &[Value]) -> Result<Value, AllocError> {
+    fn apply(&mut self, alloc: Global, f: &FnRef, args: &[Value]) -> Result<Value, AllocError> {
         self.calls = self.calls.saturating_add(1);
         let value = apply_at(alloc, &mut self.maps, f.id.number, args);
         if value.is_err() {

@@ -23,7 +23,7 @@ pub struct FnId {
 #[derive(Clone, Copy, PartialEq, Eq)]
 pub struct Sig {
     takes: [Ty; 64],
-    count: usize,
+    count: u8,
     gives: Ty,
 }
 
@@ -57,7 +57,7 @@ impl Sig {
     {
         Sig {
             takes: filled_up(takes),
-            count: takes.len(),
+            count: takes.len() as u8,
             gives,
         }
     }
@@ -68,7 +68,7 @@ impl Sig {
         ensures some { 1 ≤ length self.now.takes }
         ensures few { length self.now.takes ≤ 64 }
     {
-        &self.takes[..self.count]
+        &self.takes[..self.count as usize]
     }
 
     /// The type that the function gives.

@@ -89,19 +89,19 @@ pub trait Functions: Drop {
 
     /// What the map gives for the arguments. Each call is counted, also one that finds no memory
     /// for the value. Names and meanings stay, and the same functions are known.
-    fn apply(&mut self, alloc: Global, f: FnRef, args: &[Value]) -> Result<Value, AllocError>
+    fn apply(&mut self, alloc: Global, f: &FnRef, args: &[Value]) -> Result<Value, AllocError>
         requires sound { is_sound self.old }
-        requires known { IsTrue (known self.old f) }
-        requires kind { f.id.kind ≡ Map }
-        requires fit { HaveTypes args.now f.sig.takes }
+        requires known { IsTrue (known self.old f.now) }
+        requires kind { f.now.id.kind ≡ Map }
+        requires fit { HaveTypes args.now f.now.sig.takes }
         ensures sound { is_sound self.new }
-        ensures value { IfOk result (λ v. v ≡ value self.old f args.now) }
-        ensures typed { IfOk result (λ v. type_of v ≡ f.sig.gives) }
+        ensures value { IfOk result (λ v. v ≡ value self.old f.now args.now) }
+        ensures typed { IfOk result (λ v. type_of v ≡ f.now.sig.gives) }
         ensures proper { IfOk result IsProper }
 
         ensures calls { calls self.new ≡ raised (calls self.old) }
         ensures calls_grow { calls self.old ≤ calls self.new }
-        ensures once { calls_once self.old self.new f }
+        ensures once { calls_once self.old self.new f.now }
         ensures wants { wants self.new ≡ raised_on_err result (wants self.old) }
 
         ensures same { SameMeaning (named self.old) (named self.new) (known self.old) (known self.new)

@@ -41,12 +41,12 @@ pub trait Library: Drop {
 
     /// What the function gives for the arguments. Each call is counted, also one that finds no
     /// memory for the value. Names and values stay, and the same functions are known.
-    fn apply(&mut self, alloc: Global, f: FnRef, args: &[Value]) -> Result<Value, AllocError>
-        requires known { IsTrue (known self.old f) }
-        requires kind { f.id.kind ≡ Map }
-        requires fit { HaveTypes args.now f.sig.takes }
-        ensures value { IfOk result (λ v. v ≡ value self.old f args.now) }
-        ensures typed { IfOk result (λ v. type_of v ≡ f.sig.gives) }
+    fn apply(&mut self, alloc: Global, f: &FnRef, args: &[Value]) -> Result<Value, AllocError>
+        requires known { IsTrue (known self.old f.now) }
+        requires kind { f.now.id.kind ≡ Map }
+        requires fit { HaveTypes args.now f.now.sig.takes }
+        ensures value { IfOk result (λ v. v ≡ value self.old f.now args.now) }
+        ensures typed { IfOk result (λ v. type_of v ≡ f.now.sig.gives) }
         ensures proper { IfOk result IsProper }
 
         ensures calls { calls self.new ≡ raised (calls self.old) }

@@ -162,7 +162,7 @@ impl<L: Library> Functions for ScriptFns<L> {
         }
     }
 
-    fn apply(&mut self, alloc: Global, f: FnRef, args: &[Value]) -> Result<Value, AllocError> {
+    fn apply(&mut self, alloc: Global, f: &FnRef, args: &[Value]) -> Result<Value, AllocError> {
         self.library.apply(alloc, f, args)
     }
 

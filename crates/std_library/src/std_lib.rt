@@ -83,13 +83,13 @@ impl Library for StdLib {
     ///
     /// [`AllocError`] where there is no memory for the value.
     #[tactic(auto, using(crate::specs::FunctionLaws::gives_by_number))]
-    fn apply(&mut self, alloc: Global, f: FnRef, args: &[Value]) -> Result<Value, AllocError>
-        requires known { IsTrue (known f) }
-        requires fit { HaveTypes args.now f.sig.takes }
-        ensures value { IfOk result (λ v. v ≡ given f args.now) }
-        ensures typed { IfOk result (λ v. type_of v ≡ f.sig.gives) }
+    fn apply(&mut self, alloc: Global, f: &FnRef, args: &[Value]) -> Result<Value, AllocError>
+        requires known { IsTrue (known f.now) }
+        requires fit { HaveTypes args.now f.now.sig.takes }
+        ensures value { IfOk result (λ v. v ≡ given f.now args.now) }
+        ensures typed { IfOk result (λ v. type_of v ≡ f.now.sig.gives) }
         ensures proper { IfOk result IsProper }
-        ensures scalar { f.sig.gives ≢ Ty.Text → IsOk result }
+        ensures scalar { f.now.sig.gives ≢ Ty.Text → IsOk result }
         ensures calls { self.new.calls ≡ raised self.old.calls }
         ensures calls_grow { self.old.calls ≤ self.new.calls }
         ensures wants { self.new.wants ≡ raised_on_err result self.old.wants }

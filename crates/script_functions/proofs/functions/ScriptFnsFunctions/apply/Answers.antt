@@ -6,15 +6,15 @@ use Rattle.script_functions.proofs.functions.ScriptFnsFunctions.apply.Goals as g
 
 pub apply-requires-clause-known : goal.apply-requires-clause-known
 apply-requires-clause-known g c =
-    map_known (g.L.Library.known c.args.self.now.library) _ c.args.f c.requires.known c.requires.kind
+    map_known (g.L.Library.known c.args.self.now.library) _ c.args.f.now c.requires.known c.requires.kind
 
 pub returns-clause-value : goal.returns-clause-value
 returns-clause-value g c =
     let library = c.args.self.now.library in
-    let known = map_known (g.L.Library.known library) _ c.args.f c.requires.known c.requires.kind in
+    let known = map_known (g.L.Library.known library) _ c.args.f.now c.requires.known c.requires.kind in
     let same = same_given (g.L.Library.known library) (g.L.Library.value library) (g.met.L.Library.no_reference library)
     (g.met.L.Library.known_maps library)
-    c.args.f c.args.args.now known c.requires.kind c.requires.fit in
+    c.args.f.now c.args.args.now known c.requires.kind c.requires.fit in
     subst (λ w. IfOk c.apply.result (λ v. v ≡ w)) same c.apply.ensures.value
 
 pub returns-clause-sound : goal.returns-clause-sound
