@@ -1,6 +1,11 @@
 -- What is kept of the last call.
-use Rattle.std.specs.Prelude.{◌≢◌, Bool, true, false, List, Option, None, Some}
+use Rattle.std.specs.Prelude.{◌≢◌, Bool, true, false, List, Option, None, Some, ℕ}
 use Rattle.inc_value.specs.declared.value.Value.{Value}
+
+-- the values that are kept, if some are, and how many there is room for
+pub record Kept : Type 0 where
+  pub values : Option (List Value)
+  pub room : ℕ
 
 -- the values, where some are kept
 abbrev pub kept_if : Bool → List Value → Option (List Value)

@@ -45,7 +45,7 @@ use Rattle.node_outcomes.specs.Computing.{seen, seen_of, seen_together, value_sh
 use Rattle.node_outcomes.specs.Computing.{ran_then, IsCalled, Calls, IsKnown, AllShow, LastWas, FoldFits, FreezeComputes, IsSeenDue, IsShown, KeepsOn, NotCalled, ReasonIn, ComputesCall, CallComputes, Computes, NotComputed, Ends}
 use Rattle.node_outcomes.specs.Choosing.{built_by, held_in, right_in}
 use Rattle.node_outcomes.specs.Row.{IsRewritten, kept_by, kept_in, with_last, value_of, value_in, outcome_in}
-use Rattle.node_outcomes.specs.declared.row.Progress.{Progress}
+use Rattle.node_outcomes.specs.Progress.{Progress}
 use Rattle.node_outcomes.proofs.ByClock.{none_taken_by_clock, own_by_clock, typed_by_clock}
 use Rattle.node_outcomes.proofs.Held.{built_live, right_is}
 use Rattle.node_outcomes.proofs.Reasons.{reason_of, reason_with, no_reason}

@@ -33,8 +33,8 @@ module _ (F : Functions) (arena : Arena) (roots : Rows NodeId) (experts : List E
   any_type (inl text) = inl text
   any_type (inr h) = inr (
     h.0,
-    predicate_lacks old.rows room ran row.ty (kid ∷ [])
-        (subst (λ t. LacksRoom old.rows room ran t (kid ∷ [])) (freeze_truth F arena roots experts round old n row kept sound is_row kid f is_freeze) h.1),
+    predicate_lacks old.rows room ran n row.ty (kid ∷ [])
+        (subst (λ t. LacksRoom old.rows room ran n t (kid ∷ [])) (freeze_truth F arena roots experts round old n row kept sound is_row kid f is_freeze) h.1),
   )
 
   unfrozen_lacks : kept_in (at old.rows (main n)) ≡ None → UnfrozenLacks round old.rows room ran n f.sig.gives kid → Lacks

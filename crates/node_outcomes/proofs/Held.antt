@@ -20,7 +20,7 @@ use Rattle.point_map.specs.Rows.{Rows, at}
 use Rattle.node_arena.specs.Arena.{Arena, row_at}
 use Rattle.node_outcomes.specs.Choosing.{built_by, built_in, built_alone, held_in, right_in}
 use Rattle.node_outcomes.specs.Row.{kept_in, outcome_in}
-use Rattle.node_outcomes.specs.declared.row.Progress.{Progress}
+use Rattle.node_outcomes.specs.Progress.{Progress}
 
 and_then_same : {A B : Type 0} (x : Option A) (f g : A → Option B) → ((a : A) → f a ≡ g a) → and_then x f ≡ and_then x g
 and_then_same None f g h = refl

@@ -1,6 +1,7 @@
 -- Which room a node lacks that finds no memory.
-use Rattle.std.proofs.Common.{◌≡◌, ◌≢◌, ◌⊎◌, inl, inr, ℕ, ℤ, ◌<◌, ◌≤◌, Bool, true, List, [], ◌∷◌, length, None, Some, refl, sym, subst, ◌∙◌, arith, Result, Ok, Err}
+use Rattle.std.proofs.Common.{◌≡◌, ◌≢◌, ◌⊎◌, inl, inr, ℕ, ℤ, ◌≤◌, Bool, true, List, [], ◌∷◌, length, None, Some, refl, sym, subst, ◌∙◌, Result, Ok, Err}
 use Rattle.std.specs.Prelude.{OnErr}
+use Rattle.std.proofs.lemmas.Bool.{cases_lt}
 use Rattle.std.specs.List.{filter_map}
 use Rattle.inc_value.specs.Value.{type_of}
 use Rattle.inc_value.specs.declared.node.NodeId.{NodeId}
@@ -13,9 +14,9 @@ use Rattle.inc_terms.specs.Graph.{Graph, Row, Def}
 use Rattle.inc_terms.specs.Work.{taken_by}
 use Rattle.point_map.specs.Rows.{Rows}
 use Rattle.node_outcomes.specs.Computing.{HasNoText, IsKnown, value_shown}
-use Rattle.node_outcomes.specs.Lacking.{HasText, LacksRoom, IsToCall, CallLacks, NodeLacksRoom, gives_text, sees_text, many_kids, ran_full}
+use Rattle.node_outcomes.specs.Lacking.{HasText, LacksList, LacksRoom, IsToCall, CallLacks, NodeLacksRoom, gives_text, sees_text, many_kids, ran_full, sees, few}
 use Rattle.node_outcomes.specs.Meaning.{WantsFollow}
-use Rattle.node_outcomes.specs.declared.row.Progress.{Progress}
+use Rattle.node_outcomes.specs.Progress.{Progress}
 use Rattle.node_outcomes.proofs.Computing.{filter_is_shown}
 use Rattle.node_outcomes.proofs.Reasons.{reason_of, reason_with}
 
@@ -44,20 +45,18 @@ has_or_not (v ∷ vs) = elim (text_or_not (type_of v)) [
   ]
 ]
 
-many_or_few : (nodes : List NodeId) → (2 < length nodes) ⊎ (length nodes ≤ 2)
-many_or_few [] = inr (omega arith)
-many_or_few (a ∷ []) = inr (omega arith)
-many_or_few (a ∷ b ∷ []) = inr (omega arith)
-many_or_few (a ∷ b ∷ c ∷ rest) = inl (omega arith)
-
--- a list of values that has room of its own for two found none for those that children show
-pub list_lacks : (rows : Rows Progress) (room ran : ℕ) (t : Ty) (kids : List NodeId)
-    → (length kids ≤ 2 → HasNoText (filter_map (value_shown rows) kids) → ⊥) → LacksRoom rows room ran t kids
-list_lacks rows room ran t kids scalar = elim (has_or_not (filter_map (value_shown rows) kids)) [
-  | inl text ↦ sees_text text
-  | inr none ↦ elim (many_or_few kids) [
-    | inl many ↦ many_kids many
-    | inr few ↦ absurd (scalar few none)
+-- a list of values that has room for two, and this, found none for those that children show
+pub list_lacks : (rows : Rows Progress) (room : ℕ) (t : Ty) (kids : List NodeId)
+    → (length kids ≤ 2 → HasNoText (filter_map (value_shown rows) kids) → ⊥)
+    → (length kids ≤ room → HasNoText (filter_map (value_shown rows) kids) → ⊥) → LacksList rows room t kids
+list_lacks rows room t kids two scalar = elim (has_or_not (filter_map (value_shown rows) kids)) [
+  | inl text ↦ sees text
+  | inr none ↦ elim (cases_lt 2 (length kids)) [
+    | inl some ↦ elim (cases_lt room (length kids)) [
+      | inl many ↦ few some many
+      | inr enough ↦ absurd (scalar enough none)
+    ]
+    | inr at_most ↦ absurd (two at_most none)
   ]
 ]
 
@@ -128,8 +127,9 @@ pub gives_lacks : (G : Graph) (stale : NodeId → Bool) (round : ℕ) (rows : Ro
 gives_lacks G stale round rows room ran n row v is_row type text = record { row = row; is_row = is_row; lacks = inl (sym type ∙ text) }
 
 -- a call of a predicate, which gives a truth value, lacks what a call of a node of any type does
-pub predicate_lacks : (rows : Rows Progress) (room ran : ℕ) (t : Ty) (kids : List NodeId) → LacksRoom rows room ran ty.Bool kids → LacksRoom rows room ran t kids
-predicate_lacks rows room ran t kids (gives_text e) = absurd (let bad : ty.Bool ≡ ty.Text = e in cc)
-predicate_lacks rows room ran t kids (sees_text h) = sees_text h
-predicate_lacks rows room ran t kids (many_kids h) = many_kids h
-predicate_lacks rows room ran t kids (ran_full h) = ran_full h
+pub predicate_lacks : (rows : Rows Progress) (room ran : ℕ) (n : NodeId) (t : Ty) (kids : List NodeId) → LacksRoom rows room ran n ty.Bool kids
+    → LacksRoom rows room ran n t kids
+predicate_lacks rows room ran n t kids (gives_text e) = absurd (let bad : ty.Bool ≡ ty.Text = e in cc)
+predicate_lacks rows room ran n t kids (sees_text h) = sees_text h
+predicate_lacks rows room ran n t kids (many_kids k there two h) = many_kids k there two h
+predicate_lacks rows room ran n t kids (ran_full h) = ran_full h

@@ -6,7 +6,9 @@ pub mod Pairs
 mod Reasons
 pub mod ByClock
 pub mod Lacking
+pub mod Lent
 pub mod Computing
+pub mod Looking
 pub mod Rights
 pub mod Experts
 mod Frozen

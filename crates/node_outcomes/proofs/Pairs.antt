@@ -19,7 +19,7 @@ use Rattle.inc_terms.specs.Term.{Functions}
 use Rattle.inc_terms.specs.Work.{taken_by}
 use Rattle.point_map.specs.Rows.{Rows}
 use Rattle.node_outcomes.specs.Computing.{seen}
-use Rattle.node_outcomes.specs.declared.row.Progress.{Progress}
+use Rattle.node_outcomes.specs.Progress.{Progress}
 use Rattle.node_outcomes.proofs.Held.{invalid_chooses_none}
 
 -- a node of two points gives what its right side shows, and no function of it is called

@@ -15,7 +15,7 @@ use Rattle.map_nodes.specs.declared.cutoff.Cutoff.{Cutoff}
 use Rattle.map_nodes.specs.declared.cutoff.Cutoff.TheVariants.{Equal, Never}
 use Rattle.map_nodes.proofs.Stopping.{equal_stops}
 use Rattle.node_outcomes.specs.Row.{tells_again, cutoff_in, settled_in, passes_in}
-use Rattle.node_outcomes.specs.declared.row.Progress.{Progress}
+use Rattle.node_outcomes.specs.Progress.{Progress}
 
 -- two tests are passed, or one of two
 and_apart : (a b : Bool) → (a && b) ≡ true → (a ≡ true) × (b ≡ true)

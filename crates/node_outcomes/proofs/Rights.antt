@@ -22,7 +22,7 @@ use Rattle.node_arena.specs.Graph.{Holdings, graph_of}
 use Rattle.node_arena.specs.Sound.{IsSoundArena}
 use Rattle.node_arena.specs.Typing.{Fits, Makes}
 use Rattle.node_outcomes.specs.Computing.{seen, KeepsTypes, IsOfType}
-use Rattle.node_outcomes.specs.declared.row.Progress.{Progress}
+use Rattle.node_outcomes.specs.Progress.{Progress}
 use Rattle.node_outcomes.proofs.Computing.{shown_of_type, seen_is_shown}
 
 -- the type of a base type is that base type's

@@ -10,7 +10,7 @@ use Rattle.point_map.specs.Rows.{Rows, at}
 use Rattle.node_arena.specs.Arena.{Arena, row_at}
 use Rattle.node_arena.specs.Graph.{Holdings}
 use Rattle.node_outcomes.specs.Row.{kept_in, outcome_in}
-use Rattle.node_outcomes.specs.declared.row.Progress.{Progress}
+use Rattle.node_outcomes.specs.Progress.{Progress}
 
 -- what a node so defined is built for: a bind for the outcome of its left with which its change ran last, with this root; a bind whose change never ran,
 -- and what is no bind, for none

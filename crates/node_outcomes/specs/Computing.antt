@@ -33,7 +33,8 @@ use Rattle.inc_value.specs.Value.{type_of}
 use Rattle.inc_value.specs.declared.outcome.Outcome.TheVariants.{Val}
 use Rattle.point_map.specs.Rows.{KeepsRows}
 use Rattle.node_outcomes.specs.Row.{IsRewritten, with_call, with_last, value_in, cutoff_in, settled_in, passes_in, outcome_in}
-use Rattle.node_outcomes.specs.declared.row.Progress.{Progress}
+use Rattle.node_outcomes.specs.LastCall.{Last}
+use Rattle.node_outcomes.specs.Progress.{Progress}
 
 -- what is seen of a point by its row: Invalid without one
 abbrev pub seen_of : Option Progress → Option Outcome
@@ -241,6 +242,27 @@ pub record IsCalled (answer : List Value → Value) (t : Ty) (old new : Noted) (
 abbrev pub Calls : (List Value → Value) → Ty → Noted → Noted → NodeId → List Value → ℕ → {E : Type 0} → Result Outcome E → Type 0
 Calls answer t old new n values cost (Ok o) = IsCalled answer t old new n values o cost
 Calls answer t old new n values cost (Err e) = KeepsAllButCount old new cost
+
+-- a function was called on these values, so often: what the calls gave is kept, with the room that there was, and the node listed where that is once at least
+pub record MakesCall (answer : List Value → Value) (t : Ty) (old new : Last) (before after : List NodeId) (calls calls' : ℕ) (n : NodeId)
+    (values : List Value) (o : Outcome) (cost : ℕ) : Type 0 where
+  pub outcome : o ≡ Val (answer values)
+  pub type : type_of (answer values) ≡ t
+  pub last : new ≡ record { call = Some (record { arguments = values; result = answer values }); room = old.room }
+  pub ran : after ≡ ran_then cost before n
+  pub count : RoseBy calls cost calls'
+
+-- without memory all stays but the count
+pub record MakesNone (old new : Last) (before after : List NodeId) (calls calls' : ℕ) (most : ℕ) : Type 0 where
+  pub last : new ≡ old
+  pub ran : after ≡ before
+  pub count : RoseAtMost calls most calls'
+
+-- how calls of a function end whose last call was lent
+abbrev pub IsMade : (List Value → Value) → Ty → Last → Last → List NodeId → List NodeId → ℕ → ℕ → NodeId → List Value → ℕ → {E : Type 0} → Result Outcome E
+    → Type 0
+IsMade answer t old new before after calls calls' n values cost (Ok o) = MakesCall answer t old new before after calls calls' n values o cost
+IsMade answer t old new before after calls calls' n values cost (Err e) = MakesNone old new before after calls calls' cost
 
 -- the types of values that a function folds from a value on: it takes the type that it gives and the type of each of them
 pub record FoldFits (f : FnRef) (from : Value) (values : List Value) : Type 0 where

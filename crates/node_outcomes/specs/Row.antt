@@ -9,37 +9,46 @@ use Rattle.map_nodes.specs.declared.cutoff.Cutoff.TheVariants.{Equal, Never}
 use Rattle.point_map.specs.Rows.{Rows, at, SamePoints}
 use Rattle.stabilize_round.specs.Freezing.{found}
 use Rattle.stabilize_round.specs.State as machine
-use Rattle.node_outcomes.specs.declared.row.Progress.{Progress}
+use Rattle.node_outcomes.specs.LastCall.{Last}
+use Rattle.node_outcomes.specs.Progress.{Progress}
 use Rattle.node_outcomes.specs.declared.row.Stage.{Stage}
 use Rattle.node_outcomes.specs.declared.row.Stage.TheVariants as stage
 
 -- the row with another stage
 abbrev pub with_stage : Stage → Progress → Progress
-with_stage s k = record { stage = s; settled = k.settled; outcome = k.outcome; last = k.last; cutoff = k.cutoff; frozen = k.frozen }
+with_stage s k = record { stage = s; settled = k.settled; outcome = k.outcome; last = k.last; cutoff = k.cutoff; frozen = k.frozen; room = k.room }
 
 -- the row with another outcome, settled in a round
 abbrev pub with_outcome : Outcome → ℕ → Progress → Progress
-with_outcome o round k = record { stage = k.stage; settled = round; outcome = Some o; last = k.last; cutoff = k.cutoff; frozen = k.frozen }
+with_outcome o round k = record { stage = k.stage; settled = round; outcome = Some o; last = k.last; cutoff = k.cutoff; frozen = k.frozen; room = k.room }
 
 -- the row with no outcome
 abbrev pub without_outcome : Progress → Progress
-without_outcome k = record { stage = k.stage; settled = k.settled; outcome = None; last = k.last; cutoff = k.cutoff; frozen = k.frozen }
+without_outcome k = record { stage = k.stage; settled = k.settled; outcome = None; last = k.last; cutoff = k.cutoff; frozen = k.frozen; room = k.room }
 
 -- the row with another last call
 abbrev pub with_call : machine.Call → Progress → Progress
-with_call c k = record { stage = k.stage; settled = k.settled; outcome = k.outcome; last = Some c; cutoff = k.cutoff; frozen = k.frozen }
+with_call c k = record { stage = k.stage; settled = k.settled; outcome = k.outcome; last = Some c; cutoff = k.cutoff; frozen = k.frozen; room = k.room }
 
 -- the row with another last call, or none
 abbrev pub with_last : Option machine.Call → Progress → Progress
-with_last c k = record { stage = k.stage; settled = k.settled; outcome = k.outcome; last = c; cutoff = k.cutoff; frozen = k.frozen }
+with_last c k = record { stage = k.stage; settled = k.settled; outcome = k.outcome; last = c; cutoff = k.cutoff; frozen = k.frozen; room = k.room }
+
+-- the row of a node whose last call is lent, with the room for the next
+abbrev pub with_none : Progress → Progress
+with_none k = record { stage = k.stage; settled = k.settled; outcome = k.outcome; last = None; cutoff = k.cutoff; frozen = k.frozen; room = 0 }
+
+-- the row to which they are given back
+abbrev pub with_lent : Last → Progress → Progress
+with_lent l k = record { stage = k.stage; settled = k.settled; outcome = k.outcome; last = l.call; cutoff = k.cutoff; frozen = k.frozen; room = l.room }
 
 -- the row with another cutoff
 abbrev pub with_cutoff : Cutoff → Progress → Progress
-with_cutoff c k = record { stage = k.stage; settled = k.settled; outcome = k.outcome; last = k.last; cutoff = c; frozen = k.frozen }
+with_cutoff c k = record { stage = k.stage; settled = k.settled; outcome = k.outcome; last = k.last; cutoff = c; frozen = k.frozen; room = k.room }
 
 -- the row of a freeze that keeps the value on which its predicate was called last
 abbrev pub with_frozen : Progress → Progress
-with_frozen k = record { stage = k.stage; settled = k.settled; outcome = k.outcome; last = k.last; cutoff = k.cutoff; frozen = true }
+with_frozen k = record { stage = k.stage; settled = k.settled; outcome = k.outcome; last = k.last; cutoff = k.cutoff; frozen = true; room = k.room }
 
 -- the value that a row's freeze keeps: that of its last call
 abbrev pub kept_by : Bool → Option machine.Call → Option Value

@@ -1,5 +1,5 @@
 //! What a node gives by its own function of what its children show.
-ghost use Rattle.std.specs.Prelude.{◌≡◌, ◌↔◌, ◌≤ℤ◌, ◌∷◌, [], pos, true, false, Some, List, length, IsTrue, IfOk, IfSome, IfNone, OnErr, vec_capacity};
+ghost use Rattle.std.specs.Prelude.{◌≡◌, ◌↔◌, ◌≤◌, ◌≤ℤ◌, ◌∷◌, [], pos, true, false, Some, List, length, IsTrue, IfOk, IfSome, IfNone, OnErr, vec_capacity};
 ghost use Rattle.std.specs.List.{AllZip};
 ghost use Rattle.inc_value.specs.Value.{HaveTypes, type_of};
 ghost use Rattle.inc_value.specs.declared.ty.Ty.TheVariants.{Text};
@@ -17,20 +17,23 @@ ghost use Rattle.node_arena.specs.Sound.{IsSoundArena};
 ghost use Rattle.stabilize_round.specs.State.{Call};
 ghost use Rattle.node_outcomes.specs.Choosing.{held_in};
 ghost use Rattle.node_outcomes.specs.Computing.{AreExperts, CallComputes, Ends, ExpertsFollow, FoldFits, FreezeComputes, IsKnown, KeepsOn, KeepsTypes};
-ghost use Rattle.node_outcomes.specs.Computing.{LastWas, MustCall, ShowsValue, noted};
+ghost use Rattle.node_outcomes.specs.Computing.{LastWas, MustCall, ShowsValue, forced_by, noted};
 ghost use Rattle.node_outcomes.specs.Lacking.{CallLacks, FreezeLacks, NodeLacksRoom, UnfrozenLacks};
+ghost use Rattle.node_outcomes.specs.Looking.{IsKnownOn};
 ghost use Rattle.node_outcomes.specs.Meaning.{functions_of, KeepsFunctions, WantsFollow};
 ghost use Rattle.node_outcomes.specs.Row.{kept_in};
 
-use crate::call::{call_fold, call_map};
+use crate::call::{call_fold, call_fold_on, call_map, call_map_on};
 use crate::choosing::right_side;
+use crate::last_call::LastCall;
 use crate::row::{Progress, kept_value};
-use crate::sight::{is_forced, last_call, show, show_values, shown};
+use crate::sight::{Told, is_forced, last_call, look, show, show_values, shown};
 use expert_nodes::Experts;
 use inc_terms::Def;
-use inc_value::{FnKind, FnRef, NodeId, Outcome, Value};
+use inc_value::{FnKind, FnRef, NodeId, Outcome, Point, Value};
 use node_arena::{Arena, Functions};
 use point_map::PointMap;
+use smallvec::SmallVec;
 use std::alloc::{AllocError, Global};
 
 /// What a node gives. A map's or a fold's function, a freeze's predicate and an expert's function are called unless they
@@ -64,6 +67,7 @@ pub fn compute<F: Functions>(
     ensures wants { WantsFollow (NodeLacksRoom (graph_of arena.now (held_in arena.now rows.old roots.now experts.old))
         (is_stale_at experts.old) round rows.old (vec_capacity ran.old) (length ran.old.items) node) result
         (F.wants functions.old) (F.wants functions.new) }
+    ensures room { vec_capacity ran.old ≤ vec_capacity ran.new }
 {
     let row = arena.get(node).unwrap();
     match &row.def {
@@ -144,6 +148,7 @@ fn compute_freeze<F: Functions>(
     ensures functions { KeepsFunctions F.Functions functions.old functions.new }
     ensures wants { WantsFollow (FreezeLacks round rows.old (vec_capacity ran.old) (length ran.old.items) node f.now.sig.gives kid)
         result (F.wants functions.old) (F.wants functions.new) }
+    ensures room { vec_capacity ran.old ≤ vec_capacity ran.new }
 {
     if let Some(value) = kept_value(rows, node) {
         return match value.copy(alloc) {
@@ -176,6 +181,7 @@ fn compute_unfrozen<F: Functions>(
     ensures functions { KeepsFunctions F.Functions functions.old functions.new }
     ensures wants { WantsFollow (UnfrozenLacks round rows.old (vec_capacity ran.old) (length ran.old.items) node f.now.sig.gives kid)
         result (F.wants functions.old) (F.wants functions.new) }
+    ensures room { vec_capacity ran.old ≤ vec_capacity ran.new }
 {
     // Copied first: a call that is kept is never left without an outcome.
     let outcome = match shown(alloc, rows, kid) {
@@ -221,6 +227,7 @@ fn compute_expert<F: Functions>(
     ensures functions { KeepsFunctions F.Functions functions.old functions.new }
     ensures wants { WantsFollow (CallLacks (λ m. is_stale_at experts.old node) round rows.old (vec_capacity ran.old) (length ran.old.items) node
         f.now.sig.gives (kids_at experts.old node)) result (F.wants functions.old) (F.wants functions.new) }
+    ensures room { vec_capacity ran.old ≤ vec_capacity ran.new }
 {
     experts.tidy(node);
     let stale = experts.is_stale(node);
@@ -268,6 +275,92 @@ fn compute_map<F: Functions>(
     ensures functions { KeepsFunctions F.Functions functions.old functions.new }
     ensures wants { WantsFollow (CallLacks (λ m. false) round rows.old (vec_capacity ran.old) (length ran.old.items) node f.now.sig.gives kids.now)
         result (F.wants functions.old) (F.wants functions.new) }
+    ensures room { vec_capacity ran.old ≤ vec_capacity ran.new }
+{
+    let mut values = SmallVec::new(alloc);
+    let computed = match look(rows, round, kids, &mut values) {
+        Told::Invalid => Ok(Outcome::Invalid),
+        Told::Values(forced) => map_few(
+            alloc,
+            rows,
+            ran,
+            round,
+            functions,
+            node,
+            f,
+            forced,
+            kids,
+            &mut values,
+        ),
+        Told::Other => map_any(alloc, rows, ran, round, functions, node, f, kids),
+    };
+    drop(values);
+    computed
+}
+
+/// What a node gives whose children show these values, on which its function is called as a map's is unless it was last
+/// called on them, and none forces the call.
+#[inline]
+fn map_few<F: Functions>(
+    alloc: Global,
+    rows: &mut PointMap<Progress>,
+    ran: &mut Vec<NodeId>,
+    round: u64,
+    functions: &mut F,
+    node: NodeId,
+    f: &FnRef,
+    forced: bool,
+    kids: &[NodeId],
+    values: &mut SmallVec<Value, 2>,
+) -> Result<Outcome, AllocError>
+    requires there { Holds rows.old (main node) }
+    requires sound { F.is_sound functions.old }
+    requires known { IsTrue (F.known functions.old f.now) }
+    requires kind { f.now.id.kind ≡ FnKind.Map }
+    requires shown { AllZip (ShowsValue rows.old) kids.now values.old.items }
+    requires forced { forced ≡ forced_by round rows.old kids.now }
+    requires fit { (values : List Value) → AllZip (ShowsValue rows.old) kids.now values
+        → HaveTypes values f.now.sig.takes }
+    ensures computed { CallComputes (F.value functions.old f.now) f.now.sig.gives false round
+        (noted rows.old ran.old.items (F.calls functions.old))
+        (noted rows.new ran.new.items (F.calls functions.new)) node kids.now 1 result }
+    ensures functions { KeepsFunctions F.Functions functions.old functions.new }
+    ensures wants { WantsFollow (CallLacks (λ m. false) round rows.old (vec_capacity ran.old) (length ran.old.items) node f.now.sig.gives kids.now)
+        result (F.wants functions.old) (F.wants functions.new) }
+    ensures room { vec_capacity ran.old ≤ vec_capacity ran.new }
+{
+    let row = rows.get_mut(Point::main(node)).unwrap();
+    match known_on(alloc, &row.last, forced, values.as_slice()) {
+        Ok(Some(outcome)) => Ok(outcome),
+        Ok(None) => call_map_on(alloc, &mut row.last, ran, functions, node, f, values),
+        Err(AllocError) => Err(AllocError),
+    }
+}
+
+/// What a node gives whose function takes the nodes' values, which are any.
+fn map_any<F: Functions>(
+    alloc: Global,
+    rows: &mut PointMap<Progress>,
+    ran: &mut Vec<NodeId>,
+    round: u64,
+    functions: &mut F,
+    node: NodeId,
+    f: &FnRef,
+    kids: &[NodeId],
+) -> Result<Outcome, AllocError>
+    requires there { Holds rows.old (main node) }
+    requires sound { F.is_sound functions.old }
+    requires known { IsTrue (F.known functions.old f.now) }
+    requires kind { f.now.id.kind ≡ FnKind.Map }
+    requires fit { (values : List Value) → AllZip (ShowsValue rows.old) kids.now values
+        → HaveTypes values f.now.sig.takes }
+    ensures computed { CallComputes (F.value functions.old f.now) f.now.sig.gives false round
+        (noted rows.old ran.old.items (F.calls functions.old))
+        (noted rows.new ran.new.items (F.calls functions.new)) node kids.now 1 result }
+    ensures functions { KeepsFunctions F.Functions functions.old functions.new }
+    ensures wants { WantsFollow (CallLacks (λ m. false) round rows.old (vec_capacity ran.old) (length ran.old.items) node f.now.sig.gives kids.now)
+        result (F.wants functions.old) (F.wants functions.new) }
+    ensures room { vec_capacity ran.old ≤ vec_capacity ran.new }
 {
     match known_outcome(alloc, rows, round, node, false, kids) {
         Ok(Some(outcome)) => Ok(outcome),
@@ -301,11 +394,138 @@ fn compute_fold<F: Functions>(
     ensures functions { KeepsFunctions F.Functions functions.old functions.new }
     ensures wants { WantsFollow (CallLacks (λ m. stale) round rows.old (vec_capacity ran.old) (length ran.old.items) node f.now.sig.gives kids.now)
         result (F.wants functions.old) (F.wants functions.new) }
+    ensures room { vec_capacity ran.old ≤ vec_capacity ran.new }
+{
+    let mut values = SmallVec::new(alloc);
+    let computed = match look(rows, round, kids, &mut values) {
+        Told::Invalid => Ok(Outcome::Invalid),
+        Told::Values(forced) => fold_few(
+            alloc,
+            rows,
+            ran,
+            round,
+            functions,
+            node,
+            f,
+            initial,
+            stale,
+            forced,
+            kids,
+            &mut values,
+        ),
+        Told::Other => fold_any(
+            alloc, rows, ran, round, functions, node, f, initial, stale, kids,
+        ),
+    };
+    drop(values);
+    computed
+}
+
+/// What a node gives whose children show these values, over which its function is folded unless it was last called on
+/// them, the node isn't stale, and none forces the call.
+#[inline]
+fn fold_few<F: Functions>(
+    alloc: Global,
+    rows: &mut PointMap<Progress>,
+    ran: &mut Vec<NodeId>,
+    round: u64,
+    functions: &mut F,
+    node: NodeId,
+    f: &FnRef,
+    initial: &Value,
+    stale: bool,
+    forced: bool,
+    kids: &[NodeId],
+    values: &mut SmallVec<Value, 2>,
+) -> Result<Outcome, AllocError>
+    requires there { Holds rows.old (main node) }
+    requires sound { F.is_sound functions.old }
+    requires known { IsTrue (F.known functions.old f.now) }
+    requires kind { f.now.id.kind ≡ FnKind.Map }
+    requires shown { AllZip (ShowsValue rows.old) kids.now values.old.items }
+    requires forced { forced ≡ forced_by round rows.old kids.now }
+    requires fit { (values : List Value) → AllZip (ShowsValue rows.old) kids.now values
+        → FoldFits f.now initial.now values }
+    ensures computed { CallComputes (folded (F.value functions.old f.now) initial.now) f.now.sig.gives stale round
+        (noted rows.old ran.old.items (F.calls functions.old))
+        (noted rows.new ran.new.items (F.calls functions.new)) node kids.now (length kids.now) result }
+    ensures functions { KeepsFunctions F.Functions functions.old functions.new }
+    ensures wants { WantsFollow (CallLacks (λ m. stale) round rows.old (vec_capacity ran.old) (length ran.old.items) node f.now.sig.gives kids.now)
+        result (F.wants functions.old) (F.wants functions.new) }
+    ensures room { vec_capacity ran.old ≤ vec_capacity ran.new }
+{
+    let row = rows.get_mut(Point::main(node)).unwrap();
+    match known_on(alloc, &row.last, stale | forced, values.as_slice()) {
+        Ok(Some(outcome)) => Ok(outcome),
+        Ok(None) => call_fold_on(
+            alloc,
+            &mut row.last,
+            ran,
+            functions,
+            node,
+            f,
+            initial,
+            values,
+        ),
+        Err(AllocError) => Err(AllocError),
+    }
+}
+
+/// What a node gives whose function is folded over the nodes' values, which are any.
+fn fold_any<F: Functions>(
+    alloc: Global,
+    rows: &mut PointMap<Progress>,
+    ran: &mut Vec<NodeId>,
+    round: u64,
+    functions: &mut F,
+    node: NodeId,
+    f: &FnRef,
+    initial: &Value,
+    stale: bool,
+    kids: &[NodeId],
+) -> Result<Outcome, AllocError>
+    requires there { Holds rows.old (main node) }
+    requires sound { F.is_sound functions.old }
+    requires known { IsTrue (F.known functions.old f.now) }
+    requires kind { f.now.id.kind ≡ FnKind.Map }
+    requires fit { (values : List Value) → AllZip (ShowsValue rows.old) kids.now values
+        → FoldFits f.now initial.now values }
+    ensures computed { CallComputes (folded (F.value functions.old f.now) initial.now) f.now.sig.gives stale round
+        (noted rows.old ran.old.items (F.calls functions.old))
+        (noted rows.new ran.new.items (F.calls functions.new)) node kids.now (length kids.now) result }
+    ensures functions { KeepsFunctions F.Functions functions.old functions.new }
+    ensures wants { WantsFollow (CallLacks (λ m. stale) round rows.old (vec_capacity ran.old) (length ran.old.items) node f.now.sig.gives kids.now)
+        result (F.wants functions.old) (F.wants functions.new) }
+    ensures room { vec_capacity ran.old ≤ vec_capacity ran.new }
 {
     match known_outcome(alloc, rows, round, node, stale, kids) {
         Ok(Some(outcome)) => Ok(outcome),
         Ok(None) => call_fold(alloc, rows, ran, functions, node, f, initial, kids),
         Err(AllocError) => Err(AllocError),
+    }
+}
+
+/// What a node gives whose children show these values, if its function need not be called: what it gave when it was last
+/// called, if that was on these values, unless it must be called.
+#[inline]
+fn known_on(
+    alloc: Global,
+    last: &LastCall,
+    must: bool,
+    values: &[Value],
+) -> Result<Option<Outcome>, AllocError>
+    ensures known { IfOk result (λ o. IsKnownOn must last.now.call values.now o) }
+    ensures lacks { OnErr result ((c : Call) × (last.now.call ≡ Some c) × (type_of c.result ≡ Text)) }
+{
+    if must {
+        return Ok(None);
+    }
+    match last.given_on(values) {
+        Some(given) => match given.copy(alloc) {
+            Ok(copy) => Ok(Some(Outcome::Val(copy))),
+            Err(AllocError) => Err(AllocError),
+        },
+        None => Ok(None),
     }
 }
 

@@ -1,17 +1,21 @@
 //! How far a point has come.
-ghost use Rattle.std.specs.Prelude.{◌≡◌, ◌↔◌, false, true, None, Some, IsTrue, is_some, option_copied};
+ghost use Rattle.std.specs.Prelude.{◌≡◌, ◌↔◌, false, true, None, Some, IfOk, IsTrue, is_some, option_copied};
+ghost use Rattle.inc_terms.specs.Code.{def_of};
 ghost use Rattle.inc_terms.specs.Depend.{main};
 ghost use Rattle.point_map.specs.Rows.{at, Holds};
-ghost use Rattle.node_outcomes.specs.declared.row.Progress.{Progress as Row};
-ghost use Rattle.node_outcomes.specs.Row.{with_stage, with_outcome, without_outcome, with_call, with_cutoff, with_frozen, fires_in, kept_in, stage_in, settled_in, IsRewritten};
+ghost use Rattle.node_outcomes.specs.Progress.{Progress as Row, new_row};
+ghost use Rattle.node_outcomes.specs.Row.{with_stage, with_outcome, without_outcome, with_none, with_lent, with_cutoff, with_frozen, fires_in, kept_in, stage_in, settled_in, IsRewritten};
 ghost use Rattle.map_nodes.specs.Cutoff.{IsStopped};
 ghost use Rattle.stabilize_round.specs.Freezing.{found};
 
 use crate::last_call::LastCall;
-use inc_value::{NodeId, Outcome, Part, Point, Value};
+use inc_terms::Def;
+use inc_value::{NodeId, Outcome, Point, Value};
 use map_nodes::{Cutoff, stops};
 use point_map::PointMap;
-use smallvec::SmallVec;
+use std::alloc::{AllocError, Global};
+use std::marker::Model;
+use std::mem;
 
 /// Which links a needed point has.
 #[derive(Clone, Copy, PartialEq, Eq)]
@@ -30,7 +34,6 @@ pub enum Stage {
 /// the last call of its node's function, and, of a main, its node's cutoff, and whether the node is a freeze that keeps
 /// the value on which its predicate was called last. The outcome of a change is that of its subject with which it ran
 /// last. No round has the number 0.
-#[derive(Drop)]
 pub struct Progress {
     pub stage: Stage,
     pub settled: u64,
@@ -40,17 +43,61 @@ pub struct Progress {
     pub frozen: bool,
 }
 
-/// A point that was never settled.
-pub fn unsettled() -> Progress
-    ensures { result ≡ record { stage = Stage.Bare; settled = 0; outcome = None; last = None; cutoff = Cutoff.Equal; frozen = false } }
+// (written out: whoever drops one proves one call, and no drop of its parts)
+impl Drop for Progress {
+    fn drop(self) {
+        let Progress {
+            stage: _,
+            settled: _,
+            outcome,
+            last,
+            cutoff: _,
+            frozen: _,
+        } = self;
+        drop(outcome);
+        drop(last);
+    }
+}
+
+impl Model for Progress {
+    ghost use Rattle.node_outcomes.specs.Progress.{Progress as Row};
+
+    ghost Value = { Row };
+
+    ghost view = { λ k. record {
+      stage = k.stage;
+      settled = k.settled;
+      outcome = k.outcome;
+      last = k.last.call;
+      cutoff = k.cutoff;
+      frozen = k.frozen;
+      room = k.last.room;
+    } };
+}
+
+/// A point of a node that is so defined, never settled. Its function can be called on as many values as it takes.
+pub fn unsettled(alloc: Global, def: &Def) -> Result<Progress, AllocError>
+    ensures { IfOk result (λ k. k ≡ new_row (def_of def.now)) }
 {
-    Progress {
+    let last = match LastCall::with_room(alloc, folds(def), def.kids().len()) {
+        Ok(last) => last,
+        Err(AllocError) => return Err(AllocError),
+    };
+    Ok(Progress {
         stage: Stage::Bare,
         settled: 0,
         outcome: None,
-        last: LastCall::none(),
+        last,
         cutoff: Cutoff::Equal,
         frozen: false,
+    })
+}
+
+/// Whether a node's function is folded over values.
+fn folds(def: &Def) -> bool {
+    match def {
+        Def::Fold(_, _, _) | Def::Expert { .. } => true,
+        _ => false,
     }
 }
 
@@ -165,32 +212,23 @@ pub fn forget_outcome(rows: &mut PointMap<Progress>, p: Point)
     row.outcome = None;
 }
 
-/// Keeps the last call of a map's function, on the values of a list, which gets those before.
-pub(crate) fn keep_map(
-    rows: &mut PointMap<Progress>,
-    p: Point,
-    arguments: &mut SmallVec<Value, 2>,
-    value: Value,
-)
+/// Lends the last call of a point's node, with the lists for the next. The row has none meanwhile. This takes no memory.
+pub(crate) fn lend_call(alloc: Global, rows: &mut PointMap<Progress>, p: Point) -> LastCall
     requires there { Holds rows.old p }
-    ensures { IsRewritten rows.old rows.new p (with_call (record { arguments = arguments.old.items; result = value })) }
+    ensures lent { (k : Row) × (at rows.old p ≡ Some k) × (result ≡ record { call = k.last; room = k.room }) }
+    ensures row { IsRewritten rows.old rows.new p with_none }
 {
     let row = rows.get_mut(p).unwrap();
-    row.last.keep_map(arguments, value);
+    mem::replace(&mut row.last, LastCall::none(alloc))
 }
 
-/// Keeps the last calls of a fold's function, on the values of a list, which gets those before.
-pub(crate) fn keep_fold(
-    rows: &mut PointMap<Progress>,
-    p: Point,
-    kids: &mut SmallVec<Value, 2>,
-    value: Value,
-)
+/// Gives a call that was lent, or one since, back to its row.
+pub(crate) fn give_back(rows: &mut PointMap<Progress>, p: Point, last: LastCall)
     requires there { Holds rows.old p }
-    ensures { IsRewritten rows.old rows.new p (with_call (record { arguments = kids.old.items; result = value })) }
+    ensures { IsRewritten rows.old rows.new p (with_lent last) }
 {
     let row = rows.get_mut(p).unwrap();
-    row.last.keep_fold(kids, value);
+    drop(mem::replace(&mut row.last, last));
 }
 
 /// A freeze keeps the value on which its predicate was called last.

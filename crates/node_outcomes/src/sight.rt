@@ -1,5 +1,5 @@
 //! What is seen of nodes by their rows.
-ghost use Rattle.std.specs.Prelude.{◌≡◌, ◌⊎◌, ◌↔◌, ◌≤◌, [], None, Some, IsTrue, IfOk, IsOk, OnOk, OnErr, length, option_copied, option_and_then};
+ghost use Rattle.std.specs.Prelude.{◌≡◌, ◌++◌, ◌∷◌, ◌⊎◌, ◌↔◌, ◌≤◌, ◌<◌, [], None, Some, IsTrue, IfOk, IsOk, OnOk, OnErr, length, option_copied, option_and_then};
 ghost use Rattle.std.specs.List.{AllZip, filter_map};
 ghost use Rattle.inc_value.specs.Value.{type_of};
 ghost use Rattle.inc_value.specs.declared.ty.Ty.TheVariants.{Text};
@@ -7,6 +7,7 @@ ghost use Rattle.inc_value.specs.declared.value.Value.{Value as AValue};
 ghost use Rattle.inc_terms.specs.Depend.{main};
 ghost use Rattle.point_map.specs.Rows.{at};
 ghost use Rattle.node_outcomes.specs.Computing.{AllShow, HasNoText, ShowsValue, seen, value_shown as shown_in, forced_by};
+ghost use Rattle.node_outcomes.specs.Looking.{IsLook, IsLookAt};
 ghost use Rattle.node_outcomes.specs.Row.{value_in, passes_in};
 
 use crate::last_call::Called;
@@ -49,15 +50,103 @@ pub(crate) fn last_call(rows: &PointMap<Progress>, node: NodeId) -> Option<Calle
     rows.get(Point::main(node))?.last.get()
 }
 
+/// What a look at nodes tells.
+#[derive(Clone, Copy)]
+pub(crate) enum Told {
+    /// One of them shows no value.
+    Invalid,
+    /// All show values, which are no texts; and whether one of them has cutoff Never and was settled in the round.
+    Values(bool),
+    /// They are more than two, or one shows a text.
+    Other,
+}
+
+/// Looks at nodes, each once, and fills an empty list with copies of the values that they show. This takes no memory.
+pub(crate) fn look(
+    rows: &PointMap<Progress>,
+    round: u64,
+    nodes: &[NodeId],
+    values: &mut SmallVec<Value, 2>,
+) -> Told
+    requires empty { values.old.items ≡ [] }
+    requires room { 2 ≤ values.old.capacity }
+    ensures { IsLook result round rows.now nodes.now values.new.items }
+{
+    match nodes {
+        [node] => look_at(rows, round, *node, values),
+        [first, second] => match look_at(rows, round, *first, values) {
+            Told::Values(forced) => match look_at(rows, round, *second, values) {
+                Told::Values(also) => Told::Values(forced | also),
+                Told::Invalid => Told::Invalid,
+                Told::Other => Told::Other,
+            },
+            Told::Invalid => Told::Invalid,
+            Told::Other => Told::Other,
+        },
+        _ => Told::Other,
+    }
+}
+
+/// Looks at a node, and appends a copy of the value that it shows.
+#[inline]
+fn look_at(
+    rows: &PointMap<Progress>,
+    round: u64,
+    node: NodeId,
+    values: &mut SmallVec<Value, 2>,
+) -> Told
+    requires room { length values.old.items < values.old.capacity }
+    ensures look { IsLookAt result round rows.now node values.old.items values.new.items }
+    ensures capacity { values.new.capacity ≡ values.old.capacity }
+{
+    match rows.get(Point::main(node)) {
+        Some(row) => match &row.outcome {
+            Some(Outcome::Val(value)) => {
+                if push_scalar(values, value) {
+                    Told::Values(passes_now(row, round))
+                } else {
+                    Told::Other
+                }
+            }
+            _ => Told::Invalid,
+        },
+        None => Told::Invalid,
+    }
+}
+
+/// Appends a copy of a value that is no text. The answer is whether it is none.
+#[inline]
+fn push_scalar(values: &mut SmallVec<Value, 2>, value: &Value) -> bool
+    requires room { length values.old.items < values.old.capacity }
+    ensures pushed { IsTrue result → values.new.items ≡ values.old.items ++ value.now ∷ [] }
+    ensures capacity { values.new.capacity ≡ values.old.capacity }
+{
+    match value {
+        Value::Int(number) => values.push_reserved(Value::Int(*number)),
+        Value::Bool(truth) => values.push_reserved(Value::Bool(*truth)),
+        Value::Node(node, base) => values.push_reserved(Value::Node(*node, *base)),
+        Value::Text(_) => return false,
+    }
+    true
+}
+
+/// Whether a row's cutoff is Never, and it was settled in the round.
+#[inline]
+fn passes_now(row: &Progress, round: u64) -> bool
+    ensures { result ≡ passes_in round (Some row.now) }
+{
+    match row.cutoff {
+        Cutoff::Equal => false,
+        Cutoff::Never => row.settled == round,
+    }
+}
+
 /// Whether a node of cutoff Never was settled in the round.
 fn passes(rows: &PointMap<Progress>, round: u64, node: NodeId) -> bool
     ensures { result ≡ passes_in round (at rows.now (main node)) }
 {
     match rows.get(Point::main(node)) {
-        Some(row) => match row.cutoff {
-            Cutoff::Equal => false,
-            Cutoff::Never => row.settled == round,
-        },
+        Some(row) => passes_now(row, round),
         None => false,
     }
 }
@@ -112,11 +201,13 @@ pub(crate) fn show(rows: &PointMap<Progress>, nodes: &[NodeId], values: &[Value]
 }
 
 /// Makes room for so many values in an empty list. This takes memory only where the list lacks the room.
-fn make_room(values: &mut SmallVec<Value, 2>, n: usize) -> Result<(), AllocError>
+pub(crate) fn make_room(values: &mut SmallVec<Value, 2>, n: usize) -> Result<(), AllocError>
     requires empty { values.old.items ≡ [] }
     ensures items { values.new.items ≡ [] }
     ensures room { OnOk result (n ≤ values.new.capacity) }
+    ensures more { values.old.capacity ≤ values.new.capacity }
     ensures had_room { n ≤ values.old.capacity → IsOk result }
+    ensures two { n ≤ 2 → IsOk result }
 {
     if n <= values.capacity() {
         return Ok(());
@@ -124,8 +215,8 @@ fn make_room(values: &mut SmallVec<Value, 2>, n: usize) -> Result<(), AllocError
     values.reserve_exact(n)
 }
 
-/// Fills an empty list with copies of the values that the nodes show. Where it has room for them, copies of values that
-/// are no texts take no memory.
+/// Fills an empty list with copies of the values that the nodes show. Where it has room for them, or these are two at most,
+/// copies of values that are no texts take no memory.
 pub(crate) fn fill_shown(
     alloc: Global,
     rows: &PointMap<Progress>,
@@ -134,8 +225,10 @@ pub(crate) fn fill_shown(
 ) -> Result<(), AllocError>
     requires empty { values.old.items ≡ [] }
     ensures values { OnOk result (values.new.items ≡ filter_map (shown_in rows.now) nodes.now) }
+    ensures more { values.old.capacity ≤ values.new.capacity }
     ensures scalar { length nodes.now ≤ values.old.capacity → HasNoText (filter_map (shown_in rows.now) nodes.now)
         → IsOk result }
+    ensures two { length nodes.now ≤ 2 → HasNoText (filter_map (shown_in rows.now) nodes.now) → IsOk result }
 {
     make_room(values, nodes.len())?;
     for node in nodes {

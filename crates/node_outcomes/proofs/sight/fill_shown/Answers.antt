@@ -22,15 +22,26 @@ loop-node-preserved c =
             cc (more, pushed, copied, w.values-is, c.loop-node.invariant.0),
             rw w.values-is (omega (arith, c.loop-node.invariant.1, one)),
             rw (w.values-is, w.push_reserved.ensures.capacity) c.loop-node.invariant.2,
+            rw (w.values-is, w.push_reserved.ensures.capacity) c.loop-node.invariant.3,
           )
       | in_default w ↦
           let shown : value_shown rows (get_or nodes i (record { slot = 0; gen_ = 0 })) ≡ None = sym (rw w.in_default.is at c.value_shown.ensures) in
           let same = filter_none rows nodes i (record { slot = 0; gen_ = 0 }) within shown in
-          (cc (same, w.values-is, c.loop-node.invariant.0), rw w.values-is (omega (arith, c.loop-node.invariant.1)), rw w.values-is c.loop-node.invariant.2)
+          (cc (same, w.values-is, c.loop-node.invariant.0), rw w.values-is (omega (arith, c.loop-node.invariant.1)), rw w.values-is c.loop-node.invariant.2, rw w.values-is c.loop-node.invariant.3)
     ]
 
 pub returns-in_err-copy-clause-scalar : goal.returns-in_err-copy-clause-scalar
 returns-in_err-copy-clause-scalar c room none =
+    let rows = c.args.rows.now in let nodes = c.args.nodes.now in let i = c.loop-node.node-index in
+    let shown : value_shown rows (get_or nodes i (record { slot = 0; gen_ = 0 })) ≡ Some c.in-Some.value.now =
+    sym (rw c.in-Some.is at c.value_shown.ensures) in
+    let scalar = shown_by_each rows (λ (v : Value). type_of v ≢ Text) nodes i (record { slot = 0; gen_ = 0 }) c.in-Some.value.now c.loop-node-test.true
+    shown none in
+    let made = rw c.in_err-copy.was at (c.copy.ensures.scalar scalar) in
+    absurd cc
+
+pub returns-in_err-copy-clause-two : goal.returns-in_err-copy-clause-two
+returns-in_err-copy-clause-two c room none =
     let rows = c.args.rows.now in let nodes = c.args.nodes.now in let i = c.loop-node.node-index in
     let shown : value_shown rows (get_or nodes i (record { slot = 0; gen_ = 0 })) ≡ Some c.in-Some.value.now =
     sym (rw c.in-Some.is at c.value_shown.ensures) in

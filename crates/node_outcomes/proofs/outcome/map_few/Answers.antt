@@ -1,0 +1,96 @@
+use Rattle.std.proofs.Common.{◌≡◌, inl, inr, false, Some, None, List, refl, subst, sym}
+use Rattle.inc_value.specs.declared.value.Value.{Value}
+use Rattle.inc_terms.specs.Depend.{main}
+use Rattle.point_map.specs.Lends.{IsWritten}
+use Rattle.point_map.specs.Rows.{at}
+use Rattle.node_outcomes.specs.Computing.{Calls, IsKnown, noted}
+use Rattle.node_outcomes.specs.Looking.{IsKnownOn}
+use Rattle.node_outcomes.specs.Meaning.{functions_of}
+use Rattle.node_outcomes.specs.Progress.{Progress}
+use Rattle.node_outcomes.specs.contracts.row.Progress.{the_view}
+use Rattle.node_outcomes.proofs.Computing.{known_computes, ends_computes, filter_is_values}
+use Rattle.node_outcomes.proofs.Lacking.{lacks_as, to_call}
+use Rattle.node_outcomes.proofs.Looking.{call_lacks, calls_written, known_is, known_stays, rows_stay}
+use Rattle.node_outcomes.proofs.outcome.map_few.Goals as goal
+
+pub returns-in-Ok-Some-clause-computed : goal.returns-in-Ok-Some-clause-computed
+returns-in-Ok-Some-clause-computed g c =
+    let F = functions_of g.F.Functions c.args.functions.now in
+    let f = c.args.f.now in
+    let rows = c.args.rows.now in
+    let kids = c.args.kids.now in
+    let values = c.args.values.now.items in
+    let k = the_view c.row.inside in
+    let was = rw (c.unwrap-row.ensures, c.main.ensures) at c.get_mut.ensures.value in
+    let same : c.unwrap-row.result.now ≡ k = let view = c.row.view_is in cc in
+    let there : at rows (main c.args.node) ≡ Some k = cc (was, same) in
+    let new = c.get_mut.follows.lender c.unwrap-row.result.now in
+    let written : IsWritten rows new (main c.args.node) k = subst (λ (x : Progress). IsWritten rows new (main c.args.node) x) same
+    (rw (c.unwrap-row.ensures, c.main.ensures) at (c.get_mut.follows.holds c.unwrap-row.result.now)) in
+    let on : IsKnownOn c.args.forced k.last values (Some c.in-Ok-Some.outcome) = subst (λ x. IsKnownOn c.args.forced k.last values x) c.in-Ok-Some.field-0-is
+    (subst (λ (vs : List Value). IsKnownOn c.args.forced k.last vs c.in-Ok-Some.field-0) c.as_slice.ensures c.in-Ok-Some.ensures.known) in
+    known_stays rows new c.args.node k there written
+    (known_computes (F.value f) f.sig.gives false c.args.round (noted rows c.args.ran.now.items (g.F.Functions.calls c.args.functions.now))
+    c.args.node kids 1 c.requires.there c.in-Ok-Some.outcome
+    (known_is c.args.round rows false c.args.forced c.args.node k kids values (Some c.in-Ok-Some.outcome) there c.requires.shown c.requires.forced on))
+
+pub returns-in-Err-clause-computed : goal.returns-in-Err-clause-computed
+returns-in-Err-clause-computed g c =
+    let rows = c.args.rows.now in
+    let k = the_view c.row.inside in
+    let was = rw (c.unwrap-row.ensures, c.main.ensures) at c.get_mut.ensures.value in
+    let same : c.unwrap-row.result.now ≡ k = let view = c.row.view_is in cc in
+    let there : at rows (main c.args.node) ≡ Some k = cc (was, same) in
+    let new = c.get_mut.follows.lender c.unwrap-row.result.now in
+    let written : IsWritten rows new (main c.args.node) k = subst (λ (x : Progress). IsWritten rows new (main c.args.node) x) same
+    (rw (c.unwrap-row.ensures, c.main.ensures) at (c.get_mut.follows.holds c.unwrap-row.result.now)) in
+    record { rows = rows_stay rows new c.args.node k there written; ran = refl; count = inl refl }
+
+pub returns-in-Ok-None-clause-computed : goal.returns-in-Ok-None-clause-computed
+returns-in-Ok-None-clause-computed g c =
+    let F = functions_of g.F.Functions c.args.functions.now in
+    let f = c.args.f.now in
+    let rows = c.args.rows.now in
+    let kids = c.args.kids.now in
+    let values = c.args.values.now.items in
+    let k = the_view c.row.inside in
+    let was = rw (c.unwrap-row.ensures, c.main.ensures) at c.get_mut.ensures.value in
+    let same : c.unwrap-row.result.now ≡ k = let view = c.row.view_is in cc in
+    let there : at rows (main c.args.node) ≡ Some k = cc (was, same) in
+    let row = the_view (record {
+      stage = c.row.inside.stage;
+      settled = c.row.inside.settled;
+      outcome = c.row.inside.outcome;
+      last = c.call_map_on.new.last;
+      cutoff = c.row.inside.cutoff;
+      frozen = c.row.inside.frozen;
+    }) in
+    let written = rw (c.unwrap-row.ensures, c.main.ensures) at (c.get_mut.follows.holds row) in
+    let on : IsKnownOn c.args.forced k.last values None = subst (λ x. IsKnownOn c.args.forced k.last values x) c.in-Ok-None.field-0-is
+    (subst (λ (vs : List Value). IsKnownOn c.args.forced k.last vs c.in-Ok-None.field-0) c.as_slice.ensures c.in-Ok-None.ensures.known) in
+    let made = c.call_map_on in
+    let old = noted rows c.args.ran.now.items (g.F.Functions.calls c.args.functions.now) in
+    let new = noted (c.get_mut.follows.lender row) made.new.ran.items (g.F.Functions.calls made.new.functions) in
+    let called = calls_written rows (c.get_mut.follows.lender row) c.args.node k there (F.value f) f.sig.gives made.new.last _ _ _ _ values _ made.result written
+    made.ensures.made in
+    ends_computes (F.value f) f.sig.gives false c.args.round old c.args.node kids 1 c.requires.there new made.result
+    (known_is c.args.round rows false c.args.forced c.args.node k kids values None there c.requires.shown c.requires.forced on)
+    (subst (λ (vs : List Value). Calls (F.value f) f.sig.gives old new c.args.node vs 1 made.result) (sym (filter_is_values rows kids values c.requires.shown)) called)
+
+pub returns-in-Ok-None-clause-wants : goal.returns-in-Ok-None-clause-wants
+returns-in-Ok-None-clause-wants g c =
+    let rows = c.args.rows.now in
+    let kids = c.args.kids.now in
+    let values = c.args.values.now.items in
+    let k = the_view c.row.inside in
+    let was = rw (c.unwrap-row.ensures, c.main.ensures) at c.get_mut.ensures.value in
+    let same : c.unwrap-row.result.now ≡ k = let view = c.row.view_is in cc in
+    let there : at rows (main c.args.node) ≡ Some k = cc (was, same) in
+    let on : IsKnownOn c.args.forced k.last values None = subst (λ x. IsKnownOn c.args.forced k.last values x) c.in-Ok-None.field-0-is
+    (subst (λ (vs : List Value). IsKnownOn c.args.forced k.last vs c.in-Ok-None.field-0) c.as_slice.ensures c.in-Ok-None.ensures.known) in
+    let known : IsKnown false c.args.round rows c.args.node kids None = known_is c.args.round rows false c.args.forced c.args.node k kids values None there c.requires.shown c.requires.forced on in
+    lacks_as c.call_map_on.result _ _
+    (λ lacks. inr (
+      to_call false c.args.round rows c.args.node kids known,
+      call_lacks c.args.round rows _ _ c.args.node c.args.f.now.sig.gives kids values c.requires.shown lacks,
+    )) c.call_map_on.ensures.wants
