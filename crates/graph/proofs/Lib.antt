@@ -6,6 +6,7 @@ pub mod Sound
 pub mod Faulting
 pub mod Adding
 pub mod Stabilizing
+pub mod Steadying
 pub mod Rounding
 pub mod Unobserving
 pub mod TakingBack

@@ -18,7 +18,7 @@ use Rattle.node_arena.specs.Arena.{Arena, row_at}
 use Rattle.node_outcomes.specs.Computing.{seen}
 use Rattle.node_outcomes.specs.Meaning.{Meaning}
 use Rattle.node_outcomes.specs.Row.{cutoff_in, outcome_in}
-use Rattle.node_outcomes.specs.declared.row.Progress.{Progress}
+use Rattle.node_outcomes.specs.Progress.{Progress}
 use Rattle.observers.specs.Observers.{ObserversView}
 use Rattle.observers.specs.declared.observer.Observer.{Observer}
 use Rattle.point_map.proofs.Places.{same_point_eq, same_point_self}

@@ -11,7 +11,7 @@ use Rattle.clock_nodes.specs.declared.clock.AdvanceFault.{AdvanceFault}
 use Rattle.clock_nodes.specs.declared.clock.AdvanceFault.TheVariants as advance
 use Rattle.node_arena.specs.RightSide.{RightSide}
 use Rattle.node_outcomes.specs.Row.{outcome_in, cutoff_in}
-use Rattle.node_outcomes.specs.declared.row.Progress.{Progress}
+use Rattle.node_outcomes.specs.Progress.{Progress}
 use Rattle.point_map.specs.Rows.{Rows, at}
 use Rattle.timed_nodes.specs.Timed.{IsMovedTo}
 use Rattle.stabilizer.specs.Between.{StaysButHeap}

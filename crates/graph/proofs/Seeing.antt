@@ -14,7 +14,7 @@ use Rattle.necessity.specs.Need.{Roots, root_times}
 use Rattle.node_outcomes.specs.Computing.{seen_of}
 use Rattle.node_outcomes.specs.Row.{outcome_in, cutoff_in, kept_in}
 use Rattle.expert_nodes.specs.Experts.{Expert, expert_at, expert_in, kids_of_expert}
-use Rattle.node_outcomes.specs.declared.row.Progress.{Progress}
+use Rattle.node_outcomes.specs.Progress.{Progress}
 use Rattle.point_map.specs.Rows.{Rows, at}
 use Rattle.node_arena.specs.Arena.{Arena, row_at, IsSet, IsVariable, with_value}
 use Rattle.node_outcomes.specs.Choosing.{built_by, built_in}

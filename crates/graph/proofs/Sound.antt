@@ -24,7 +24,7 @@ use Rattle.stabilize_round.specs.State.{count}
 use Rattle.stabilizer.specs.Between.{StaysButHeap}
 use Rattle.stabilizer.specs.Kept.{graph_in}
 use Rattle.stabilizer.specs.Round.{IsReady}
-use Rattle.node_outcomes.specs.declared.row.Progress.{Progress}
+use Rattle.node_outcomes.specs.Progress.{Progress}
 use Rattle.stabilizer.specs.declared.parts.Parts.{Parts}
 use Rattle.wiring.specs.Graph.{graph_at}
 use Rattle.wiring.specs.Kept.{IsKept}

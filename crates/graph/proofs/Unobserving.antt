@@ -16,7 +16,7 @@ use Rattle.node_outcomes.specs.Computing.{seen}
 use Rattle.node_arena.specs.Arena.{Arena}
 use Rattle.node_outcomes.specs.Meaning.{Meaning}
 use Rattle.stabilizer.specs.Round.{IsReady, AreRooted}
-use Rattle.node_outcomes.specs.declared.row.Progress.{Progress}
+use Rattle.node_outcomes.specs.Progress.{Progress}
 use Rattle.stabilizer.specs.declared.parts.Parts.{Parts}
 use Rattle.wiring.specs.declared.refused.Refused.{Refused}
 use Rattle.observers.specs.Observers.{ObserversView, in_use, looked_at, new_observer, ended, watched}

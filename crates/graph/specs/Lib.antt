@@ -6,3 +6,4 @@ pub mod Effects
 pub mod Stabilizes
 pub mod Few
 pub mod Clock
+pub mod Steady

@@ -1,5 +1,5 @@
 //! Observers.
-ghost use Rattle.std.specs.Prelude.{◌≡◌, ◌↔◌, ℕ, None, Some, IfOk, IsOk, IsTrue, drop, option_copied, slice_get, true};
+ghost use Rattle.std.specs.Prelude.{◌≡◌, ◌↔◌, ◌<◌, ℕ, None, Some, IfOk, IsOk, IsTrue, OnErr, drop, length, option_copied, slice_get, true};
 ghost use Rattle.inc_value.specs.Outcome.{IsNoText};
 ghost use Rattle.observers.specs.Observers.{in_use, looked_at, tells, watch_after, watched, IsToldNoText};
 ghost use Rattle.inc_terms.specs.Same.{same_outcome};
@@ -68,7 +68,8 @@ pub(crate) fn begin(made: &mut Vec<Observer>, place: u32)
 
 /// The nodes of the observers in use among these, in order.
 pub(crate) fn nodes_in_use(alloc: Global, made: &[Observer]) -> Result<Vec<NodeId>, AllocError>
-    ensures { IfOk result (λ nodes. nodes.items ≡ in_use made.now) }
+    ensures used { IfOk result (λ nodes. nodes.items ≡ in_use made.now) }
+    ensures some { OnErr result (0 < length made.now) }
 {
     let mut nodes = Vec::new(alloc);
     for observer in made {

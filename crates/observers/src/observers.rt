@@ -131,10 +131,11 @@ impl Observers {
         &self.notices
     }
 
-    /// The nodes of the observers in use from a place on, in order.
+    /// The nodes of the observers in use from a place on, in order. Where there is none this takes no memory.
     pub fn in_use(&self, from: usize) -> Result<Vec<NodeId>, AllocError>
         requires within { from ≤ length self.now.made }
-        ensures { IfOk result (λ nodes. nodes.items ≡ in_use (drop from self.now.made)) }
+        ensures used { IfOk result (λ nodes. nodes.items ≡ in_use (drop from self.now.made)) }
+        ensures some { OnErr result (from < length self.now.made) }
     {
         nodes_in_use(self.alloc, &self.made[from..])
     }

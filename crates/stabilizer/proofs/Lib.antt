@@ -4,3 +4,5 @@ pub mod Change
 pub mod Killing
 pub mod Building
 pub mod Round
+pub mod Steady
+pub mod Room

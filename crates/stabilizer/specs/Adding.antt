@@ -13,9 +13,9 @@ use Rattle.node_arena.specs.declared.arena.AddFault.{AddFault}
 use Rattle.node_arena.specs.Graph.{CallsFit}
 use Rattle.wiring.specs.Experts.{ExpertIsAdded}
 use Rattle.node_outcomes.specs.Meaning.{Meaning}
+use Rattle.node_outcomes.specs.Progress.{new_row}
 use Rattle.wiring.specs.Places.{ChangesNode, for_parts}
 use Rattle.stabilizer.specs.Between.{KeepsWork}
-use Rattle.stabilizer.specs.Building.{new_row}
 use Rattle.stabilizer.specs.Kept.{PartsKept}
 use Rattle.stabilizer.specs.Look.{cutoff_at}
 use Rattle.stabilizer.specs.Round.{IsReady}
@@ -29,7 +29,7 @@ pub record HasNode (old new : Parts) (id : NodeId) (row : Row) : Type 0 where
   pub keeps : (n : NodeId) → Given old.arena.given n → row_at new.arena n ≡ row_at old.arena n
   pub lives : live new.arena ≡ live old.arena + 1
   pub given : new.arena.given ≡ old.arena.given + 1
-  pub points : ChangesNode old.work.rows new.work.rows id (for_parts row.def (λ part. new_row))
+  pub points : ChangesNode old.work.rows new.work.rows id (for_parts row.def (λ part. new_row row.def))
   pub height : Part → ℕ
   pub heights : ChangesNode old.work.graph.heights new.work.graph.heights id (for_parts row.def height)
   pub rows : (p : Point) → Given old.arena.given p.node → at new.work.rows p ≡ at old.work.rows p
@@ -63,7 +63,7 @@ pub record SaysAdded (old new : Parts) (def : Def) (ty : Ty) (result : Result No
   pub given : OnOk result (new.arena.given ≡ old.arena.given + 1)
   pub err : OnErr result (new.arena ≡ old.arena)
   pub err_work : OnErr result (KeepsWork old.work new.work)
-  pub row : IfOk result (λ (n : NodeId). ChangesNode old.work.rows new.work.rows n (for_parts def (λ part. new_row)))
+  pub row : IfOk result (λ (n : NodeId). ChangesNode old.work.rows new.work.rows n (for_parts def (λ part. new_row def)))
   pub point : IfOk result (λ (n : NodeId). (h : Part → ℕ) × ChangesNode old.work.graph.heights new.work.graph.heights n (for_parts def h))
   pub rows : (p : Point) → Given old.arena.given p.node → at new.work.rows p ≡ at old.work.rows p
   pub cutoffs : (n : NodeId) → cutoff_at new.work n ≡ cutoff_at old.work n

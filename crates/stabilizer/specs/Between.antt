@@ -35,7 +35,7 @@ use Rattle.node_outcomes.specs.Row.{kept_in, settled_in, outcome_in}
 use Rattle.wiring.specs.Stands.{owes}
 use Rattle.wiring.specs.Places.{ChangesNode}
 use Rattle.wiring.specs.Wiring.{IsMarked, KeepsRound}
-use Rattle.node_outcomes.specs.declared.row.Progress.{Progress}
+use Rattle.node_outcomes.specs.Progress.{Progress}
 use Rattle.node_outcomes.specs.declared.row.Stage.TheVariants.{Full}
 use Rattle.wiring.specs.declared.work.Work.{Work}
 

@@ -7,14 +7,12 @@ use Rattle.inc_value.specs.declared.node.Point.{Point}
 use Rattle.inc_terms.specs.Depend.{subject_of}
 use Rattle.inc_terms.specs.Graph.{Row}
 use Rattle.inc_terms.specs.Within.{Given}
-use Rattle.map_nodes.specs.declared.cutoff.Cutoff.TheVariants.{Equal}
 use Rattle.necessary_graph.specs.Part.{Needed, IsInStep}
 use Rattle.node_arena.specs.Arena.{Arena, row_at, live, IsLive}
 use Rattle.node_arena.specs.Sound.{IsSoundArena}
 use Rattle.expert_nodes.specs.Experts.{expert_at}
 use Rattle.node_outcomes.specs.Computing.{has_part, is_expert}
-use Rattle.node_outcomes.specs.declared.row.Progress.{Progress}
-use Rattle.node_outcomes.specs.declared.row.Stage.TheVariants.{Bare}
+use Rattle.node_outcomes.specs.Progress.{Progress, new_row}
 use Rattle.point_map.specs.Rows.{at, Holds, KeepsRows}
 use Rattle.scopes.specs.Scopes.{Scopes, StandsIn, IsApart}
 use Rattle.wiring.specs.Places.{ChangesNode, for_parts}
@@ -24,9 +22,9 @@ use Rattle.wiring.specs.declared.refused.Refused.{Refused}
 use Rattle.wiring.specs.declared.refused.Refused.TheVariants.{Full, Memory}
 use Rattle.stabilizer.specs.declared.parts.Parts.{Parts}
 
--- what is kept of a point that is new
-abbrev pub new_row : Progress
-new_row = record { stage = Bare; settled = 0; outcome = None; last = None; cutoff = Equal; frozen = false }
+-- this is kept of a point of a live node that is new
+abbrev pub IsNewRow : Arena → NodeId → Progress → Type 0
+IsNewRow arena n k = (r : Row) × (row_at arena n ≡ Some r) × (k ≡ new_row r.def)
 
 -- every id that was given keeps its row, or has none as before, and so do its points. Each further node stands in the bind's scope; nothing was done to its points yet. No link was
 -- made, and no root; the time stands
@@ -37,7 +35,7 @@ pub record HasGrown (old new : Parts) (b : NodeId) : Type 0 where
   pub nodes : (n : NodeId) → Given old.arena.given n → row_at new.arena n ≡ row_at old.arena n
   pub scope : (n : NodeId) (r : Row) → row_at new.arena n ≡ Some r → old.arena.given ≤ n.gen_ → (r.scope ≡ Some b) × Given new.arena.given n
   pub rows : (p : Point) → Given old.arena.given p.node → at new.work.rows p ≡ at old.work.rows p
-  pub fresh : (p : Point) (k : Progress) → old.arena.given ≤ p.node.gen_ → at new.work.rows p ≡ Some k → k ≡ new_row
+  pub fresh : (p : Point) (k : Progress) → old.arena.given ≤ p.node.gen_ → at new.work.rows p ≡ Some k → IsNewRow new.arena p.node k
   pub heights : (p : Point) → Given old.arena.given p.node → at new.work.graph.heights p ≡ at old.work.graph.heights p
   pub links : new.work.graph.links ≡ old.work.graph.links
   pub roots : new.work.graph.roots ≡ old.work.graph.roots
@@ -101,7 +99,7 @@ pub record HasAdopted (arena : Arena) (count : ℕ) (These : NodeId → Type 0) 
   pub older : KeepsOlder count old new
   pub lists : KeepsListed arena count old new
   pub points : HavePoints arena count These new
-  pub fresh : (p : Point) (k : Progress) → count ≤ p.node.gen_ → at new.rows p ≡ Some k → k ≡ new_row
+  pub fresh : (p : Point) (k : Progress) → count ≤ p.node.gen_ → at new.rows p ≡ Some k → IsNewRow arena p.node k
   pub listed : AreListed arena These new
 
 -- beside those who stood in scopes just these nodes stand in the bind's, and no others wait to be given
@@ -142,7 +140,7 @@ pub record GetsPoints (arena : Arena) (old new : Work) (n : NodeId) : Type 0 whe
   pub row : Row
   pub is_row : row_at arena n ≡ Some row
   pub heights : Part → ℕ
-  pub rows : ChangesNode old.rows new.rows n (for_parts row.def (λ part. new_row))
+  pub rows : ChangesNode old.rows new.rows n (for_parts row.def (λ part. new_row row.def))
   pub points : ChangesNode old.graph.heights new.graph.heights n (for_parts row.def heights)
   pub pair : IsSome (subject_of row.def) → Among n new.pairs.nodes
   pub in_scope : Among n new.scoped.nodes

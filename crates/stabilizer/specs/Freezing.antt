@@ -15,7 +15,7 @@ use Rattle.necessity.specs.Need.{IsRoot, Roots, root_times}
 use Rattle.node_arena.specs.Arena.{Arena, row_at}
 use Rattle.node_arena.specs.Typing.{Fits}
 use Rattle.node_outcomes.specs.Row.{fires_in, with_frozen}
-use Rattle.node_outcomes.specs.declared.row.Progress.{Progress}
+use Rattle.node_outcomes.specs.Progress.{Progress}
 use Rattle.point_map.specs.Rows.{Rows, at}
 use Rattle.stabilize_round.specs.State.{count}
 

@@ -26,8 +26,10 @@ use Rattle.wiring.specs.Stands.{Counts}
 use Rattle.wiring.specs.Turning.{IsAttached, IsWaiting}
 use Rattle.wiring.specs.Wiring.{PutsRoots, WaitsFor, Wires}
 use Rattle.wiring.specs.declared.work.Work.{Work}
+use Rattle.stabilizer.specs.Kept.{PartsKept}
 use Rattle.stabilizer.specs.Rebuilding.{IsSeenOf, IsToBuild}
 use Rattle.stabilizer.specs.Round.{Settles}
+use Rattle.stabilizer.specs.Stepping.{StepsMade}
 use Rattle.stabilizer.specs.Telling.{shows_of}
 use Rattle.stabilizer.specs.declared.parts.Parts.{Parts}
 
@@ -77,6 +79,8 @@ pub record SettleLacks (M : Meaning) (old : Parts) (before : Counts) (wants want
   pub left : Parts
   pub counts : Counts
   pub settles : Settles M old left before counts
+  pub steps : StepsMade M old before left counts
+  pub kept : PartsKept left
   pub lacks : StepLacks left wants wants'
 
 -- all steps were made, in which no function found no memory, and telling these observers needs memory: one of them shows or is told of a text
@@ -84,6 +88,8 @@ pub record TellingLacks (M : Meaning) (old : Parts) (made : List Observer) (befo
   pub left : Parts
   pub counts : Counts
   pub settles : Settles M old left before counts
+  pub steps : StepsMade M old before left counts
+  pub kept : PartsKept left
   pub unwanted : wants' ≡ wants
   pub heavy : ¬ AllLight (shows_of left) made
 
@@ -92,13 +98,20 @@ pub data SettleOrTellLacks (M : Meaning) (old : Parts) (made : List Observer) (b
   in_step : SettleLacks M old before wants wants' → SettleOrTellLacks M old made before wants wants'
   in_telling : TellingLacks M old made before wants wants' → SettleOrTellLacks M old made before wants wants'
 
+-- a round began: what was linked to experts got its links, and roots were put on; where neither was to be done all stays
+pub record HasBegun (old : Parts) (nodes : List NodeId) (wired rooted : Work) : Type 0 where
+  pub wires : Wires old.arena old.work wired None
+  pub puts : PutsRoots old.arena wired rooted
+  pub idle : old.work.todo.items ≡ [] → wired ≡ record old.work { todo = wired.todo }
+  pub still : nodes ≡ [] → rooted ≡ wired
+
 -- why a round was refused that tells these observers: it has the last number, it puts on links to what was linked to experts, or roots; one of its steps was
 -- refused, or telling was
 pub data RoundLacks (M : Meaning) (old : Parts) (nodes : List NodeId) (made : List Observer) (before : Counts) (wants wants' : ℕ) : Type 0 where
   of_number : last_count ≤ old.work.round → RoundLacks M old nodes made before wants wants'
   of_lists : old.work.todo.items ≢ [] → RoundLacks M old nodes made before wants wants'
   of_roots : nodes ≢ [] → RoundLacks M old nodes made before wants wants'
-  of_step : {wired rooted : Work} → Wires old.arena old.work wired None → PutsRoots old.arena wired rooted → SettleLacks M (record old { work = rooted }) before wants wants'
+  of_step : {wired rooted : Work} → HasBegun old nodes wired rooted → SettleLacks M (record old { work = rooted }) before wants wants'
       → RoundLacks M old nodes made before wants wants'
-  of_telling : {wired rooted : Work} → Wires old.arena old.work wired None → PutsRoots old.arena wired rooted → TellingLacks M (record old { work = rooted }) made before wants wants'
+  of_telling : {wired rooted : Work} → HasBegun old nodes wired rooted → TellingLacks M (record old { work = rooted }) made before wants wants'
       → RoundLacks M old nodes made before wants wants'

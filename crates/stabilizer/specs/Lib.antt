@@ -15,6 +15,7 @@ pub mod Giving
 pub mod Adding
 pub mod Rooted
 pub mod Staying
+pub mod Steady
 pub mod Ended
 pub mod Clock
 pub mod Telling

@@ -11,7 +11,7 @@ use Rattle.stabilize_round.specs.State.{Call}
 use Rattle.node_outcomes.specs.Computing.{ran_then}
 use Rattle.node_outcomes.specs.Row.{settled_in}
 use Rattle.wiring.specs.Wiring.{KeepsGraph}
-use Rattle.node_outcomes.specs.declared.row.Progress.{Progress}
+use Rattle.node_outcomes.specs.Progress.{Progress}
 use Rattle.wiring.specs.declared.work.Work.{Work}
 
 -- a main of the heap was settled on an outcome, with this last call, for which so many calls were made. It left the heap, and where its cutoff doesn't stop
@@ -19,7 +19,7 @@ use Rattle.wiring.specs.declared.work.Work.{Work}
 pub record IsSettled (old new : Work) (n : NodeId) (o : Outcome) (last : Option Call) (calls : ℕ) : Type 0 where
   pub row : Progress
   pub was : at old.rows (main n) ≡ Some row
-  pub now : at new.rows (main n) ≡ Some (record { stage = row.stage; settled = old.round; outcome = Some o; last = last; cutoff = row.cutoff; frozen = row.frozen })
+  pub now : at new.rows (main n) ≡ Some (record { stage = row.stage; settled = old.round; outcome = Some o; last = last; cutoff = row.cutoff; frozen = row.frozen; room = row.room })
   pub others : (p : Point) → p ≢ main n → at new.rows p ≡ at old.rows p
   pub graph : KeepsGraph old.graph new.graph
   pub kept : (p : Point) → p ≢ main n → Holds old.graph.heap p → Holds new.graph.heap p

@@ -1,5 +1,5 @@
 -- What a step does.
-use Rattle.std.specs.Prelude.{◌≡◌, ◌≢◌, ◌⊎◌, ◌↔◌, ◌<◌, ◌≤◌, ◌+◌, ◌*◌, ℕ, Bool, not, ◌&&◌, List, [], length, Option, None, Some, is_some}
+use Rattle.std.specs.Prelude.{◌≡◌, ◌≢◌, ◌⊎◌, ◌↔◌, ◌<◌, ◌≤◌, ◌+◌, ◌*◌, ℕ, Bool, not, ◌&&◌, List, [], length, Option, None, Some, is_some, vec_capacity}
 use Rattle.inc_value.specs.declared.node.NodeId.{NodeId}
 use Rattle.inc_value.specs.declared.node.Point.{Point}
 use Rattle.inc_value.specs.declared.outcome.Outcome.{Outcome}
@@ -37,7 +37,9 @@ use Rattle.wiring.specs.Stands.{MatchesState, Counts, PointInHand}
 use Rattle.stabilizer.specs.Building.{StopsBuilding}
 use Rattle.stabilizer.specs.Dying.{TakesLeast, StandsBefore}
 use Rattle.stabilizer.specs.Giving.{GivesLive, GivesFew, StopsFull}
+use Rattle.stabilizer.specs.Kept.{PartsKept}
 use Rattle.stabilizer.specs.Rebuilding.{IsToBuild, BuildsAnew}
+use Rattle.stabilizer.specs.Round.{Settles}
 use Rattle.stabilizer.specs.declared.parts.Parts.{Parts}
 use Rattle.wiring.specs.declared.refused.Refused.{Refused}
 use Rattle.wiring.specs.declared.refused.Refused.TheVariants.{Memory}
@@ -48,7 +50,7 @@ pub record IsOfBuilds (before after : Counts) : Type 0 where
   pub builds : after.builds ≡ before.builds
   pub adds : after.adds ≡ before.adds
 
--- a live main was computed, and settled on its outcome
+-- a live main was computed, and settled on its outcome. For those that ran there is as much room as there was at least
 pub record MainIsSettled (F : Functions) (arena : Arena) (old new : Work) (n : NodeId) (before after : Counts) : Type 0 where
   pub outcome : Outcome
   pub last : Option Call
@@ -57,6 +59,7 @@ pub record MainIsSettled (F : Functions) (arena : Arena) (old new : Work) (n : N
   pub marks : Unmarks old.experts new.experts n
   pub settled : IsSettled old new n outcome last (calls_of called (cost_at (graph_at arena old) n))
   pub count : RoseBy before.calls (calls_of called (cost_at (graph_at arena old) n)) after.calls
+  pub room : vec_capacity old.ran ≤ vec_capacity new.ran
   pub rest : IsOfBuilds before after
 
 -- without memory a main stays as it was; where its function was due, some of the calls that it takes may have been made
@@ -117,7 +120,7 @@ pub data IsTurned (M : Meaning) (old new : Parts) (n : NodeId) (before after : C
   built : {f : FnRef} {captures : List NodeId} {given : Outcome} → IsToBuild old n f captures given → BuildsAnew M old new n before after
       → after.calls ≡ before.calls → GivesLive old.arena.given 0 new.arena → IsTurned M old new n before after
 
--- then its main got its right side, if it waits, and what is newly needed its links
+-- then its main got its right side, if it waits, and what is newly needed its links; else all stays
 pub record ChangeIsSettled (M : Meaning) (old new : Parts) (n : NodeId) (before after : Counts) : Type 0 where
   pub turned : Parts
   pub turns : IsTurned M old turned n before after
@@ -125,6 +128,8 @@ pub record ChangeIsSettled (M : Meaning) (old new : Parts) (n : NodeId) (before 
   pub attaches : Attaches turned.arena turned.work attached n
   pub full : IsWaiting turned.work n → (stage_in (at attached.rows (main n)) ≡ Some Full) ⊎ (attached.retries < turned.work.retries)
   pub wires : Wires turned.arena attached new.work None
+  pub still : IsWaiting turned.work n ⊎ (attached ≡ turned.work)
+  pub idle : attached.todo.items ≡ [] → new.work ≡ record attached { todo = new.work.todo }
   pub rest : new ≡ record turned { work = new.work }
 
 -- or that was refused: the change is in the heap again and all else as it was; the bind couldn't be built; or a link was refused, or found no memory
@@ -147,6 +152,12 @@ pub data SettlesLeast (M : Meaning) (old new : Parts) (before after : Counts) : 
       → new ≡ record old { work = new.work } → SettlesLeast M old new before after
   of_change : {n : NodeId} {taken : Work} → TakesLeast old.work taken (change n)
       → ChangeIsSettled M (record old { work = taken }) new n before after → SettlesLeast M old new before after
+
+-- steps were made, one after the other; those before each of them led to what it begins with
+pub data StepsMade (M : Meaning) (old : Parts) (before : Counts) : Parts → Counts → Type 0 where
+  none_made : StepsMade M old before old before
+  one_made : {mid new : Parts} {between after : Counts} → StepsMade M old before mid between → PartsKept mid → Settles M old mid before between
+      → SettlesLeast M mid new between after → StepsMade M old before new after
 
 -- from each state that the parts stand for, with the counts, a step leads to one that they stand for then
 abbrev pub Steps : Meaning → Parts → Parts → Counts → Counts → Type 0

@@ -375,11 +375,13 @@ impl Parts {
         }
     }
 
-    /// Lists the freezes whose ids were given since the count and that keep no value behind the nodes.
+    /// Lists the freezes whose ids were given since the count and that keep no value behind the nodes. Where no id was given
+    /// since, this takes no memory.
     pub fn freezes_since(&self, count: u64, nodes: &mut Vec<NodeId>) -> Result<(), AllocError>
         requires kept { PartsKept self.now }
-        ensures { OnOk result ((freezes : List NodeId) × (nodes.new.items ≡ nodes.old.items ++ freezes)
+        ensures listed { OnOk result ((freezes : List NodeId) × (nodes.new.items ≡ nodes.old.items ++ freezes)
             × AreNewFreezes self.now.arena self.now.work count freezes) }
+        ensures since { OnErr result (count < self.now.arena.given) }
     {
         let mut next = count;
         while let Some(id) = self.arena.first_since(next) {

@@ -1,6 +1,7 @@
 //! Steps and rounds.
 ghost use Rattle.std.specs.Prelude.{◌≡◌, ◌≢◌, List, [], None, Some, map, All, true};
 ghost use Rattle.std.specs.Prelude.{IfOk, OnOk, OnErr, IfErr, IfSome, IfNone};
+ghost use Rattle.inc_value.specs.Counts.{raised};
 ghost use Rattle.inc_value.specs.declared.function.FnRef.{FnRef as AFunction};
 ghost use Rattle.inc_value.specs.declared.node.NodeId.{NodeId};
 ghost use Rattle.inc_value.specs.declared.node.Point.{Point as APoint};
@@ -24,9 +25,10 @@ ghost use Rattle.stabilizer.specs.Round.{IsReady};
 ghost use Rattle.stabilizer.specs.Round.{IsInRound, MayBegin, RootsMore, OnlyRoots, Settles, SettleRefused};
 ghost use Rattle.stabilizer.specs.Ended.{RoundEnds, RoundStops, RoundLeaves};
 ghost use Rattle.stabilizer.specs.Stepping.{MainIsSettled, MainIsLeft, IsUnbuiltBind, IsBuiltFor, IsTurnedAwake, IsAsleep, IsTurned, ChangeIsSettled, ChangeIsLeft};
-ghost use Rattle.stabilizer.specs.Stepping.{StepIsMade, NoneIsLeft, StepIsRefused};
+ghost use Rattle.stabilizer.specs.Stepping.{StepIsMade, NoneIsLeft, StepIsRefused, StepsMade};
 ghost use Rattle.stabilizer.specs.Giving.{GivesLive, GivesFew, StopsFull};
 ghost use Rattle.stabilizer.specs.Staying.{MayStep, ChangeIsTaken, RoundStays};
+ghost use Rattle.stabilizer.specs.Steady.{IsSteady};
 ghost use Rattle.stabilizer.specs.Telling.{AreCurrent, HasOpened, LookAtGiven, NoneIsSettled, SettledAreNews, ShowAsSeen, shows_of};
 ghost use Rattle.stabilizer.specs.Weights.{SidesFit};
 
@@ -84,7 +86,7 @@ impl Stabilizer {
 
     /// A round: links experts to what their lists gained, puts roots on at these nodes, brings all that is needed up to date,
     /// and tells observers of it. Then freezes keep the values on which their predicates were found true. No time goes into
-    /// observers of nodes that weren't settled and didn't die.
+    /// observers of nodes that weren't settled and didn't die. A steady round takes no memory beside what functions take.
     pub fn run<F: Functions>(
         parts: &mut Parts,
         functions: &mut F,
@@ -104,9 +106,12 @@ impl Stabilizer {
         ensures told { OnOk result (observers.new.made ≡ told_by (shows_of parts.new) observers.old.made) }
         ensures notices { OnOk result (observers.new.notices ≡ notices_of (shows_of parts.new) 0 observers.old.made) }
         ensures observers { OnErr result (observers.new ≡ observers.old) }
+        ensures quiet { OnOk result (parts.new.work.todo.items ≡ []) }
         ensures wants { WantsTell result (F.wants functions.old) (F.wants functions.new) }
         ensures lacks { OnErr result (RoundLacks (meaning_of F.Functions functions.old) parts.old roots.now
             observers.old.made (counts_by F.Functions functions.old) (F.wants functions.old) (F.wants functions.new)) }
+        ensures steady { OnErr result (IsSteady (functions_of F.Functions functions.old) parts.old roots.now observers.old.made
+            → F.wants functions.new ≡ raised (F.wants functions.old)) }
     {
         let Some(next) = parts.work.round.checked_add(1) else {
             return Err(Refused::Memory);
@@ -129,6 +134,7 @@ fn put_roots(work: &mut Work, arena: &Arena, roots: &[NodeId]) -> Result<(), Ref
     ensures rooted { OnOk result (RootsMore work.old.graph.roots work.new.graph.roots (map main roots.now)) }
     ensures roots { OnlyRoots work.old.graph.roots work.new.graph.roots (map main roots.now) }
     ensures wired { OnOk result (PutsRoots arena.now work.old work.new) }
+    ensures still { OnOk result (roots.now ≡ [] → work.new ≡ work.old) }
     ensures refused { IfErr result (RootRefused arena.now work.old work.new) }
     ensures some { OnErr result (roots.now ≢ []) }
     ensures quiet { OnOk result (work.new.todo.items ≡ []) }
@@ -212,6 +218,8 @@ fn settle_all<F: Functions>(
     requires in_round { IsInRound (meaning_of F.Functions functions.old) parts.old (counts_by F.Functions functions.old) }
     ensures settled { OnOk result (Settles (meaning_of F.Functions functions.old) parts.old parts.new
         (counts_by F.Functions functions.old) (counts_by F.Functions functions.new)) }
+    ensures steps { OnOk result (StepsMade (meaning_of F.Functions functions.old) parts.old (counts_by F.Functions functions.old)
+        parts.new (counts_by F.Functions functions.new)) }
     ensures empty { OnOk result (IsEmpty parts.new.work.graph.heap) }
     ensures refused { IfErr result (SettleRefused (meaning_of F.Functions functions.old) parts.old parts.new
         (counts_by F.Functions functions.old) (counts_by F.Functions functions.new)) }

@@ -33,7 +33,7 @@ use Rattle.node_outcomes.specs.Choosing.{right_by, right_in}
 use Rattle.wiring.specs.Turning.{IsWaiting}
 use Rattle.wiring.specs.Wiring.{IsDue, IsTurnedIn, Attaches, AttachRefused, Connects, LosesNeed, ConnectRefused, AreUnlinked}
 use Rattle.wiring.specs.declared.refused.Refused.{Refused}
-use Rattle.node_outcomes.specs.declared.row.Progress.{Progress}
+use Rattle.node_outcomes.specs.Progress.{Progress}
 use Rattle.node_outcomes.specs.declared.row.Stage.TheVariants as code
 use Rattle.wiring.specs.declared.work.Work.{Work}
 use Rattle.wiring.proofs.Lifting.{full_finishes}

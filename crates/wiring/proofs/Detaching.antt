@@ -14,7 +14,7 @@ use Rattle.wiring.specs.Graph.{rowless}
 use Rattle.wiring.specs.Turning.{IsAttached, IsDetached, IsOff, HasTurned}
 use Rattle.node_outcomes.specs.Choosing.{right_by, right_in}
 use Rattle.wiring.specs.Wiring.{IsEnqueued, IsMarked, KeepsGraph}
-use Rattle.node_outcomes.specs.declared.row.Progress.{Progress}
+use Rattle.node_outcomes.specs.Progress.{Progress}
 use Rattle.node_outcomes.specs.declared.row.Stage.TheVariants as code
 use Rattle.wiring.specs.declared.work.Work.{Work}
 use Rattle.wiring.proofs.Deciding.{need_same}

@@ -16,7 +16,7 @@ use Rattle.wiring.specs.Graph.{HasLinks, died_at}
 use Rattle.wiring.proofs.Placing.{among_before, among_last}
 use Rattle.inc_value.specs.declared.outcome.Outcome.{Outcome}
 use Rattle.wiring.specs.Wiring.{KeepsGraph, IsEnqueued, AreEnqueued, IsMarked, IsNewlyNeeded, Stops, TellsReaders}
-use Rattle.node_outcomes.specs.declared.row.Progress.{Progress}
+use Rattle.node_outcomes.specs.Progress.{Progress}
 use Rattle.node_outcomes.specs.declared.row.Stage.TheVariants.{Bare}
 use Rattle.wiring.specs.declared.work.Work.{Work}
 

@@ -13,7 +13,7 @@ use Rattle.necessary_graph.specs.Part.{NecessaryPart, Needed, IsInStep}
 use Rattle.necessary_graph.specs.Readers.{HasReaders}
 use Rattle.node_lists.specs.Listed.{Listed}
 use Rattle.node_outcomes.specs.Row.{settled_in}
-use Rattle.node_outcomes.specs.declared.row.Progress.{Progress}
+use Rattle.node_outcomes.specs.Progress.{Progress}
 use Rattle.stabilize_round.proofs.Parts.{bool_cases}
 use Rattle.stabilize_round.proofs.Points.{node_or_other}
 use Rattle.wiring.specs.Graph.{died_at}

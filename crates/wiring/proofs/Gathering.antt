@@ -7,7 +7,7 @@ use Rattle.point_map.specs.Rows.{Rows, at}
 use Rattle.link_table.specs.Links.{Links, Reads, AreReaders}
 use Rattle.height_order.proofs.Covering.{Covers, covers_next, covers_end, among_readers, occurs_first}
 use Rattle.node_outcomes.specs.Row.{stage_in}
-use Rattle.node_outcomes.specs.declared.row.Progress.{Progress}
+use Rattle.node_outcomes.specs.Progress.{Progress}
 use Rattle.node_outcomes.specs.declared.row.Stage.TheVariants.{Gated}
 use Rattle.wiring.specs.Wiring.{WaitsFor}
 use Rattle.wiring.specs.declared.work.Work.{Work}

@@ -18,7 +18,7 @@ use Rattle.stabilize_round.specs.Wire.{raised, Raise, Finish}
 use Rattle.stabilize_round.proofs.Points.{at_same, one_same}
 use Rattle.node_outcomes.specs.Computing.{has_part}
 use Rattle.node_outcomes.specs.Row.{is_full, stage_in}
-use Rattle.node_outcomes.specs.declared.row.Progress.{Progress}
+use Rattle.node_outcomes.specs.Progress.{Progress}
 use Rattle.wiring.specs.Graph.{died_at}
 use Rattle.wiring.specs.Kept.{IsKept, IsGhostLink, IsDead}
 use Rattle.wiring.specs.Stands.{MatchesState, hand, debts, owes, Counts}

@@ -19,7 +19,7 @@ use Rattle.node_arena.specs.Arena.{Arena, row_at}
 use Rattle.stabilize_round.proofs.Parts.{bool_cases}
 use Rattle.stabilize_round.proofs.Points.{same_or_other}
 use Rattle.node_outcomes.specs.Row.{IsRewritten, with_stage, settled_in, stage_in, outcome_in}
-use Rattle.node_outcomes.specs.declared.row.Progress.{Progress}
+use Rattle.node_outcomes.specs.Progress.{Progress}
 use Rattle.node_outcomes.specs.declared.row.Stage.{Stage}
 use Rattle.node_outcomes.specs.declared.row.Stage.TheVariants as code
 use Rattle.wiring.specs.Graph.{graph_at, rowless}

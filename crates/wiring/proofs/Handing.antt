@@ -51,7 +51,7 @@ use Rattle.inc_terms.specs.Within.{Given}
 use Rattle.stabilize_round.specs.State as machine
 use Rattle.stabilize_round.specs.Wire.{Finish}
 use Rattle.node_outcomes.specs.Computing.{AreExperts, has_part, is_expert, is_expert_def}
-use Rattle.node_outcomes.specs.declared.row.Progress.{Progress}
+use Rattle.node_outcomes.specs.Progress.{Progress}
 use Rattle.stabilize_round.specs.Machine as move
 use Rattle.stabilize_round.proofs.Parts.{bool_cases}
 use Rattle.stabilize_round.proofs.Points.{at_same, at_other, node_or_other, same_or_other}

@@ -17,7 +17,7 @@ use Rattle.node_arena.specs.Arena.{Arena, row_at}
 use Rattle.node_arena.specs.Graph.{graph_of}
 use Rattle.node_outcomes.specs.Choosing.{built_by, built_in, right_in}
 use Rattle.node_outcomes.specs.Row.{IsRewritten, kept_in, with_stage, outcome_in}
-use Rattle.node_outcomes.specs.declared.row.Progress.{Progress}
+use Rattle.node_outcomes.specs.Progress.{Progress}
 use Rattle.node_outcomes.specs.declared.row.Stage.{Stage}
 use Rattle.node_outcomes.proofs.Held.{built_live, right_is, same_held}
 use Rattle.stabilize_round.proofs.Points.{same_or_other}

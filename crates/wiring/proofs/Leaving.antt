@@ -57,6 +57,7 @@ pub record IsWiring (arena : Arena) (old new : Work) : Type 0 where
   pub places : KeepsPlaces old new
   pub kept : IsKept arena new
   pub idle : old.todo.items ≡ [] → new.todo.items ≡ []
+  pub rest : old.todo.items ≡ [] → new ≡ record old { todo = new.todo }
 
 -- at first
 pub wiring_first : (arena : Arena) (work : Work) → IsKept arena work → IsWiring arena work work
@@ -65,6 +66,7 @@ wiring_first arena work kept = record {
   places = record { rows = λ a. refl; roots = λ a. refl; deaths = refl; round = refl; experts = read_still work.experts };
   kept = kept;
   idle = λ none. none;
+  rest = λ none. refl;
 }
 
 not_empty : (ps : List Point) (p : Point) → ps ++ p ∷ [] ≡ [] → ⊥
@@ -120,6 +122,7 @@ module _ (arena : Arena) (old mid : Work) (todo : Vec Point Global) (p : Point) 
     places = now_places;
     kept = now_kept;
     idle = λ none. absurd (was_listed none);
+    rest = λ none. absurd (was_listed none);
   }
 
   -- the point got its links, or waits
@@ -132,6 +135,7 @@ module _ (arena : Arena) (old mid : Work) (todo : Vec Point Global) (p : Point) 
     places = places_then old popped new now_places places;
     kept = kept;
     idle = λ none. absurd (was_listed none);
+    rest = λ none. absurd (was_listed none);
   }
 
   -- a link of the point was refused

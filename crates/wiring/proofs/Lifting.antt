@@ -20,7 +20,7 @@ use Rattle.stabilize_round.proofs.Machine.{moves_keep}
 use Rattle.stabilize_round.proofs.Points.{at_same}
 use Rattle.stabilize_round.proofs.Steps.{wiring_moves, wired_moves}
 use Rattle.node_outcomes.specs.Row.{IsRewritten, with_stage, stage_in, stage_of}
-use Rattle.node_outcomes.specs.declared.row.Progress.{Progress}
+use Rattle.node_outcomes.specs.Progress.{Progress}
 use Rattle.node_outcomes.specs.declared.row.Stage.{Stage}
 use Rattle.node_outcomes.specs.declared.row.Stage.TheVariants as code
 use Rattle.wiring.specs.Stands.{MatchesState, hand, debts, owes, Counts}

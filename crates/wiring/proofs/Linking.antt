@@ -27,7 +27,7 @@ use Rattle.node_outcomes.specs.Row.{is_full, stage_in, stage_of, with_stage}
 use Rattle.wiring.specs.Stands.{MatchesState, StandsWith, PointInHand, hand, debts, owed_in, owes, IsInHand, Counts}
 use Rattle.wiring.specs.Graph.{HasLinks, died_at}
 use Rattle.wiring.specs.Wiring.{IsReached, IsNewlyNeeded, AreUnlinked}
-use Rattle.node_outcomes.specs.declared.row.Progress.{Progress}
+use Rattle.node_outcomes.specs.Progress.{Progress}
 use Rattle.node_outcomes.specs.declared.row.Stage.TheVariants as code
 use Rattle.wiring.specs.declared.work.Work.{Work}
 use Rattle.wiring.proofs.InHand.{nothing}

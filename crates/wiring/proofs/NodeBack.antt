@@ -9,7 +9,7 @@ use Rattle.point_map.specs.Rows.{at}
 use Rattle.necessary_graph.specs.Part.{IsInStep}
 use Rattle.node_arena.specs.Arena.{Arena, row_at}
 use Rattle.node_outcomes.specs.Row.{settled_in, stage_in}
-use Rattle.node_outcomes.specs.declared.row.Progress.{Progress}
+use Rattle.node_outcomes.specs.Progress.{Progress}
 use Rattle.wiring.specs.Wiring.{OnlyLoses, GoesBack, IsPutBack, IsAtGate, IsBehindGate, HasMore, TakesOne}
 use Rattle.wiring.specs.declared.work.Work.{Work}
 use Rattle.wiring.proofs.InHand.{FallsBack, KeepsSpared, falls_more, change_settled}

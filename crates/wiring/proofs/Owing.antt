@@ -12,7 +12,7 @@ use Rattle.stabilize_round.specs.State.{at_point, count}
 use Rattle.stabilize_round.proofs.Points.{same_or_other, at_same, at_other}
 use Rattle.node_outcomes.specs.Computing.{AreExperts, is_expert, is_expert_def}
 use Rattle.node_outcomes.specs.Row.{is_full, stage_in}
-use Rattle.node_outcomes.specs.declared.row.Progress.{Progress}
+use Rattle.node_outcomes.specs.Progress.{Progress}
 use Rattle.node_outcomes.specs.declared.row.Stage.{Stage}
 use Rattle.node_outcomes.specs.declared.row.Stage.TheVariants as code
 use Rattle.wiring.specs.Stands.{PointInHand, owed_in, owes}

@@ -1,5 +1,5 @@
 -- The rows and places of a node's points, and the nodes of two points that are listed.
-use Rattle.std.proofs.Common.{◌≡◌, ◌≢◌, ◌⊎◌, inl, inr, false, ◌++◌, List, [], ◌∷◌, Option, None, Some, refl, sym, ap, subst, ◌∙◌}
+use Rattle.std.proofs.Common.{◌≡◌, ◌≢◌, ◌⊎◌, inl, inr, ◌++◌, List, [], ◌∷◌, Option, None, Some, refl, sym, ap, subst, ◌∙◌}
 use Rattle.std.specs.Prelude.{is_some, IsSome, option_map}
 use Rattle.std.proofs.lemmas.Option.{none-some}
 use Rattle.inc_value.specs.declared.node.NodeId.{NodeId}
@@ -11,23 +11,16 @@ use Rattle.expert_nodes.specs.Experts.{ExpertPlace}
 use Rattle.inc_terms.specs.Depend.{main, change, subject_of}
 use Rattle.inc_terms.specs.Graph as graph
 use Rattle.inc_terms.specs.Graph.{Row, Def}
-use Rattle.map_nodes.specs.declared.cutoff.Cutoff.TheVariants.{Equal}
 use Rattle.point_map.specs.Rows.{Rows, at, Changes, KeepsRows}
 use Rattle.point_map.proofs.Places.{point_cases}
 use Rattle.node_arena.specs.Arena.{Arena, IsLive}
 use Rattle.node_lists.specs.Listed.{Listed}
 use Rattle.node_outcomes.specs.Computing.{has_part}
-use Rattle.node_outcomes.specs.declared.row.Progress.{Progress}
-use Rattle.node_outcomes.specs.declared.row.Stage.TheVariants.{Bare}
 use Rattle.stabilize_round.proofs.Points.{node_or_other}
 use Rattle.wiring.specs.Experts.{ExpertIsAdded}
 use Rattle.wiring.specs.Places.{ChangesNode, for_parts, pairs_after}
 use Rattle.wiring.specs.Wiring.{GraphStays}
 use Rattle.wiring.specs.declared.work.Work.{Work}
-
--- the row of a new point
-abbrev pub unsettled : Progress
-unsettled = record { stage = Bare; settled = 0; outcome = None; last = None; cutoff = Equal; frozen = false }
 
 point : NodeId → Part → Point
 point n part = record { node = n; part = part }

@@ -26,7 +26,7 @@ use Rattle.stabilize_round.proofs.Points.{same_or_other, at_same, at_other, coun
 use Rattle.expert_nodes.specs.Experts.{fresh_at}
 use Rattle.node_outcomes.specs.Computing.{has_part}
 use Rattle.node_outcomes.specs.Row.{IsRewritten, with_stage, settled_in, stage_in}
-use Rattle.node_outcomes.specs.declared.row.Progress.{Progress}
+use Rattle.node_outcomes.specs.Progress.{Progress}
 use Rattle.node_outcomes.specs.declared.row.Stage.{Stage}
 use Rattle.node_outcomes.specs.declared.row.Stage.TheVariants as code
 use Rattle.wiring.specs.Graph.{rowless}

@@ -29,7 +29,7 @@ use Rattle.wiring.specs.Kept.{IsKept}
 use Rattle.node_outcomes.specs.Row.{IsRewritten, with_stage, stage_in, stage_of}
 use Rattle.wiring.specs.Stands.{MatchesState, hand, debts, owes, Counts}
 use Rattle.wiring.specs.Wiring.{KeepsPlaces, LacksLinks, GateRan, AreUnlinked}
-use Rattle.node_outcomes.specs.declared.row.Progress.{Progress}
+use Rattle.node_outcomes.specs.Progress.{Progress}
 use Rattle.node_outcomes.specs.declared.row.Stage.{Stage}
 use Rattle.node_outcomes.specs.declared.row.Stage.TheVariants as code
 use Rattle.wiring.specs.declared.work.Work.{Work}

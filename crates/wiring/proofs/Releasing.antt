@@ -16,7 +16,7 @@ use Rattle.necessary_graph.proofs.Sweeping.{link_cases}
 use Rattle.necessary_graph.proofs.Composing.{with_links, swept_alone, drops_none, IsThinner, sweeps_compose, drops_compose, one_off, off_thinner}
 use Rattle.necessary_graph.proofs.Reaching.{needed_more}
 use Rattle.node_lists.specs.Deaths.{Deaths, AreDeaths}
-use Rattle.node_outcomes.specs.declared.row.Progress.{Progress}
+use Rattle.node_outcomes.specs.Progress.{Progress}
 use Rattle.stabilize_round.proofs.Points.{node_or_other}
 use Rattle.wiring.specs.Graph.{died_at, rowless}
 use Rattle.wiring.proofs.Linking.{none_if}

@@ -34,7 +34,7 @@ use Rattle.wiring.specs.Graph.{HasLinks}
 use Rattle.wiring.specs.Kept.{IsKept}
 use Rattle.wiring.specs.Refusing.{IsBarred, RefusedBy}
 use Rattle.node_outcomes.specs.Row.{with_stage, settled_in, stage_in}
-use Rattle.node_outcomes.specs.declared.row.Progress.{Progress}
+use Rattle.node_outcomes.specs.Progress.{Progress}
 use Rattle.node_outcomes.specs.declared.row.Stage.{Stage}
 use Rattle.node_outcomes.specs.declared.row.Stage.TheVariants as code
 use Rattle.wiring.specs.TakingOff.{RowsSpared, TakesMore}

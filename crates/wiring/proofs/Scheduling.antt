@@ -15,7 +15,7 @@ use Rattle.stabilize_round.specs.State as machine
 use Rattle.stabilize_round.specs.State.{State}
 use Rattle.stabilize_round.specs.Wire.{heaped, Schedule}
 use Rattle.stabilize_round.proofs.Points.{same_or_other}
-use Rattle.node_outcomes.specs.declared.row.Progress.{Progress}
+use Rattle.node_outcomes.specs.Progress.{Progress}
 use Rattle.wiring.specs.Growing.{Grows}
 use Rattle.wiring.specs.Kept.{IsKept}
 use Rattle.wiring.specs.Stands.{MatchesState, PointInHand, Counts}

@@ -37,7 +37,7 @@ use Rattle.wiring.proofs.Staying.{row_of_state, out_is}
 use Rattle.map_nodes.specs.Cutoff.{TellsAgain}
 use Rattle.node_outcomes.specs.Row.{cutoff_in, settled_in, outcome_in}
 use Rattle.wiring.specs.Stands.{MatchesState, Counts}
-use Rattle.node_outcomes.specs.declared.row.Progress.{Progress}
+use Rattle.node_outcomes.specs.Progress.{Progress}
 use Rattle.wiring.specs.declared.work.Work.{Work}
 
 joined_known : (x : Option Outcome) (g : Gathered) (o : Outcome) → x ≡ Some o → (g ≡ Unknown → ⊥) → joined x g ≡ Unknown → ⊥

@@ -22,7 +22,7 @@ use Rattle.stabilize_round.specs.State as machine
 use Rattle.stabilize_round.specs.State.{Call, State, at_point}
 use Rattle.stabilize_round.proofs.Points.{same_or_other, at_same, at_other}
 use Rattle.node_outcomes.specs.Row.{IsRewritten, kept_by, kept_in, with_stage, settled_in, outcome_in, stage_in, stage_of}
-use Rattle.node_outcomes.specs.declared.row.Progress.{Progress}
+use Rattle.node_outcomes.specs.Progress.{Progress}
 use Rattle.node_outcomes.specs.declared.row.Stage.{Stage}
 use Rattle.node_outcomes.specs.declared.row.Stage.TheVariants as code
 use Rattle.wiring.specs.Graph.{graph_at}
@@ -47,10 +47,11 @@ pub record IsBefore (old : Rows Progress) (a : Point) (k : Progress) : Type 0 wh
   pub cutoff : k.cutoff ≡ row.cutoff
   pub settled : k.settled ≡ row.settled
   pub frozen : k.frozen ≡ row.frozen
+  pub room : k.room ≡ row.room
 
 -- a row that stays keeps it
 pub same_before : (old : Rows Progress) (a : Point) (k : Progress) → at old a ≡ Some k → IsBefore old a k
-same_before old a k e = record { row = k; was = e; outcome = refl; last = refl; cutoff = refl; settled = refl; frozen = refl }
+same_before old a k e = record { row = k; was = e; outcome = refl; last = refl; cutoff = refl; settled = refl; frozen = refl; room = refl }
 
 mapped : (x : Option Progress) (st : Stage) (k : Progress) → option_map (with_stage st) x ≡ Some k
     → (row : Progress) × (x ≡ Some row) × (k ≡ with_stage st row)
@@ -91,6 +92,7 @@ module _ (old new : Rows Progress) (q : Point) (st : Stage) (w : IsRewritten old
           cutoff = ap (λ (x : Progress). x.cutoff) m.2;
           settled = ap (λ (x : Progress). x.settled) m.2;
           frozen = ap (λ (x : Progress). x.frozen) m.2;
+          room = ap (λ (x : Progress). x.room) m.2;
         }
     | inr ne ↦ same_before old a k (sym (w.others a (λ h. ne (sym h))) ∙ e)
   ]
@@ -173,6 +175,7 @@ most_then old mid new first next = record {
         cutoff = b.cutoff ∙ c.cutoff;
         settled = b.settled ∙ c.settled;
         frozen = b.frozen ∙ c.frozen;
+        room = b.room ∙ c.room;
       };
   held = λ a. next.held a ∙ first.held a;
   roots = next.roots ∙ first.roots;
@@ -294,6 +297,7 @@ module _ (old new : Work) (most : KeepsMost old new) where
       lists = λ n r f v ns row is. subst (λ (xs : List NodeId). FoldTakes arena r.ty xs f.sig.takes) (sym (most.experts.kids n)) (k.lists n r f v ns row is);
       tops = k.tops;
       frozen = λ n w e on. let b = most.rows (main n) w e in fired_still arena n b.row w (k.frozen n b.row b.was (sym b.frozen ∙ on)) b.last;
+      rooms = record { calls = λ n r w row e. let b = most.rows (main n) w e in let x = k.rooms.calls n r b.row row b.was in let y = b.room in omega (arith, x, y) };
     }
 
     -- so it is where the same points are there, who reads another did, and who was needed is

@@ -21,7 +21,7 @@ use Rattle.stabilize_round.specs.Wire.{heaped, Schedule, dropped, Drop, Sweep}
 use Rattle.stabilize_round.proofs.Points.{same_or_other, at_same, at_other}
 use Rattle.expert_nodes.specs.Experts.{fresh_at}
 use Rattle.node_outcomes.specs.Row.{is_full, stage_in, stage_of, with_stage}
-use Rattle.node_outcomes.specs.declared.row.Progress.{Progress}
+use Rattle.node_outcomes.specs.Progress.{Progress}
 use Rattle.node_outcomes.specs.declared.row.Stage.{Stage}
 use Rattle.node_outcomes.specs.declared.row.Stage.TheVariants as code
 use Rattle.wiring.specs.Deciding.{is_needed}

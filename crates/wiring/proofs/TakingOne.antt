@@ -28,7 +28,7 @@ use Rattle.stabilize_round.proofs.Points.{same_or_other, at_other, count_append,
 use Rattle.node_outcomes.specs.Computing.{AreExperts}
 use Rattle.node_outcomes.specs.Row.{settled_in, stage_in, outcome_in}
 use Rattle.node_outcomes.specs.Choosing.{right_in}
-use Rattle.node_outcomes.specs.declared.row.Progress.{Progress}
+use Rattle.node_outcomes.specs.Progress.{Progress}
 use Rattle.node_outcomes.specs.declared.row.Stage.TheVariants as code
 use Rattle.wiring.specs.Graph.{rowless}
 use Rattle.wiring.specs.Stands.{MatchesState, PointInHand, hand, debts, owed_in, Counts}

@@ -1,5 +1,5 @@
 -- What the parts of a stabilizer keep between any two calls.
-use Rattle.std.specs.Prelude.{◌≡◌, ◌⊎◌, ◌≤◌, ◌<◌, true, List, None, Some, IsSome, is_some}
+use Rattle.std.specs.Prelude.{◌≡◌, ◌⊎◌, ◌≤◌, ◌<◌, true, List, length, None, Some, IsSome, is_some}
 use Rattle.inc_value.specs.Choice.{Among, Every}
 use Rattle.inc_value.specs.declared.function.FnRef.{FnRef}
 use Rattle.inc_value.specs.declared.node.NodeId.{NodeId}
@@ -8,7 +8,7 @@ use Rattle.inc_value.specs.declared.outcome.Outcome.{Outcome}
 use Rattle.inc_value.specs.declared.outcome.Outcome.TheVariants.{Val}
 use Rattle.inc_value.specs.declared.value.Value.{Value}
 use Rattle.inc_terms.specs.Depend.{main, change, subject_of, right_of}
-use Rattle.inc_terms.specs.Graph.{Row, Def, Bind, Freeze, Expert}
+use Rattle.inc_terms.specs.Graph.{Row, Def, Bind, Freeze, Expert, kids}
 use Rattle.inc_terms.specs.Local.{Scoped}
 use Rattle.inc_terms.specs.Within.{Given}
 use Rattle.point_map.specs.Rows.{at, Holds}
@@ -22,7 +22,7 @@ use Rattle.stabilize_round.specs.State.{Call}
 use Rattle.expert_nodes.specs.Experts.{kids_at}
 use Rattle.node_outcomes.specs.Computing.{AreExperts, CallFits, has_part, IsOfType}
 use Rattle.node_outcomes.specs.Row.{outcome_in}
-use Rattle.node_outcomes.specs.declared.row.Progress.{Progress}
+use Rattle.node_outcomes.specs.Progress.{Progress}
 use Rattle.wiring.specs.Graph.{graph_at, died_at}
 use Rattle.wiring.specs.declared.work.Work.{Work}
 
@@ -58,6 +58,14 @@ pub record HasFired (arena : Arena) (n : NodeId) (k : Progress) : Type 0 where
   pub value : Value
   pub last : found k.last ≡ Some value
 
+-- what is kept of a node's main has room for the values of as many children as the node's definition lists
+abbrev pub FitsRoom : Row → Progress → Type 0
+FitsRoom r k = length (kids r.def) ≤ k.room
+
+-- there is room where functions are called: so it is of each live node
+pub record HasRooms (arena : Arena) (work : Work) : Type 0 where
+  pub calls : (n : NodeId) (r : Row) (k : Progress) → row_at arena n ≡ Some r → at work.rows (main n) ≡ Some k → FitsRoom r k
+
 -- the definition is a bind's
 abbrev pub IsBind : Def → Type 0
 IsBind def = (left : NodeId) × (f : FnRef) × (captures : List NodeId) × (def ≡ Bind left f captures)
@@ -66,7 +74,7 @@ IsBind def = (left : NodeId) × (f : FnRef) × (captures : List NodeId) × (def 
 -- row, or died in this round and is linked to its gate alone; what is in the heap has a row; the nodes are as every arena keeps them, each in the scope of
 -- a live bind that was given before it, or in none; outcomes and calls have their nodes' types, and so have right sides; only binds have roots, and only
 -- where their changes keep values; what was settled was so in no later round; nodes of two points, and those in scopes, are listed; live experts alone have
--- lists, of given nodes of the type that their functions take; freezes and experts stand in no scope, and of points only mains of freezes keep values
+-- lists, of given nodes of the type that their functions take; freezes and experts stand in no scope, and of points only mains of freezes keep values; and there is room where functions are called
 pub record IsKept (arena : Arena) (work : Work) : Type 0 where
   pub step : IsInStep work.graph
   pub rows : (p : Point) → is_some (at work.rows p) ≡ has_part (row_at arena p.node) p.part
@@ -96,3 +104,4 @@ pub record IsKept (arena : Arena) (work : Work) : Type 0 where
       → FoldTakes arena r.ty (kids_at work.experts n) f.sig.takes
   pub tops : (n : NodeId) (r : Row) → row_at arena n ≡ Some r → IsTop r.def → r.scope ≡ None
   pub frozen : (n : NodeId) (k : Progress) → at work.rows (main n) ≡ Some k → k.frozen ≡ true → HasFired arena n k
+  pub rooms : HasRooms arena work

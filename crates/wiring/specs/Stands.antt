@@ -13,7 +13,7 @@ use Rattle.node_arena.specs.Arena.{Arena}
 use Rattle.expert_nodes.specs.Experts.{fresh_at, is_stale_at}
 use Rattle.stabilize_round.specs.State.{State, at_point}
 use Rattle.node_outcomes.specs.Row.{is_full, stage_in, stage_of, settled_in}
-use Rattle.node_outcomes.specs.declared.row.Progress.{Progress}
+use Rattle.node_outcomes.specs.Progress.{Progress}
 use Rattle.wiring.specs.Graph.{graph_at, died_at}
 use Rattle.wiring.specs.declared.work.Work.{Work}
 

@@ -32,7 +32,7 @@ use Rattle.map_nodes.specs.Cutoff.{IsStopped}
 use Rattle.wiring.specs.Experts.{ReadSame}
 use Rattle.node_outcomes.specs.Row.{IsRewritten, with_stage, stage_in, settled_in, outcome_in}
 use Rattle.wiring.specs.declared.refused.Refused.{Refused}
-use Rattle.node_outcomes.specs.declared.row.Progress.{Progress}
+use Rattle.node_outcomes.specs.Progress.{Progress}
 use Rattle.node_outcomes.specs.declared.row.Stage.{Stage}
 use Rattle.node_outcomes.specs.declared.row.Stage.TheVariants.{Bare, Gated, Static, Full}
 use Rattle.wiring.specs.declared.work.Work.{Work}

@@ -1,5 +1,5 @@
 //! The points of nodes: added with a node, dropped with it, and there for a dead node while they are needed.
-ghost use Rattle.std.specs.Prelude.{◌≡◌, ◌⊎◌, ◌<◌, ◌≤◌, ℕ, false, None, Some, IsTrue, IsFalse, OnOk, OnErr};
+ghost use Rattle.std.specs.Prelude.{◌≡◌, ◌⊎◌, ◌<◌, ◌≤◌, ℕ, None, Some, IsTrue, IsFalse, OnOk, OnErr};
 ghost use Rattle.inc_value.specs.Choice.{Among};
 ghost use Rattle.inc_value.specs.declared.node.NodeId.{NodeId as ANode};
 ghost use Rattle.inc_value.specs.declared.node.Part.{Part};
@@ -9,6 +9,7 @@ ghost use Rattle.inc_terms.specs.Depend.{main, change};
 ghost use Rattle.point_map.specs.Rows.{at, Holds, Changes, KeepsRows};
 ghost use Rattle.expert_nodes.specs.Experts.{ExpertChanges, expert_at};
 ghost use Rattle.necessary_graph.specs.Part.{Needed, IsInStep};
+ghost use Rattle.node_outcomes.specs.Progress.{new_row};
 ghost use Rattle.node_arena.specs.Arena.{IsLive};
 ghost use Rattle.wiring.specs.Experts.{ExpertIsAdded};
 ghost use Rattle.wiring.specs.Places.{ChangesNode, for_parts, pairs_with};
@@ -18,21 +19,20 @@ use crate::work::Work;
 use expert_nodes::Experts;
 use inc_terms::Def;
 use inc_value::{NodeId, Point};
-use map_nodes::Cutoff;
 use necessary_graph::NecessaryGraph;
 use node_arena::Arena;
-use node_outcomes::{Stage, unsettled};
+use node_outcomes::unsettled;
 use std::alloc::AllocError;
 
 impl Work {
-    /// Adds a point of a new node, with all memory that it needs in a round but for links.
-    pub fn add(&mut self, p: Point, height: u32) -> Result<(), AllocError>
+    /// Adds a point of a new node that is so defined, with all memory that it needs in a round but for links.
+    pub fn add(&mut self, p: Point, def: &Def, height: u32) -> Result<(), AllocError>
         requires low { height ≤ 128 }
         requires absent { at self.old.graph.heights p ≡ None }
         requires no_row { at self.old.rows p ≡ None }
         requires step { IsInStep self.old.graph }
         ensures row { OnOk result (Changes self.old.rows self.new.rows p
-            (Some (record { stage = Stage.Bare; settled = 0; outcome = None; last = None; cutoff = Cutoff.Equal; frozen = false }))) }
+            (Some (new_row (def_of def.now)))) }
         ensures added { OnOk result (Changes self.old.graph.heights self.new.graph.heights p (Some height)) }
         ensures err { OnErr result (KeepsRows self.old.rows self.new.rows) }
         ensures err_heights { OnErr result (KeepsRows self.old.graph.heights self.new.graph.heights) }
@@ -42,11 +42,19 @@ impl Work {
         let Ok(()) = self.rows.reserve(1) else {
             return Err(AllocError);
         };
-        let Ok(()) = self.graph.add(p, height) else {
+        let Ok(row) = unsettled(*self.todo.allocator(), def) else {
             return Err(AllocError);
         };
-        self.rows.insert(p, unsettled());
-        Ok(())
+        match self.graph.add(p, height) {
+            Ok(()) => {
+                self.rows.insert(p, row);
+                Ok(())
+            }
+            Err(AllocError) => {
+                drop(row);
+                Err(AllocError)
+            }
+        }
     }
 
     /// Adds the points of a new node that is so defined and stands in the scope, if in one: its main, and a change where
@@ -62,8 +70,7 @@ impl Work {
         requires no_change { (at self.old.graph.heights (change node) ≡ None) × (at self.old.rows (change node) ≡ None) }
         requires no_expert { expert_at self.old.experts node ≡ None }
         requires step { IsInStep self.old.graph }
-        ensures rows { OnOk result (ChangesNode self.old.rows self.new.rows node (for_parts (def_of def.now) (λ part.
-            record { stage = Stage.Bare; settled = 0; outcome = None; last = None; cutoff = Cutoff.Equal; frozen = false }))) }
+        ensures rows { OnOk result (ChangesNode self.old.rows self.new.rows node (for_parts (def_of def.now) (λ part. new_row (def_of def.now)))) }
         ensures added { OnOk result ((h : Part → ℕ)
             × ChangesNode self.old.graph.heights self.new.graph.heights node (for_parts (def_of def.now) h)) }
         ensures experts { OnOk result (ExpertIsAdded (def_of def.now) self.old.experts self.new.experts node) }
@@ -82,7 +89,7 @@ impl Work {
         match def.subject() {
             Some(subject) => {
                 let height = height_over(&self.graph, &[subject], floor);
-                self.add_pair(arena, node, height)
+                self.add_pair(arena, node, def, height)
             }
             None => {
                 let height = height_over(&self.graph, def.kids(), floor);
@@ -104,8 +111,7 @@ impl Work {
         requires no_change { (at self.old.graph.heights (change node) ≡ None) × (at self.old.rows (change node) ≡ None) }
         requires no_expert { expert_at self.old.experts node ≡ None }
         requires step { IsInStep self.old.graph }
-        ensures rows { OnOk result (ChangesNode self.old.rows self.new.rows node (for_parts (def_of def.now) (λ part.
-            record { stage = Stage.Bare; settled = 0; outcome = None; last = None; cutoff = Cutoff.Equal; frozen = false }))) }
+        ensures rows { OnOk result (ChangesNode self.old.rows self.new.rows node (for_parts (def_of def.now) (λ part. new_row (def_of def.now)))) }
         ensures added { OnOk result ((h : Part → ℕ)
             × ChangesNode self.old.graph.heights self.new.graph.heights node (for_parts (def_of def.now) h)) }
         ensures experts { OnOk result (ExpertIsAdded (def_of def.now) self.old.experts self.new.experts node) }
@@ -140,7 +146,7 @@ impl Work {
         requires no_expert { expert_at self.old.experts node ≡ None }
         requires step { IsInStep self.old.graph }
         ensures row { OnOk result (Changes self.old.rows self.new.rows (main node)
-            (Some (record { stage = Stage.Bare; settled = 0; outcome = None; last = None; cutoff = Cutoff.Equal; frozen = false }))) }
+            (Some (new_row (def_of def.now)))) }
         ensures added { OnOk result (Changes self.old.graph.heights self.new.graph.heights (main node) (Some height)) }
         ensures experts { OnOk result (ExpertIsAdded (def_of def.now) self.old.experts self.new.experts node) }
         ensures err { OnErr result (KeepsRows self.old.rows self.new.rows) }
@@ -149,7 +155,7 @@ impl Work {
         ensures stays { GraphStays self.old self.new }
         ensures rest { self.new ≡ record self.old { graph = self.new.graph; rows = self.new.rows; experts = self.new.experts } }
     {
-        let Ok(()) = self.add(Point::main(node), height) else {
+        let Ok(()) = self.add(Point::main(node), def, height) else {
             return Err(AllocError);
         };
         match def {
@@ -165,13 +171,18 @@ impl Work {
     }
 
     /// Adds both points of a new node of two points, the main over the change where there is a height for it.
-    fn add_pair(&mut self, arena: &Arena, node: NodeId, height: u32) -> Result<(), AllocError>
+    fn add_pair(
+        &mut self,
+        arena: &Arena,
+        node: NodeId,
+        def: &Def,
+        height: u32,
+    ) -> Result<(), AllocError>
         requires low { height ≤ 128 }
         requires no_main { (at self.old.graph.heights (main node) ≡ None) × (at self.old.rows (main node) ≡ None) }
         requires no_change { (at self.old.graph.heights (change node) ≡ None) × (at self.old.rows (change node) ≡ None) }
         requires step { IsInStep self.old.graph }
-        ensures rows { OnOk result (ChangesNode self.old.rows self.new.rows node (λ part. Some (
-            record { stage = Stage.Bare; settled = 0; outcome = None; last = None; cutoff = Cutoff.Equal; frozen = false }))) }
+        ensures rows { OnOk result (ChangesNode self.old.rows self.new.rows node (λ part. Some (new_row (def_of def.now)))) }
         ensures added { OnOk result ((h : Part → ℕ)
             × ChangesNode self.old.graph.heights self.new.graph.heights node (λ part. Some (h part))) }
         ensures pairs { OnOk result (Among node self.new.pairs.nodes × ((n : ANode) → IsLive arena.now n
@@ -189,10 +200,10 @@ impl Work {
             return Err(AllocError);
         };
         let own = Point::change(node);
-        let Ok(()) = self.add(own, height) else {
+        let Ok(()) = self.add(own, def, height) else {
             return Err(AllocError);
         };
-        let Ok(()) = self.add(Point::main(node), (height + 1).min(128)) else {
+        let Ok(()) = self.add(Point::main(node), def, (height + 1).min(128)) else {
             self.drop_point(own);
             return Err(AllocError);
         };

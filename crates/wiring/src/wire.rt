@@ -86,6 +86,7 @@ impl Work {
         ensures refused { IfErr result (WireRefused arena.now self.old self.new None) }
         ensures listed { OnErr result (self.old.todo.items ≢ []) }
         ensures empty { OnOk result (self.new.todo.items ≡ []) }
+        ensures idle { self.old.todo.items ≡ [] → self.new ≡ record self.old { todo = self.new.todo } }
         ensures places { KeepsPlaces self.old self.new }
         ensures kept { IsKept arena.now self.new }
     {

@@ -1,5 +1,5 @@
 //! One call that brings what is observed up to date.
-ghost use Rattle.std.specs.Prelude.{◌≡◌, ◌↔◌, None, IfOk, OnOk, IsErrOf, ◌≤◌, ◌+◌};
+ghost use Rattle.std.specs.Prelude.{◌≡◌, [], ◌⊎◌, ◌↔◌, None, IfOk, OnErr, OnOk, IsErrOf, length, ◌<◌, ◌≤◌, ◌+◌};
 ghost use Rattle.inc_value.specs.declared.node.NodeId.{NodeId};
 ghost use Rattle.node_arena.specs.Arena.{live};
 ghost use Rattle.stabilize_round.specs.Calling.{costs_of};
@@ -10,7 +10,8 @@ ghost use Rattle.node_outcomes.specs.Meaning.{functions_of};
 ghost use Rattle.stabilizer.specs.Kept.{HasNoBinds, KeepsMeaning, counts_by};
 ghost use Rattle.graph.specs.Few.{IdsAreFew, IsFilled};
 ghost use Rattle.graph.specs.Inside.{AreNewRoots};
-ghost use Rattle.graph.specs.Standing.{IsBroken, IsUnbroken, graph};
+ghost use Rattle.graph.specs.Standing.{IsBroken, IsUnbroken, graph, newly_linked};
+ghost use Rattle.graph.specs.Steady.{FindsMemory, IsSteady};
 ghost use Rattle.graph.specs.Stabilizes.{Stabilizes, IsRefusedFor, HasCalledMet, LeavesNodes, WantsTell, left_by};
 ghost use Rattle.graph.specs.declared.fault.Kept.{Kept as ACause};
 ghost use Rattle.graph.specs.declared.fault.Kept.TheVariants as kept;
@@ -36,7 +37,8 @@ pub struct Round<'a> {
 impl<F: Functions> Graph<F> {
     /// Brings all that is observed up to date. A refusal breaks the graph: every later call but `broken`, `owner`,
     /// `round`, `fits`, `functions` and `into_functions` is refused. Where it is refused for want of memory, the functions'
-    /// count of wants tells whether it was a function that found none.
+    /// count of wants tells whether it was a function that found none. Nothing else refuses it where the graph is steady: no
+    /// observer, node or link of an expert is new, no left side, test or child of a join changes, and no text is met.
     pub fn stabilize(&mut self) -> Result<(), StabilizeFault>
         ensures broken { (cause : ACause) → IsErrOf result (StabilizeFault.Broken cause) ↔ IsBroken self.old cause }
         ensures brought { OnOk result (Stabilizes (functions_of F.Functions self.old.functions) self.old self.new) }
@@ -57,10 +59,13 @@ impl<F: Functions> Graph<F> {
             × HasBuilt (counts_by F.Functions self.old.functions) (counts_by F.Functions self.new.functions) }
         ensures lives { OnOk result (self.new.nodes.given ≤ self.old.nodes.given + live self.new.nodes) }
         ensures flat { HasNoBinds self.old.nodes → self.new.nodes ≡ self.old.nodes }
+        ensures linked { OnOk result (newly_linked self.new ≡ []) }
         ensures calls_grow { F.calls self.old.functions ≤ F.calls self.new.functions }
         ensures wants { WantsTell result (F.wants self.old.functions) (F.wants self.new.functions) }
         ensures unchanged { (cause : ACause) → IsErrOf result (StabilizeFault.Broken cause) → self.new ≡ self.old }
         ensures functions { KeepsMeaning F.Functions self.old.functions self.new.functions }
+        ensures steady { IsSteady (functions_of F.Functions self.old.functions) self.old
+            → FindsMemory result (F.wants self.old.functions) (F.wants self.new.functions) }
     {
         if let Some(cause) = self.cause() {
             return Err(StabilizeFault::Broken(cause));
@@ -94,10 +99,12 @@ impl<F: Functions> Graph<F> {
     }
 
     /// Where need begins from the next stabilize on: at the nodes of observers in use that were made since the last one was
-    /// accepted, and at freezes that were made since.
+    /// accepted, and at freezes that were made since. Where neither an observer nor a node was made since, this takes no
+    /// memory.
     fn new_roots(&self) -> Result<Vec<NodeId>, AllocError>
-        ensures { IfOk result (λ roots.
+        ensures roots { IfOk result (λ roots.
             AreNewRoots self.now.nodes self.now.work self.now.observers self.now.rooted self.now.since roots.items) }
+        ensures some { OnErr result ((self.now.rooted < length self.now.observers) ⊎ (self.now.since < self.now.nodes.given)) }
     {
         let mut roots = self.observers.in_use(self.rooted)?;
         match self.parts.freezes_since(self.since, &mut roots) {

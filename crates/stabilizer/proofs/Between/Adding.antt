@@ -29,17 +29,17 @@ use Rattle.stabilizer.specs.Round.{IsReady}
 use Rattle.stabilizer.specs.declared.parts.Parts.{Parts}
 use Rattle.node_arena.specs.Sound.{IsSoundArena}
 use Rattle.node_arena.specs.Graph.{CallsFit}
-use Rattle.wiring.specs.Kept.{IsKept, IsDead}
+use Rattle.wiring.specs.Kept.{IsKept, IsDead, FitsRoom}
 use Rattle.wiring.specs.Places.{ChangesNode, for_parts, pairs_with}
 use Rattle.wiring.specs.Wiring.{KeepsRound}
 use Rattle.node_outcomes.specs.Row.{outcome_in}
-use Rattle.node_outcomes.specs.declared.row.Progress.{Progress}
+use Rattle.node_outcomes.specs.Progress.{Progress, new_row}
 use Rattle.wiring.specs.declared.work.Work.{Work}
 use Rattle.stabilizer.proofs.Between.Alone.{row_of}
 use Rattle.wiring.proofs.Agreeing.{same_some}
 use Rattle.wiring.proofs.Deciding.{need_same}
 use Rattle.wiring.proofs.Linking.{some_or_none}
-use Rattle.wiring.proofs.Placing.{unsettled, at_node, has_parts, one_for_all, came_and_went, pair_stays, pair_listed}
+use Rattle.wiring.proofs.Placing.{at_node, has_parts, one_for_all, came_and_went, pair_stays, pair_listed}
 use Rattle.stabilizer.proofs.Between.Typing.{KeepsTypes, call_still, folds_still, listed_still, typed_still, right_still}
 use Rattle.wiring.specs.Experts.{ExpertIsAdded}
 use Rattle.wiring.proofs.Reading.{read_kept}
@@ -140,7 +140,7 @@ takes_none a t ns (x ∷ y ∷ z ∷ tys) h = h
 module _ (before arena : Arena) (old work : Work) (id : NodeId) (row : Row) (heights : Part → ℕ) (kept : IsKept before old) (gen : id.gen_ ≡ before.given)
     (added : nodes.Changes before arena id (Some row)) (top : row.scope ≡ None) (sound : IsSoundArena arena)
     (given : arena.given ≡ before.given + 1)
-    (rows : ChangesNode old.rows work.rows id (for_parts row.def (λ part. unsettled)))
+    (rows : ChangesNode old.rows work.rows id (for_parts row.def (λ part. new_row row.def)))
     (points : ChangesNode old.graph.heights work.graph.heights id (for_parts row.def heights))
     (pairs : (n : NodeId) → IsLive before n ⊎ (n ≡ id) → Among n (pairs_with row.def old.pairs.nodes id) → Among n work.pairs.nodes)
     (scoped : work.scoped ≡ old.scoped)
@@ -156,17 +156,17 @@ module _ (before arena : Arena) (old work : Work) (id : NodeId) (row : Row) (hei
   row_stays p h = ap is_some (rows.others p (other_node before old id kept gen p (kept.there p h))) ∙ h
 
   -- the new node's points are those of its definition
-  new_row : (p : Point) → p.node ≡ id → is_some (at work.rows p) ≡ has_part (Some row) p.part
-  new_row p is = ap is_some (at_node work.rows p id is ∙ rows.now p.part) ∙ has_parts row (λ part. unsettled) p.part
+  row_made : (p : Point) → p.node ≡ id → is_some (at work.rows p) ≡ has_part (Some row) p.part
+  row_made p is = ap is_some (at_node work.rows p id is ∙ rows.now p.part) ∙ has_parts row (λ part. new_row row.def) p.part
 
   new_point : (p : Point) → p.node ≡ id → is_some (at work.graph.heights p) ≡ has_part (Some row) p.part
   new_point p is = ap is_some (at_node work.graph.heights p id is ∙ points.now p.part) ∙ has_parts row heights p.part
 
   alike : (p : Point) → p.node ≡ id → is_some (at work.rows p) ≡ is_some (at work.graph.heights p)
-  alike p is = new_row p is ∙ sym (new_point p is)
+  alike p is = row_made p is ∙ sym (new_point p is)
 
-  is_unsettled : (p : Point) (k : Progress) → p.node ≡ id → at work.rows p ≡ Some k → unsettled ≡ k
-  is_unsettled p k is e = one_for_all row.def unsettled k p.part (sym (at_node work.rows p id is ∙ rows.now p.part) ∙ e)
+  is_unsettled : (p : Point) (k : Progress) → p.node ≡ id → at work.rows p ≡ Some k → new_row row.def ≡ k
+  is_unsettled p k is e = one_for_all row.def (new_row row.def) k p.part (sym (at_node work.rows p id is ∙ rows.now p.part) ∙ e)
 
   row_is : (n : NodeId) (r : Row) → n ≡ id → row_at arena n ≡ Some r → row ≡ r
   row_is n r is e = same_some (sym added.changed ∙ (ap (row_at arena) (sym is) ∙ e))
@@ -223,7 +223,7 @@ module _ (before arena : Arena) (old work : Work) (id : NodeId) (row : Row) (hei
   added_kept = record {
     step = step;
     rows = λ p. elim (node_or_other p.node id) [
-      | inl is ↦ new_row p is ∙ sym (ap (λ (x : Option Row). has_part x p.part) (ap (row_at arena) is ∙ added.changed))
+      | inl is ↦ row_made p is ∙ sym (ap (λ (x : Option Row). has_part x p.part) (ap (row_at arena) is ∙ added.changed))
       | inr ne ↦ ap is_some (rows.others p ne) ∙ (kept.rows p ∙ sym (ap (λ (x : Option Row). has_part x p.part) (added.others p.node ne)))
     ];
     leaves = λ p h. elim (node_or_other p.node id) [
@@ -310,6 +310,12 @@ module _ (before arena : Arena) (old work : Work) (id : NodeId) (row : Row) (hei
       | inr ne ↦ let h = kept.frozen n k (sym (rows.others (main n) ne) ∙ e) on in
           record { row = h.row; is_row = row_now n h.row h.is_row; is_freeze = h.is_freeze; value = h.value; last = h.last }
     ];
+    rooms = record {
+      calls = λ n r k e is. elim (node_or_other n id) [
+        | inl same ↦ subst (λ (x : Row). FitsRoom x k) (row_is n r same e) (subst (FitsRoom row) (is_unsettled (main n) k same is) (omega arith))
+        | inr ne ↦ kept.rooms.calls n r k (row_was n r ne e) (sym (rows.others (main n) ne) ∙ is)
+      ];
+    };
   }
 
   need_before : (p : Point) → Needed work.graph p → Needed old.graph p
@@ -461,7 +467,7 @@ module _ (old new : Parts) (kept : PartsKept old) (same : KeepsWork old.work new
 module _ (old new : Parts) (id : NodeId) (row : Row) (heights : Part → ℕ) (kept : PartsKept old) (gen : id.gen_ ≡ old.arena.given)
     (added : nodes.Changes old.arena new.arena id (Some row)) (top : row.scope ≡ None) (sound : IsSoundArena new.arena)
     (given : new.arena.given ≡ old.arena.given + 1)
-    (rows : ChangesNode old.work.rows new.work.rows id (for_parts row.def (λ part. unsettled)))
+    (rows : ChangesNode old.work.rows new.work.rows id (for_parts row.def (λ part. new_row row.def)))
     (points : ChangesNode old.work.graph.heights new.work.graph.heights id (for_parts row.def heights))
     (pairs : (n : NodeId) → IsLive old.arena n ⊎ (n ≡ id) → Among n (pairs_with row.def old.work.pairs.nodes id) → Among n new.work.pairs.nodes)
     (scoped : new.work.scoped ≡ old.work.scoped)

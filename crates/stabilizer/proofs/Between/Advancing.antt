@@ -249,6 +249,7 @@ module _ (before arena : Arena) (old : Work) (g : NecessaryPart) (to : ℤ) (sta
     tops = λ n r row top. kept.tops n r (was n r row) top;
     frozen = λ n k e on. let h = kept.frozen n k e on in
         record { row = h.row; is_row = now n h.row h.is_row; is_freeze = h.is_freeze; value = h.value; last = h.last };
+    rooms = record { calls = λ n r k row e. kept.rooms.calls n r k (was n r row) e };
   }
 
   -- a change is of a node that doesn't read the clock

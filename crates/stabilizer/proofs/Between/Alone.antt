@@ -48,7 +48,7 @@ use Rattle.stabilizer.specs.Look.{last_of, last_call}
 use Rattle.stabilizer.specs.Round.{IsReady}
 use Rattle.stabilizer.specs.declared.parts.Parts.{Parts}
 use Rattle.wiring.specs.Stands.{MatchesState, owes}
-use Rattle.node_outcomes.specs.declared.row.Progress.{Progress}
+use Rattle.node_outcomes.specs.Progress.{Progress}
 use Rattle.node_outcomes.specs.declared.row.Stage.{Stage}
 use Rattle.node_outcomes.specs.declared.row.Stage.TheVariants as code
 use Rattle.wiring.specs.declared.work.Work.{Work}
@@ -578,6 +578,7 @@ module _ (arena : Arena) (work : Work) (sound : IsSoundArena arena) (step : IsIn
     lists = λ n r f v ns e is. absurd (none-some r (sym (nodes n) ∙ e));
     tops = λ n r e top. absurd (none-some r (sym (nodes n) ∙ e));
     frozen = λ n k e on. absurd (none-some k (sym (rows (main n)) ∙ e));
+    rooms = record { calls = λ n r k e is. absurd (none-some r (sym (nodes n) ∙ e)) };
   }
 
   module _ (ran : work.ran.items ≡ []) (retries : work.retries ≡ all_retries) (round : work.round ≡ 1) where

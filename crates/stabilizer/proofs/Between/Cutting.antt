@@ -26,10 +26,10 @@ use Rattle.stabilizer.specs.declared.parts.Parts.{Parts}
 use Rattle.node_outcomes.specs.Row.{IsRewritten, is_full, with_cutoff, settled_in, stage_in, stage_of, cutoff_in}
 use Rattle.node_outcomes.specs.declared.row.Stage.{Stage}
 use Rattle.wiring.specs.Stands.{MatchesState, counts_of, owes}
-use Rattle.node_outcomes.specs.declared.row.Progress.{Progress}
+use Rattle.node_outcomes.specs.Progress.{Progress}
 use Rattle.wiring.specs.declared.work.Work.{Work}
 use Rattle.stabilizer.proofs.Between.Keeping.{kept_rewritten}
-use Rattle.wiring.proofs.Placing.{unsettled}
+use Rattle.node_outcomes.specs.Progress.{new_row}
 use Rattle.wiring.proofs.Holding.{graph_rewritten}
 
 -- but for its cutoff a row is what it was
@@ -65,6 +65,7 @@ module _ (arena : Arena) (old : Work) (rows : Rows Progress) (id : NodeId) (c : 
         settled = fit.settled;
         fired = λ part on. let h = fit.fired part on in
             record { row = h.row; is_row = h.is_row; is_freeze = h.is_freeze; value = h.value; last = h.last };
+        room = fit.room;
       })
 
   stage_same : (x : Option Progress) → stage_in (option_map (with_cutoff c) x) ≡ stage_in x
@@ -174,7 +175,7 @@ module _ (old new : Parts) (id : NodeId) (c : Cutoff) (kept : PartsKept old) (w 
 
 -- a new node's is Equal, as that of a node that isn't there
 pub added_cutoffs : (old new : Work) (id : NodeId) (def : Def) → at old.rows (main id) ≡ None
-    → ChangesNode old.rows new.rows id (for_parts def (λ part. unsettled)) → (n : NodeId) → cutoff_at new n ≡ cutoff_at old n
+    → ChangesNode old.rows new.rows id (for_parts def (λ part. new_row def)) → (n : NodeId) → cutoff_at new n ≡ cutoff_at old n
 added_cutoffs old new id def none rows n = elim (node_or_other id n) [
   | inl e ↦ subst (λ (x : NodeId). cutoff_at new x ≡ cutoff_at old x) e (ap cutoff_in (rows.now Main) ∙ sym (ap cutoff_in none))
   | inr ne ↦ ap cutoff_in (rows.others (main n) (λ h. ne (sym h)))

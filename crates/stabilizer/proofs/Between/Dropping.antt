@@ -31,7 +31,7 @@ use Rattle.wiring.specs.Places.{ChangesNode}
 use Rattle.map_nodes.specs.declared.cutoff.Cutoff.TheVariants.{Equal}
 use Rattle.stabilizer.specs.Look.{cutoff_at}
 use Rattle.stabilizer.specs.Round.{IsReady}
-use Rattle.node_outcomes.specs.declared.row.Progress.{Progress}
+use Rattle.node_outcomes.specs.Progress.{Progress}
 use Rattle.wiring.specs.declared.work.Work.{Work}
 use Rattle.node_lists.specs.Listed.{Listed}
 use Rattle.node_outcomes.specs.Choosing.{built_in}
@@ -192,6 +192,7 @@ module _ (before arena : Arena) (old work : Work) (id : NodeId) (kept : IsKept b
         let ne = row_left (main n) (ap is_some e) in
         let h = kept.frozen n k (was_kept (main n) k ne e) on in
         record { row = h.row; is_row = row_now n h.row ne h.is_row; is_freeze = h.is_freeze; value = h.value; last = h.last };
+    rooms = record { calls = λ n r k e is. kept.rooms.calls n r k (was_row n r e) (was_kept (main n) k (node_left n r e) is) };
   }
     where
       more : before.given ≤ arena.given

@@ -22,13 +22,13 @@ use Rattle.node_arena.specs.Graph.{Holdings, graph_of}
 use Rattle.node_arena.specs.Typing.{Fits, FoldTakes}
 use Rattle.node_outcomes.specs.Computing.{CallFits, IsOfType}
 use Rattle.node_outcomes.specs.Row.{IsRewritten, kept_in, outcome_in}
-use Rattle.node_outcomes.specs.declared.row.Progress.{Progress}
+use Rattle.node_outcomes.specs.Progress.{Progress}
 use Rattle.scopes.specs.Scopes.{Scopes}
 use Rattle.stabilize_round.specs.State.{Call}
 use Rattle.stabilize_round.proofs.Points.{same_or_other}
 use Rattle.wiring.specs.Graph.{held_at}
 use Rattle.wiring.specs.Experts.{ReadSame}
-use Rattle.wiring.specs.Kept.{HasFired, IsKept}
+use Rattle.wiring.specs.Kept.{HasFired, IsKept, FitsRoom}
 use Rattle.wiring.specs.Wiring.{KeepsGraph, KeepsLists}
 use Rattle.wiring.specs.declared.work.Work.{Work}
 use Rattle.wiring.proofs.Deciding.{need_same}
@@ -51,6 +51,7 @@ pub record FitsPoint (arena : Arena) (held : Holdings) (round : ℕ) (p : Point)
   pub call : (r : Row) (c : Call) → p.part ≡ Main → row_at arena p.node ≡ Some r → k.last ≡ Some c → CallFits arena r.def r.ty c
   pub settled : k.settled ≤ round
   pub fired : p.part ≡ Main → k.frozen ≡ true → HasFired arena p.node k
+  pub room : (r : Row) → p.part ≡ Main → row_at arena p.node ≡ Some r → FitsRoom r k
 
 -- so does each row
 abbrev pub AllFit : Arena → Holdings → Work → Type 0
@@ -67,6 +68,7 @@ all_fit arena work kept p k e = record {
   call = λ r c part row l. kept.calls p.node r k c row (subst (λ (x : Point). at work.rows x ≡ Some k) (point_is p Main part) e) l;
   settled = kept.rounds p k e;
   fired = λ part on. kept.frozen p.node k (subst (λ (x : Point). at work.rows x ≡ Some k) (point_is p Main part) e) on;
+  room = λ r part row. kept.rooms.calls p.node r k row (subst (λ (x : Point). at work.rows x ≡ Some k) (point_is p Main part) e);
 }
 
 -- rows and round stay
@@ -172,6 +174,7 @@ module _ (arena : Arena) (old new : Work) (kept : IsKept arena old) (c : Carries
         (kept.lists n r f v ns row is);
     tops = kept.tops;
     frozen = λ n k e on. (c.fit (main n) k e).fired refl on;
+    rooms = record { calls = λ n r k row e. (c.fit (main n) k e).room r refl row };
   }
 
 -- ---- links, roots and heights stay

@@ -134,6 +134,7 @@ module _ (arena : Arena) (old new : Work) (e : NodeId) (x : Expert) (kept : IsKe
     ];
     tops = kept.tops;
     frozen = kept.frozen;
+    rooms = record { calls = kept.rooms.calls };
   }
 
 -- a point with a row is in the heap

@@ -32,10 +32,10 @@ use Rattle.stabilize_round.specs.State.{Call}
 use Rattle.stabilize_round.proofs.Points.{node_or_other}
 use Rattle.stabilizer.specs.Between.{Stays, StandsAs}
 use Rattle.wiring.specs.Wiring.{IsMarked, KeepsLists, KeepsRound}
-use Rattle.wiring.specs.Kept.{IsKept, IsDead, IsBind, IsFreeze, IsTop}
+use Rattle.wiring.specs.Kept.{IsKept, IsDead, IsBind, IsFreeze, IsTop, FitsRoom}
 use Rattle.inc_terms.specs.Work.{taken_by}
 use Rattle.node_outcomes.specs.Row.{outcome_in}
-use Rattle.node_outcomes.specs.declared.row.Progress.{Progress}
+use Rattle.node_outcomes.specs.Progress.{Progress}
 use Rattle.wiring.specs.declared.work.Work.{Work}
 use Rattle.wiring.proofs.Agreeing.{code_row}
 use Rattle.stabilizer.specs.Kept.{PartsKept}
@@ -265,6 +265,12 @@ module _ (before arena : Arena) (old work : Work) (id : NodeId) (v : Value) (kep
     ];
     frozen = λ n k e on. let h = kept.frozen n k (sym (same_rows (main n)) ∙ e) on in
         record { row = h.row; is_row = freeze_stays n h.row h.is_row h.is_freeze; is_freeze = h.is_freeze; value = h.value; last = h.last };
+    rooms = record {
+      calls = λ n r k e is. let w = row_was n r e in elim w.same [
+        | inl same ↦ subst (λ (x : Row). FitsRoom x k) same (kept.rooms.calls n w.was k w.is_was (sym (same_rows (main n)) ∙ is))
+        | inr h ↦ subst (λ (x : Row). FitsRoom x k) (sym h.is_now) (omega arith)
+      ];
+    };
   }
 
   need_before : (p : Point) → Needed work.graph p → Needed old.graph p

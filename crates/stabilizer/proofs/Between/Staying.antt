@@ -41,7 +41,7 @@ use Rattle.stabilizer.specs.Look.{last_of, last_call}
 use Rattle.stabilizer.specs.Round.{IsReady}
 use Rattle.stabilizer.specs.declared.parts.Parts.{Parts}
 use Rattle.wiring.specs.Stands.{owes}
-use Rattle.node_outcomes.specs.declared.row.Progress.{Progress}
+use Rattle.node_outcomes.specs.Progress.{Progress}
 use Rattle.wiring.specs.declared.work.Work.{Work}
 use Rattle.wiring.proofs.Agreeing.{one_point_built, plan_same, var_plan, agrees_still, recalls_still}
 use Rattle.wiring.proofs.Owing.{owes_same}

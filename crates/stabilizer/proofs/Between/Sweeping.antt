@@ -9,7 +9,7 @@ use Rattle.necessary_graph.specs.Part.{NecessaryPart, Needed, IsInStep}
 use Rattle.necessary_graph.specs.Sweep.{DropsLeaves, Sweep}
 use Rattle.necessary_graph.proofs.Reaching.{needed_more}
 use Rattle.node_arena.specs.Arena.{Arena}
-use Rattle.node_outcomes.specs.declared.row.Progress.{Progress}
+use Rattle.node_outcomes.specs.Progress.{Progress}
 use Rattle.wiring.specs.Graph.{rowless}
 use Rattle.wiring.specs.Kept.{IsKept}
 use Rattle.wiring.specs.declared.work.Work.{Work}

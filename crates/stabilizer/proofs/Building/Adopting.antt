@@ -23,9 +23,10 @@ use Rattle.wiring.specs.Wiring.{KeepsRound}
 use Rattle.wiring.specs.declared.work.Work.{Work}
 use Rattle.wiring.specs.Places.{ChangesNode, for_parts, pairs_with}
 use Rattle.wiring.proofs.Placing.{at_node, has_parts, one_for_all, pair_listed, pair_stays}
-use Rattle.stabilizer.specs.Building.{new_row, IsNewBefore, HasAdopted, HaveEntered, AdoptsBefore, MayAdopt, GetsPoints, KeepsRest}
+use Rattle.stabilizer.specs.Building.{IsNewBefore, HasAdopted, HaveEntered, AdoptsBefore, MayAdopt, GetsPoints, KeepsRest}
 use Rattle.stabilizer.specs.declared.parts.Parts.{Parts}
 use Rattle.stabilizer.proofs.Building.Growing.{none_holds}
+use Rattle.node_outcomes.specs.Progress.{new_row}
 
 -- what a round keeps through two calls
 pub rounds_kept : (old mid new : Work) → KeepsRound old mid → KeepsRound mid new → KeepsRound old new
@@ -130,7 +131,7 @@ module _ (a : Arena) (node : NodeId) (count next : ℕ) (sound : IsSoundArena a)
   module _ (old mid : Work) (so : HasAdopted a count (IsNewBefore a count next) old mid) where
     module _ (new : Work) (gets : GetsPoints a mid new node) (rest : KeepsRest a mid new) where
       row_new : (p : Point) → p.node ≡ node → is_some (at new.rows p) ≡ has_part (Some gets.row) p.part
-      row_new p is = ap is_some (at_node new.rows p node is ∙ gets.rows.now p.part) ∙ has_parts gets.row (λ part. new_row) p.part
+      row_new p is = ap is_some (at_node new.rows p node is ∙ gets.rows.now p.part) ∙ has_parts gets.row (λ part. new_row gets.row.def) p.part
 
       point_new : (p : Point) → p.node ≡ node → is_some (at new.graph.heights p) ≡ has_part (Some gets.row) p.part
       point_new p is = ap is_some (at_node new.graph.heights p node is ∙ gets.points.now p.part) ∙ has_parts gets.row gets.heights p.part
@@ -177,7 +178,11 @@ module _ (a : Arena) (node : NodeId) (count next : ℕ) (sound : IsSoundArena a)
           ];
         };
         fresh = λ p k s e. elim (node_or_other p.node node) [
-          | inl is ↦ sym (one_for_all gets.row.def new_row k p.part (sym (at_node new.rows p node is ∙ gets.rows.now p.part) ∙ e))
+          | inl is ↦ (
+            gets.row,
+            its_row p.node is,
+            sym (one_for_all gets.row.def (new_row gets.row.def) k p.part (sym (at_node new.rows p node is ∙ gets.rows.now p.part) ∙ e)),
+          )
           | inr ne ↦ so.fresh p k s (sym (gets.rows.others p ne) ∙ e)
         ];
         listed = record {
@@ -318,7 +323,7 @@ added_plain (graph.Every base span) old new n plain added = added
 added_plain (graph.Freeze kid f) old new n plain added = added
 
 module _ (a : Arena) (old mid : Work) (node : NodeId) (row : Row) (is_row : row_at a node ≡ Some row)
-    (rows : ChangesNode old.rows mid.rows node (for_parts row.def (λ part. new_row)))
+    (rows : ChangesNode old.rows mid.rows node (for_parts row.def (λ part. new_row row.def)))
     (heights : Part → ℕ) (points : ChangesNode old.graph.heights mid.graph.heights node (for_parts row.def heights))
     (pairs : (n : NodeId) → IsLive a n ⊎ (n ≡ node) → Among n (pairs_with row.def old.pairs.nodes node) → Among n mid.pairs.nodes)
     (in_scope : Among node mid.scoped.nodes)

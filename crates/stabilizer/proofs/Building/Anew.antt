@@ -41,7 +41,7 @@ use Rattle.stabilize_round.proofs.Ready.{ready}
 use Rattle.node_outcomes.specs.Choosing.{built_by, built_in}
 use Rattle.expert_nodes.specs.Experts.{ExpertPlace, kids_at}
 use Rattle.node_outcomes.specs.Row.{IsRewritten, kept_in, with_outcome, outcome_in}
-use Rattle.node_outcomes.specs.declared.row.Progress.{Progress}
+use Rattle.node_outcomes.specs.Progress.{Progress}
 use Rattle.wiring.specs.Graph.{held_at, graph_at}
 use Rattle.wiring.specs.Stands.{MatchesState, Counts, hand}
 use Rattle.wiring.specs.Wiring.{KeepsGraph, IsTurnedIn}

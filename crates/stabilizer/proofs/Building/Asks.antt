@@ -32,7 +32,7 @@ use Rattle.node_arena.specs.Typing.{Fits, ReferenceFits, BindTakes, BindMakes, M
 use Rattle.node_arena.proofs.RightSides.{fit_lists_given, same_rows_unfold}
 use Rattle.node_outcomes.specs.Computing.{has_part, seen_of, IsOfType}
 use Rattle.node_outcomes.specs.Row.{without_outcome}
-use Rattle.node_outcomes.specs.declared.row.Progress.{Progress}
+use Rattle.node_outcomes.specs.Progress.{Progress}
 use Rattle.wiring.specs.Kept.{IsKept}
 use Rattle.stabilizer.specs.Dying.{HasDied, LeavesStanding, StandsBut, IsBindOf}
 use Rattle.stabilizer.specs.Kept.{graph_in, KeepsScopes}

@@ -34,7 +34,7 @@ use Rattle.wiring.specs.declared.refused.Refused.{Refused}
 use Rattle.wiring.specs.declared.refused.Refused.TheVariants.{Full, Memory}
 use Rattle.wiring.specs.declared.work.Work.{Work}
 use Rattle.wiring.proofs.Deciding.{need_same}
-use Rattle.stabilizer.specs.Building.{HasGrown, IsUnbuilt, LeavesNoRoom, StopsBuilding, IsNewBefore, HasAdopted, HaveEntered}
+use Rattle.stabilizer.specs.Building.{HasGrown, IsUnbuilt, LeavesNoRoom, StopsBuilding, IsNewBefore, HasAdopted, HaveEntered, IsNewRow}
 use Rattle.stabilizer.specs.Building.{AdoptsBefore, NoneSince, MayAdopt, MayDisown, HasDisowned}
 use Rattle.stabilizer.specs.Dying.{IsBindNode, IsBindOf}
 use Rattle.stabilizer.specs.Giving.{GivesLive}
@@ -198,7 +198,7 @@ module _ (old mid : Parts) (b : NodeId) (side : RightSide) (kept : PartsKept old
         scope = λ n r e s. subst (λ (x : Arena). (r.scope ≡ Some b) × Given x.given n) (sym so.arena)
             (new_scope n r (sym (ap (λ (x : Arena). row_at x n) so.arena) ∙ e) s);
         rows = λ p g. adopted.older.rows p g;
-        fresh = λ p k s e. adopted.fresh p k s e;
+        fresh = λ p k s e. subst (λ (x : Arena). IsNewRow x p.node k) (sym so.arena) (adopted.fresh p k s e);
         heights = λ p g. adopted.older.points p g;
         links = adopted.older.links;
         roots = adopted.older.roots;
@@ -328,7 +328,7 @@ module _ (old mid : Parts) (b : NodeId) (side : RightSide) (kept : PartsKept old
           nodes = λ n g. nodes_old n g;
           scope = λ n r e s. absurd (none-some r (sym (dis.arena.gone n s) ∙ e));
           rows = λ p g. adopted_none.older.rows p g;
-          fresh = λ p k s e. adopted_none.fresh p k s e;
+          fresh = λ p k s e. absurd (none-some k (sym (dis.no_row p s) ∙ e));
           heights = λ p g. adopted_none.older.points p g;
           links = adopted_none.older.links;
           roots = adopted_none.older.roots;

@@ -32,7 +32,7 @@ use Rattle.stabilize_round.specs.Steps.{Preparing}
 use Rattle.stabilize_round.proofs.Counts.{none_yet, at_most}
 use Rattle.node_outcomes.specs.Meaning.{Meaning, meaning_of}
 use Rattle.node_outcomes.specs.Row.{IsRewritten, with_outcome, without_outcome, settled_in}
-use Rattle.node_outcomes.specs.declared.row.Progress.{Progress}
+use Rattle.node_outcomes.specs.Progress.{Progress}
 use Rattle.wiring.specs.Began.{IsRoundOf}
 use Rattle.wiring.specs.Stands.{MatchesState, Counts}
 use Rattle.wiring.specs.Wiring.{KeepsGraph}

@@ -18,16 +18,16 @@ use Rattle.node_arena.specs.Typing.{FoldTakes}
 use Rattle.expert_nodes.specs.Experts.{ExpertPlace, expert_at, kids_at}
 use Rattle.node_outcomes.specs.Computing.{has_part, is_expert}
 use Rattle.node_outcomes.specs.Row.{outcome_in}
-use Rattle.node_outcomes.specs.declared.row.Progress.{Progress}
+use Rattle.node_outcomes.specs.Progress.{Progress, new_row}
 use Rattle.point_map.specs.Rows.{at, Holds}
 use Rattle.scopes.specs.Scopes.{Scopes}
 use Rattle.wiring.specs.Graph.{graph_at, held_at}
-use Rattle.wiring.specs.Kept.{IsKept, IsDead, IsTop}
+use Rattle.wiring.specs.Kept.{IsKept, IsDead, IsTop, FitsRoom}
 use Rattle.wiring.specs.declared.work.Work.{Work}
 use Rattle.wiring.proofs.Deciding.{need_same}
 use Rattle.wiring.proofs.Holding.{built_same, right_as, died_same, ghost_same, root_same}
 use Rattle.wiring.proofs.Linking.{some_or_none}
-use Rattle.stabilizer.specs.Building.{HasAdopted, HaveEntered, new_row}
+use Rattle.stabilizer.specs.Building.{HasAdopted, HaveEntered, IsNewRow}
 use Rattle.stabilizer.specs.Dying.{IsBindNode}
 use Rattle.stabilizer.specs.Kept.{KeepsScopes}
 use Rattle.stabilizer.proofs.Between.Typing.{KeepsTypes, call_still, folds_still, listed_still, typed_still, right_still}
@@ -86,7 +86,7 @@ module _ (before arena : Arena) (old work : Work) (b : NodeId) (These : NodeId �
   -- ---- what is new
 
   -- a new point's row is as it was made
-  unset : (p : Point) (k : Progress) → before.given ≤ p.node.gen_ → at work.rows p ≡ Some k → k ≡ new_row
+  unset : (p : Point) (k : Progress) → before.given ≤ p.node.gen_ → at work.rows p ≡ Some k → IsNewRow arena p.node k
   unset p k new e = adopted.fresh p k new e
 
   new_part : (p : Point) → before.given ≤ p.node.gen_ → is_some (at work.rows p) ≡ has_part (row_at arena p.node) p.part
@@ -185,13 +185,13 @@ module _ (before arena : Arena) (old work : Work) (b : NodeId) (These : NodeId �
     ];
     outcomes = λ n r k v e is shows. elim (cases_lt n.gen_ before.given) [
       | inl older ↦ typed_still before arena more types v r.ty (kept.outcomes n r k v (was_row n r older e) (was_kept (main n) k older is) shows)
-      | inr new ↦ absurd (none-some _ (sym (ap (λ (x : Progress). x.outcome) (unset (main n) k new is)) ∙ shows))
+      | inr new ↦ absurd (none-some _ (sym (ap (λ (x : Progress). x.outcome) ((unset (main n) k new is).2)) ∙ shows))
     ];
     rights = λ n m r k o e is shows right. elim (cases_lt n.gen_ before.given) [
       | inl older ↦ right_still before arena more types m r.ty
           (kept.rights n m r k o (was_row n r older e) (was_kept (change n) k older is) shows
           (right_as before arena old work n m r.def o (built_as n older) right))
-      | inr new ↦ absurd (none-some _ (sym (ap (λ (x : Progress). x.outcome) (unset (change n) k new is)) ∙ shows))
+      | inr new ↦ absurd (none-some _ (sym (ap (λ (x : Progress). x.outcome) ((unset (change n) k new is).2)) ∙ shows))
     ];
     roots = λ n h.
         let v = kept.roots n (root_same old work adopted.older.round.roots (change n) h) in
@@ -213,11 +213,11 @@ module _ (before arena : Arena) (old work : Work) (b : NodeId) (These : NodeId �
         ];
     calls = λ n r k c e is last. elim (cases_lt n.gen_ before.given) [
       | inl older ↦ call_still before arena more types r.def r.ty c (kept.calls n r k c (was_row n r older e) (was_kept (main n) k older is) last)
-      | inr new ↦ absurd (none-some _ (sym (ap (λ (x : Progress). x.last) (unset (main n) k new is)) ∙ last))
+      | inr new ↦ absurd (none-some _ (sym (ap (λ (x : Progress). x.last) ((unset (main n) k new is).2)) ∙ last))
     ];
     rounds = λ p k e. elim (cases_lt p.node.gen_ before.given) [
       | inl older ↦ rw adopted.older.round.round (kept.rounds p k (was_kept p k older e))
-      | inr new ↦ let s = ap (λ (x : Progress). x.settled) (unset p k new e) in omega (arith, s)
+      | inr new ↦ let s = ap (λ (x : Progress). x.settled) ((unset p k new e).2) in omega (arith, s)
     ];
     pairs = λ n r e some. elim (cases_lt n.gen_ before.given) [
       | inl older ↦ adopted.lists.pairs n older (ap is_some e) (kept.pairs n r (was_row n r older e) some)
@@ -242,8 +242,16 @@ module _ (before arena : Arena) (old work : Work) (b : NodeId) (These : NodeId �
       | inl older ↦
           let h = kept.frozen n k (was_kept (main n) k older e) flag in
           record { row = h.row; is_row = is_row n h.row h.is_row; is_freeze = h.is_freeze; value = h.value; last = h.last }
-      | inr new ↦ absurd (let x : false ≡ true = sym (ap (λ (y : Progress). y.frozen) (unset (main n) k new e)) ∙ flag in cc)
+      | inr new ↦ absurd (let x : false ≡ true = sym (ap (λ (y : Progress). y.frozen) ((unset (main n) k new e).2)) ∙ flag in cc)
     ];
+    rooms = record {
+      calls = λ n r k e is. elim (cases_lt n.gen_ before.given) [
+        | inl older ↦ kept.rooms.calls n r k (was_row n r older e) (was_kept (main n) k older is)
+        | inr new ↦
+            let u = unset (main n) k new is in
+            subst (FitsRoom r) (sym (u.2 ∙ ap (λ (x : Row). new_row x.def) (same_Some u.0 r (sym u.1 ∙ e)))) (omega arith)
+      ];
+    };
   }
 
   -- who stands in a scope does so by the nodes

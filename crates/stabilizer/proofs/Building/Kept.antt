@@ -30,7 +30,7 @@ use Rattle.stabilize_round.specs.State.{State}
 use Rattle.stabilize_round.proofs.Main.{main_change}
 use Rattle.stabilize_round.proofs.Points.{same_or_other, node_or_other}
 use Rattle.node_outcomes.specs.Row.{with_outcome, outcome_in}
-use Rattle.node_outcomes.specs.declared.row.Progress.{Progress}
+use Rattle.node_outcomes.specs.Progress.{Progress}
 use Rattle.node_outcomes.proofs.Held.{same_held}
 use Rattle.wiring.specs.Graph.{held_at, graph_at, died_at}
 use Rattle.wiring.specs.Kept.{IsKept, IsBind, IsGhostLink}
@@ -170,6 +170,7 @@ module _ (arena : Arena) (old new : Work) (n : NodeId) (now : Outcome) (root : O
     lists = still_lists arena old new links_as kept;
     tops = kept.tops;
     frozen = λ m k e flag. kept.frozen m k (sym (main_was m) ∙ e) flag;
+    rooms = record { calls = λ m r k is e. kept.rooms.calls m r k is (sym (main_was m) ∙ e) };
   }
     where
       links_as : SameLinks old.experts new.experts
@@ -224,6 +225,7 @@ module _ (arena : Arena) (old : Work) (deaths : Deaths) (roots : Rows NodeId) (s
     lists = kept.lists;
     tops = kept.tops;
     frozen = kept.frozen;
+    rooms = record { calls = kept.rooms.calls };
   }
 
   -- and they stand for the same states

@@ -10,7 +10,7 @@ use Rattle.inc_value.specs.declared.node.Point.{Point}
 use Rattle.inc_value.specs.declared.outcome.Outcome.{Outcome}
 use Rattle.inc_value.specs.Choice.{Among, Every}
 use Rattle.inc_terms.specs.Depend.{main, change, Deaths}
-use Rattle.inc_terms.specs.Graph.{Graph, Row, Built}
+use Rattle.inc_terms.specs.Graph.{Graph, Row, Def, Built}
 use Rattle.inc_terms.specs.Plan.{gate_of}
 use Rattle.inc_terms.specs.Rebuild.{Inside, direct, nested, IsDue, Rebuilt}
 use Rattle.inc_terms.specs.Term.{Functions}
@@ -18,7 +18,7 @@ use Rattle.inc_terms.specs.Within.{Given}
 use Rattle.inc_terms.proofs.Plan.{among_left, among_parts}
 use Rattle.point_map.specs.Rows.{Rows, at, Holds}
 use Rattle.link_table.specs.Links.{Reads, Links, times}
-use Rattle.node_arena.specs.Arena.{row_at}
+use Rattle.node_arena.specs.Arena.{Arena, row_at}
 use Rattle.node_arena.specs.Graph.{Holdings, HoldsGiven, graph_of, AllCallFit}
 use Rattle.expert_nodes.specs.Experts.{ExpertPlace, fresh_at, is_stale_at, kids_at}
 use Rattle.node_arena.proofs.Graph.{names_are_given}
@@ -37,7 +37,7 @@ use Rattle.stabilize_round.proofs.Points.{node_or_other, at_same, at_other, same
 use Rattle.node_outcomes.specs.Choosing.{built_in}
 use Rattle.node_outcomes.specs.Computing.{has_part}
 use Rattle.node_outcomes.specs.Row.{is_full, kept_in, outcome_in, stage_in, stage_of, without_outcome, settled_in}
-use Rattle.node_outcomes.specs.declared.row.Progress.{Progress}
+use Rattle.node_outcomes.specs.Progress.{Progress, new_row}
 use Rattle.node_outcomes.specs.declared.row.Stage.TheVariants as code
 use Rattle.wiring.specs.Graph.{held_at, died_at}
 use Rattle.wiring.specs.Kept.{IsKept, IsTop}
@@ -47,7 +47,7 @@ use Rattle.wiring.specs.Wiring.{IsAtGate, HasMore}
 use Rattle.wiring.proofs.Owing.{owes_partly}
 use Rattle.wiring.proofs.Ghosts.{live_rowed, dead_rowless}
 use Rattle.wiring.proofs.Holding.{dead_unbuilt, unran_unbuilt}
-use Rattle.stabilizer.specs.Building.{HasGrown, new_row}
+use Rattle.stabilizer.specs.Building.{HasGrown, IsNewRow}
 use Rattle.stabilizer.specs.Dying.{HasDied}
 use Rattle.stabilizer.specs.Kept.{graph_in}
 use Rattle.stabilizer.specs.declared.parts.Parts.{Parts}
@@ -162,9 +162,9 @@ is_gated (Some k) st here is bare more = by k.stage refl
     by code.Static e = absurd (more (inl (ap (λ s. Some s) e)))
     by code.Full e = absurd (more (inr (ap (λ s. Some s) e)))
 
-new_outcome : (x : Option Progress) → ((k : Progress) → x ≡ Some k → k ≡ new_row) → outcome_in x ≡ None
-new_outcome None h = refl
-new_outcome (Some k) h = ap (λ (y : Progress). y.outcome) (h k refl)
+new_outcome : (arena : Arena) (n : NodeId) (x : Option Progress) → ((k : Progress) → x ≡ Some k → IsNewRow arena n k) → outcome_in x ≡ None
+new_outcome arena n None h = refl
+new_outcome arena n (Some k) h = ap (λ (y : Progress). y.outcome) (h k refl).2
 
 module _ (F : Functions) (z : Start) (t : State) (b : NodeId) (now : Outcome) (cut died grown : Parts) (counts : Counts)
     (a : IsAnew F z t b now cut died grown counts) where
@@ -242,7 +242,7 @@ module _ (F : Functions) (z : Start) (t : State) (b : NodeId) (now : Outcome) (c
   -- one that is new isn't built yet
   pub new_unbuilt : (n : NodeId) → t.given ≤ n.gen_ → (held_at grown.arena grown.work).built n ≡ None
   new_unbuilt n le = unran_unbuilt grown.arena grown.work n
-      (new_outcome (at grown.work.rows (change n)) (λ k e. a.grown.fresh (change n) k (later_then n le) e))
+      (new_outcome grown.arena n (at grown.work.rows (change n)) (λ k e. a.grown.fresh (change n) k (later_then n le) e))
 
   -- a freeze keeps what it kept
   frozen_then : (n : NodeId) → Given t.given n → kept_in (at grown.work.rows (main n)) ≡ kept_in (at cut.work.rows (main n))
@@ -472,7 +472,7 @@ not_first (suc settled) zero le e = absurd (omega (arith, le))
 
 -- what stands at a point afterwards: a new row; that of the bind's change, without its outcome; or what stood there before
 pub data IsRowAfter (t : State) (b : NodeId) (cut : Parts) (p : Point) (k : Progress) : Type 0 where
-  new : t.given ≤ p.node.gen_ → k ≡ new_row → IsRowAfter t b cut p k
+  new : (def : Def) → t.given ≤ p.node.gen_ → k ≡ new_row def → IsRowAfter t b cut p k
   own : {j : Progress} → change b ≡ p → at cut.work.rows (change b) ≡ Some j → k ≡ without_outcome j → IsRowAfter t b cut p k
   kept : Given t.given p.node → (Inside t.graph b p.node → ⊥) → (change b ≡ p → ⊥) → at cut.work.rows p ≡ Some k → IsRowAfter t b cut p k
 
@@ -496,7 +496,7 @@ module _ (F : Functions) (z : Start) (t : State) (b : NodeId) (now : Outcome) (c
   -- each row is one of these
   pub row_case : (p : Point) (k : Progress) → at grown.work.rows p ≡ Some k → IsRowAfter t b cut p k
   row_case p k e = elim (cases_lt p.node.gen_ t.given) [
-    | inr le ↦ new le (a.grown.fresh p k (later_then F z t b now cut died grown counts a p.node le) e)
+    | inr le ↦ let f = a.grown.fresh p k (later_then F z t b now cut died grown counts a p.node le) e in new f.0.def le f.2
     | inl lt ↦ elim (same_or_other (change b) p) [
       | inl is ↦
           let m = mapped (at cut.work.rows (change b)) k (sym own_row ∙ subst (λ (x : Point). at grown.work.rows x ≡ Some k) (sym is) e) in
@@ -547,7 +547,7 @@ module _ (F : Functions) (z : Start) (t : State) (b : NodeId) (now : Outcome) (c
     settled_if p false is = is ∙ sym (ap (λ (i : ℕ). settled_in i (at grown.work.rows p)) round_as ∙ by (at grown.work.rows p) refl)
       where
         of_row : (k : Progress) → IsRowAfter t b cut p k → settled_in cut.work.round (Some k) ≡ false
-        of_row k (new le e) = ap (λ (y : Progress). settled_in cut.work.round (Some y)) e ∙ later_round
+        of_row k (new def le e) = ap (λ (y : Progress). settled_in cut.work.round (Some y)) e ∙ later_round
         of_row k (own {j} e row is_own) = ap (λ (y : Progress). settled_in cut.work.round (Some y)) is_own
             ∙ (ap (settled_in cut.work.round) (sym row) ∙ (sym (a.stands.settled (change b)) ∙ unsettled))
         of_row k (kept lt notin ne row) = ap (settled_in cut.work.round) (sym row) ∙ (sym (a.stands.settled p) ∙ is)
@@ -557,24 +557,24 @@ module _ (F : Functions) (z : Start) (t : State) (b : NodeId) (now : Outcome) (c
         by (Some k) e = of_row k (row_case p k e)
 
     out_is : (p : Point) (k : Progress) → IsRowAfter t b cut p k → out_after t b p ≡ k.outcome
-    out_is p k (new le e) = out_new t b p le ∙ sym (ap (λ (y : Progress). y.outcome) e)
+    out_is p k (new def le e) = out_new t b p le ∙ sym (ap (λ (y : Progress). y.outcome) e)
     out_is p k (own {j} e row is) = subst (λ (x : Point). out_after t b x ≡ None) e
         (out_old t b (change b) (bind_given F z t b now cut died grown counts a) ∙ at_same (change b) None t.out)
         ∙ sym (ap (λ (y : Progress). y.outcome) is)
     out_is p k (kept lt notin ne row) = out_old t b p lt ∙ (at_other (change b) None t.out p ne ∙ a.stands.out p k row)
 
     last_is : (n : NodeId) (k : Progress) → IsRowAfter t b cut (main n) k → t.last n ≡ k.last
-    last_is n k (new le e) = a.given.last n le ∙ sym (ap (λ (y : Progress). y.last) e)
+    last_is n k (new def le e) = a.given.last n le ∙ sym (ap (λ (y : Progress). y.last) e)
     last_is n k (own e row is) = absurd (main_change n b (sym e))
     last_is n k (kept lt notin ne row) = a.stands.last n k row
 
     cutoff_is : (n : NodeId) (k : Progress) → IsRowAfter t b cut (main n) k → t.cutoff n ≡ k.cutoff
-    cutoff_is n k (new le e) = a.given.cutoff n le ∙ sym (ap (λ (y : Progress). y.cutoff) e)
+    cutoff_is n k (new def le e) = a.given.cutoff n le ∙ sym (ap (λ (y : Progress). y.cutoff) e)
     cutoff_is n k (own e row is) = absurd (main_change n b (sym e))
     cutoff_is n k (kept lt notin ne row) = a.stands.cutoff n k row
 
     stage_is : (p : Point) (k : Progress) → IsRowAfter t b cut p k → stage_after t p ≡ stage_of k.stage
-    stage_is p k (new le e) = stage_new t p le ∙ sym (ap (λ (y : Progress). stage_of y.stage) e)
+    stage_is p k (new def le e) = stage_new t p le ∙ sym (ap (λ (y : Progress). stage_of y.stage) e)
     stage_is p k (own {j} e row is) = subst (λ (x : Point). stage_after t x ≡ stage_of j.stage) e
         (stage_old t (change b) (bind_given F z t b now cut died grown counts a) ∙ a.stands.stage (change b) j row)
         ∙ sym (ap (λ (y : Progress). stage_of y.stage) is)
@@ -608,7 +608,7 @@ module _ (F : Functions) (z : Start) (t : State) (b : NodeId) (now : Outcome) (c
         ∙ (sym (a.stands.owed p) ∙ a.holds.rows.owed p (a.quiet p))
 
     owes_row : (p : Point) (k : Progress) → at grown.work.rows p ≡ Some k → IsRowAfter t b cut p k → owes grown.work (t.needed p) p ≡ []
-    owes_row p k e (new le is) = owes_partly grown.work (t.needed p) p (ap (λ (x : Option Progress). is_full (stage_in x)) (e ∙ ap (λ (y : Progress). Some y) is))
+    owes_row p k e (new def le is) = owes_partly grown.work (t.needed p) p (ap (λ (x : Option Progress). is_full (stage_in x)) (e ∙ ap (λ (y : Progress). Some y) is))
     owes_row p k e (own {j} at_b row is) = owes_as p (ap stage_in (e ∙ ap (λ (y : Progress). Some y) is)
         ∙ sym (ap stage_in (subst (λ (x : Point). at cut.work.rows x ≡ Some j) at_b row)))
     owes_row p k e (kept lt notin ne row) = owes_as p (ap stage_in (e ∙ sym row))

@@ -36,7 +36,7 @@ use Rattle.stabilize_round.proofs.Ready.{ready, is_due}
 use Rattle.node_outcomes.specs.Choosing.{built_by}
 use Rattle.node_outcomes.specs.Computing.{seen, seen_of}
 use Rattle.node_outcomes.specs.Row.{outcome_in}
-use Rattle.node_outcomes.specs.declared.row.Progress.{Progress}
+use Rattle.node_outcomes.specs.Progress.{Progress}
 use Rattle.node_outcomes.proofs.Held.{built_live, built_parts}
 use Rattle.wiring.specs.Kept.{IsKept}
 use Rattle.wiring.specs.Stands.{MatchesState, Counts}

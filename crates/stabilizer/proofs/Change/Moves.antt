@@ -20,7 +20,7 @@ use Rattle.node_outcomes.specs.Choosing.{right_in}
 use Rattle.node_outcomes.specs.Computing.{has_part}
 use Rattle.node_outcomes.specs.Meaning.{Meaning}
 use Rattle.node_outcomes.specs.Row.{with_outcome, stage_in, stage_of, outcome_in, IsRewritten}
-use Rattle.node_outcomes.specs.declared.row.Progress.{Progress}
+use Rattle.node_outcomes.specs.Progress.{Progress}
 use Rattle.node_outcomes.specs.declared.row.Stage.TheVariants as code
 use Rattle.node_outcomes.specs.declared.row.Stage.{Stage as CodeStage}
 use Rattle.point_map.specs.Rows.{at, Holds, Changes}

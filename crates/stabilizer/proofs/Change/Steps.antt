@@ -30,7 +30,7 @@ use Rattle.stabilize_round.proofs.Falling.{moves_retries, wiring_kept}
 use Rattle.node_outcomes.specs.Computing.{has_part, seen}
 use Rattle.node_outcomes.specs.Meaning.{Meaning}
 use Rattle.node_outcomes.specs.Row.{with_stage, with_outcome, stage_in, stage_of, outcome_in}
-use Rattle.node_outcomes.specs.declared.row.Progress.{Progress}
+use Rattle.node_outcomes.specs.Progress.{Progress}
 use Rattle.node_outcomes.specs.declared.row.Stage.{Stage}
 use Rattle.node_outcomes.specs.declared.row.Stage.TheVariants as code
 use Rattle.wiring.specs.Began.{IsRoundOf}

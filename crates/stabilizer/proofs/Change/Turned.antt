@@ -1,5 +1,5 @@
 -- A change is settled: the parts stand for the state then, and what is kept where it is turned.
-use Rattle.std.proofs.Common.{◌≡◌, ◌⊎◌, inl, inr, ℕ, ◌≤◌, true, false, List, Option, None, Some, refl, sym, ap, subst, ◌∙◌, arith, Vec, Global, Bool, [], ◌≢◌}
+use Rattle.std.proofs.Common.{◌≡◌, ◌⊎◌, inl, inr, ℕ, ◌≤◌, true, false, List, Option, None, Some, refl, sym, ap, subst, ◌∙◌, arith, length, Vec, Global, Bool, [], ◌≢◌}
 use Rattle.std.specs.Prelude.{◌↔◌, is_some, option_map, reverse}
 use Rattle.std.proofs.lemmas.Option.{none-some, same_Some}
 use Rattle.inc_value.specs.declared.function.FnRef.{FnRef}
@@ -12,7 +12,7 @@ use Rattle.inc_value.specs.declared.value.Value.{Value}
 use Rattle.inc_value.specs.Choice.{Among}
 use Rattle.inc_terms.specs.Depend.{main, change, subject_of, right_of}
 use Rattle.inc_terms.specs.Graph as graph
-use Rattle.inc_terms.specs.Graph.{Graph, Row, Def, Built}
+use Rattle.inc_terms.specs.Graph.{Graph, Row, Def, Built, kids}
 use Rattle.inc_terms.specs.Within.{Given}
 use Rattle.point_map.specs.Rows.{Rows, at, Holds}
 use Rattle.link_table.specs.Links.{times, Links}
@@ -24,7 +24,7 @@ use Rattle.expert_nodes.specs.Experts.{ExpertPlace, SameLinks, fresh_at, is_stal
 use Rattle.node_outcomes.specs.Choosing.{built_by, right_in, built_in}
 use Rattle.node_outcomes.specs.Computing.{seen, seen_of, has_part}
 use Rattle.node_outcomes.specs.Row.{IsRewritten, with_outcome, with_stage, kept_in, outcome_in, settled_in, stage_in, stage_of}
-use Rattle.node_outcomes.specs.declared.row.Progress.{Progress}
+use Rattle.node_outcomes.specs.Progress.{Progress}
 use Rattle.node_outcomes.specs.declared.row.Stage.TheVariants as code
 use Rattle.node_outcomes.proofs.Held.{built_live}
 use Rattle.node_outcomes.proofs.Rights.{right_fits}
@@ -59,7 +59,7 @@ pub outcome_run : (given : Outcome) (round : ℕ) (x : Option Progress) → is_s
 outcome_run given round None e = absurd (cc)
 outcome_run given round (Some row) e = refl
 
-run_outcome : (given : Outcome) (round : ℕ) (x : Option Progress) → outcome_in x ≡ Some given
+pub run_outcome : (given : Outcome) (round : ℕ) (x : Option Progress) → outcome_in x ≡ Some given
     → outcome_in (option_map (with_outcome given round) x) ≡ outcome_in x
 run_outcome given round None e = absurd (none-some given e)
 run_outcome given round (Some k) e = sym e
@@ -125,7 +125,7 @@ pub record LeavesSettled (old new : Work) (n : NodeId) (given : Outcome) : Type 
   pub round : new.round ≡ old.round
   pub experts : new.experts ≡ old.experts
 
-run_stage : (given : Outcome) (round : ℕ) (x : Option Progress) → stage_in (option_map (with_outcome given round) x) ≡ stage_in x
+pub run_stage : (given : Outcome) (round : ℕ) (x : Option Progress) → stage_in (option_map (with_outcome given round) x) ≡ stage_in x
 run_stage given round None = refl
 run_stage given round (Some k) = refl
 
@@ -348,6 +348,10 @@ module _ (arena : Arena) (taken mid : Work) (todo : Vec Point Global) (n : NodeI
     tops = kept.tops;
     frozen = λ m y e flag. let b = row_before taken.rows mid.rows (main n) code.Static rows_are (main m) y e in
         fired_still arena m b.row y b.last (kept.frozen m b.row b.was (sym b.frozen ∙ flag));
+    rooms = record {
+      calls = λ m x y row e. let b = row_before taken.rows mid.rows (main n) code.Static rows_are (main m) y e in
+          subst (λ (l : ℕ). length (kids x.def) ≤ l) (sym b.room) (kept.rooms.calls m x b.row row b.was);
+    };
   }
 
 -- ---- the change is settled
@@ -467,6 +471,7 @@ module _ (arena : Arena) (mid : Work) (rows : Rows Progress) (n s : NodeId) (r :
     lists = kept.lists;
     tops = kept.tops;
     frozen = λ m y e flag. kept.frozen m y (sym (main_row m) ∙ e) flag;
+    rooms = record { calls = λ m x y row e. kept.rooms.calls m x y row (sym (main_row m) ∙ e) };
   }
 
 -- ---- the whole turn

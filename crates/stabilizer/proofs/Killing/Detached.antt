@@ -26,7 +26,7 @@ use Rattle.stabilize_round.proofs.Points.{same_or_other, count_append, among_cou
 use Rattle.node_outcomes.specs.Choosing.{right_in}
 use Rattle.node_outcomes.specs.Computing.{AreExperts, has_part}
 use Rattle.node_outcomes.specs.Row.{stage_in, stage_of, outcome_in, with_stage}
-use Rattle.node_outcomes.specs.declared.row.Progress.{Progress}
+use Rattle.node_outcomes.specs.Progress.{Progress}
 use Rattle.node_outcomes.specs.declared.row.Stage.TheVariants as code
 use Rattle.wiring.specs.Kept.{IsKept}
 use Rattle.wiring.specs.Stands.{MatchesState, Counts}

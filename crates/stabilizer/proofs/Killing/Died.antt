@@ -21,7 +21,7 @@ use Rattle.node_arena.specs.Typing.{FoldTakes}
 use Rattle.expert_nodes.specs.Experts.{ExpertPlace, expert_at, kids_at}
 use Rattle.node_outcomes.specs.Computing.{has_part, is_expert}
 use Rattle.node_outcomes.specs.Row.{IsRewritten, without_outcome, settled_in, outcome_in}
-use Rattle.node_outcomes.specs.declared.row.Progress.{Progress}
+use Rattle.node_outcomes.specs.Progress.{Progress}
 use Rattle.scopes.specs.Scopes.{Scopes, StandsIn}
 use Rattle.stabilize_round.proofs.Parts.{bool_cases}
 use Rattle.stabilize_round.proofs.Points.{same_or_other, node_or_other, among_or_not}
@@ -561,6 +561,7 @@ module _ (old new : Parts) (b : NodeId) (kept : IsKept old.arena old.work) (d : 
           let no_ = row_outside (main n) (ap is_some e) in
           let h = kept.frozen n k (sym (main_now n no_) ∙ e) flag in
           record { row = h.row; is_row = stays n no_ ∙ h.is_row; is_freeze = h.is_freeze; value = h.value; last = h.last };
+      rooms = record { calls = λ n r k e is. let was = lived n r e in kept.rooms.calls n r k was.1 (sym (main_now n was.0) ∙ is) };
     }
       where
         listed_as : (n : NodeId) → Every (Given old.arena.given) (kids_at new.work.experts n)

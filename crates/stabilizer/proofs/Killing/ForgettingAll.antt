@@ -14,7 +14,7 @@ use Rattle.node_arena.specs.Arena as nodes
 use Rattle.node_arena.specs.Arena.{Arena, row_at}
 use Rattle.node_arena.specs.Sound.{IsSoundArena}
 use Rattle.node_outcomes.specs.Row.{settled_in}
-use Rattle.node_outcomes.specs.declared.row.Progress.{Progress}
+use Rattle.node_outcomes.specs.Progress.{Progress}
 use Rattle.stabilize_round.proofs.Points.{same_or_other, node_or_other, among_or_not}
 use Rattle.wiring.specs.Graph.{died_at}
 use Rattle.wiring.specs.Scoped.{IsForgotten}

@@ -25,7 +25,7 @@ use Rattle.stabilize_round.proofs.Points.{same_or_other, count_among}
 use Rattle.stabilize_round.proofs.Steps.{off_moves}
 use Rattle.expert_nodes.specs.Experts.{SameLinks}
 use Rattle.node_outcomes.specs.Row.{kept_in, settled_in, stage_in, stage_of, outcome_in}
-use Rattle.node_outcomes.specs.declared.row.Progress.{Progress}
+use Rattle.node_outcomes.specs.Progress.{Progress}
 use Rattle.node_outcomes.specs.declared.row.Stage.{Stage}
 use Rattle.node_outcomes.specs.declared.row.Stage.TheVariants as code
 use Rattle.wiring.specs.Graph.{graph_at, rowless}
@@ -141,6 +141,7 @@ module _ (old new : Work) (t : IsThinned old new) where
       lists = still_lists arena old new same_links kept;
       tops = kept.tops;
       frozen = λ n k e flag. kept.frozen n k (sym (row_as (main n)) ∙ e) flag;
+      rooms = record { calls = λ n r k row e. kept.rooms.calls n r k row (sym (row_as (main n)) ∙ e) };
     }
 
 -- ---- a point keeps the links to its gate

@@ -34,7 +34,7 @@ use Rattle.stabilize_round.proofs.Points.{same_or_other, count_append, one_same,
 use Rattle.node_outcomes.specs.Choosing.{right_in}
 use Rattle.node_outcomes.specs.Computing.{has_part}
 use Rattle.node_outcomes.specs.Row.{IsRewritten, with_stage, with_outcome, stage_in, stage_of, settled_in, outcome_in}
-use Rattle.node_outcomes.specs.declared.row.Progress.{Progress}
+use Rattle.node_outcomes.specs.Progress.{Progress}
 use Rattle.node_outcomes.specs.declared.row.Stage.{Stage}
 use Rattle.node_outcomes.specs.declared.row.Stage.TheVariants as code
 use Rattle.wiring.specs.Graph.{rowless}

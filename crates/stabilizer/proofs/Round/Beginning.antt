@@ -26,7 +26,7 @@ use Rattle.stabilize_round.specs.Ids.{IsStartOf, AllGiven}
 use Rattle.expert_nodes.specs.Experts.{Expert, expert_at, expert_in, is_stale_at}
 use Rattle.stabilize_round.proofs.Entry.{entry_holds}
 use Rattle.wiring.specs.Began.{IsRoundOf}
-use Rattle.node_outcomes.specs.declared.row.Progress.{Progress}
+use Rattle.node_outcomes.specs.Progress.{Progress}
 use Rattle.stabilize_round.specs.Invariant.{Recalls, IsUnmarked}
 use Rattle.stabilize_round.specs.Machine.{Entry}
 use Rattle.stabilize_round.specs.State.{State, Start, Call}

@@ -43,7 +43,7 @@ use Rattle.node_outcomes.specs.Choosing.{built_by, built_in}
 use Rattle.node_outcomes.specs.Computing.{seen, seen_of, has_part}
 use Rattle.node_outcomes.specs.Meaning.{Meaning}
 use Rattle.node_outcomes.specs.Row.{cutoff_in, is_full, outcome_in, settled_in, stage_in, stage_of, with_frozen}
-use Rattle.node_outcomes.specs.declared.row.Progress.{Progress}
+use Rattle.node_outcomes.specs.Progress.{Progress}
 use Rattle.node_outcomes.specs.declared.row.Stage.{Stage}
 use Rattle.stabilize_round.specs.Calling.{cost_at, costs_of}
 use Rattle.stabilize_round.specs.Runs.{IsBuiltRight}

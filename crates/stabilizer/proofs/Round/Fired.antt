@@ -17,7 +17,7 @@ use Rattle.inc_terms.specs.Term.{Functions}
 use Rattle.point_map.specs.Rows.{at}
 use Rattle.node_arena.specs.Arena.{Arena, row_at}
 use Rattle.node_outcomes.specs.Row.{fires_by, fires_in, kept_by, kept_in}
-use Rattle.node_outcomes.specs.declared.row.Progress.{Progress}
+use Rattle.node_outcomes.specs.Progress.{Progress}
 use Rattle.stabilize_round.specs.Calling.{cost_at}
 use Rattle.stabilize_round.specs.Freezing.{fires, fires_at, found, found_in, row_fires}
 use Rattle.stabilize_round.specs.Ended.{Ended}

@@ -20,7 +20,7 @@ use Rattle.necessary_graph.specs.Sweep.{IsUnlinked, IsUnrooted}
 use Rattle.necessary_graph.proofs.Reaching.{root_needed}
 use Rattle.node_arena.specs.Arena.{Arena, row_at}
 use Rattle.node_outcomes.specs.Row.{IsRewritten, fires_in, with_frozen}
-use Rattle.node_outcomes.specs.declared.row.Progress.{Progress}
+use Rattle.node_outcomes.specs.Progress.{Progress}
 use Rattle.stabilize_round.specs.State.{count}
 use Rattle.stabilize_round.proofs.Parts.{bool_cases}
 use Rattle.stabilize_round.proofs.Points.{node_or_other, one_other, one_same}

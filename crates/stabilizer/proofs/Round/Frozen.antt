@@ -21,11 +21,11 @@ use Rattle.node_arena.specs.Typing.{Fits}
 use Rattle.node_outcomes.specs.Choosing.{built_in}
 use Rattle.node_outcomes.specs.Computing.{CallFits, IsOfType, has_part}
 use Rattle.node_outcomes.specs.Row.{fires_by, fires_in, kept_by, kept_in, outcome_in, with_frozen}
-use Rattle.node_outcomes.specs.declared.row.Progress.{Progress}
+use Rattle.node_outcomes.specs.Progress.{Progress}
 use Rattle.stabilize_round.specs.Freezing.{found}
 use Rattle.stabilize_round.specs.State.{count}
 use Rattle.wiring.specs.Graph.{graph_at, held_at}
-use Rattle.wiring.specs.Kept.{HasFired, IsFreeze, IsGhostLink, IsKept}
+use Rattle.wiring.specs.Kept.{HasFired, IsFreeze, IsGhostLink, IsKept, FitsRoom}
 use Rattle.wiring.specs.declared.work.Work.{Work}
 use Rattle.stabilizer.specs.Freezing.{FreezesKeep, HasToFreeze, IsFrozenAt, as_was, froze, leaf_of}
 use Rattle.stabilizer.proofs.Round.Freezing.{one_kid, still_to_freeze}
@@ -298,4 +298,5 @@ module _ (arena : Arena) (work : Work) (rows' : Rows Progress) (g : NecessaryPar
       lists = kept.lists;
       tops = kept.tops;
       frozen = fired;
+      rooms = record { calls = λ n r k row e. has (FitsRoom r) (λ x h. h) (main n) (λ x is. kept.rooms.calls n r x row is) k e };
     }

@@ -38,7 +38,7 @@ use Rattle.necessary_graph.specs.Part.{Needed, IsInStep}
 use Rattle.necessity.specs.Need.{root_times}
 use Rattle.node_arena.specs.Arena.{Arena}
 use Rattle.node_outcomes.specs.Row.{outcome_in}
-use Rattle.node_outcomes.specs.declared.row.Progress.{Progress}
+use Rattle.node_outcomes.specs.Progress.{Progress}
 use Rattle.point_map.specs.Rows.{at}
 use Rattle.stabilize_round.specs.Wire.{IsConfirmed}
 use Rattle.stabilize_round.proofs.Machine.{moves_keep}

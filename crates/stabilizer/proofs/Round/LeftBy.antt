@@ -16,7 +16,7 @@ use Rattle.inc_terms.specs.Within.{Given}
 use Rattle.inc_terms.proofs.Staying.{unfolds_rows}
 use Rattle.node_arena.specs.Arena.{row_at}
 use Rattle.node_outcomes.specs.Row.{kept_by, kept_in}
-use Rattle.node_outcomes.specs.declared.row.Progress.{Progress}
+use Rattle.node_outcomes.specs.Progress.{Progress}
 use Rattle.point_map.specs.Rows.{at}
 use Rattle.stabilize_round.specs.Invariant.{Rooted}
 use Rattle.stabilize_round.specs.Runs.{BuildsFew}

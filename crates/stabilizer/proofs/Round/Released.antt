@@ -25,7 +25,7 @@ use Rattle.node_arena.specs.Arena.{Arena, row_at}
 use Rattle.node_lists.specs.Deaths.{Deaths}
 use Rattle.node_outcomes.specs.Computing.{has_part}
 use Rattle.node_outcomes.specs.Row.{kept_in}
-use Rattle.node_outcomes.specs.declared.row.Progress.{Progress}
+use Rattle.node_outcomes.specs.Progress.{Progress}
 use Rattle.stabilize_round.specs.Closing.{Close, IsStill}
 use Rattle.stabilize_round.specs.Ended.{Ended}
 use Rattle.stabilize_round.specs.Freezing.{fires_at, frozen_after, graph_after}

@@ -22,10 +22,10 @@ use Rattle.node_outcomes.specs.Row.{kept_in, outcome_in}
 use Rattle.node_outcomes.proofs.Held.{same_held}
 use Rattle.stabilize_round.specs.State.{Call}
 use Rattle.wiring.specs.Graph.{held_at}
-use Rattle.wiring.specs.Kept.{HasFired, IsKept, IsGhostLink}
+use Rattle.wiring.specs.Kept.{HasFired, IsKept, IsGhostLink, FitsRoom}
 use Rattle.stabilizer.specs.Settling.{IsSettled}
 use Rattle.wiring.specs.Wiring.{KeepsGraph, KeepsLists}
-use Rattle.node_outcomes.specs.declared.row.Progress.{Progress}
+use Rattle.node_outcomes.specs.Progress.{Progress}
 use Rattle.wiring.specs.declared.work.Work.{Work}
 use Rattle.wiring.proofs.Holding.{died_same, links_same, root_same, pairs_same, scoped_same}
 use Rattle.std.proofs.lemmas.Option.{same_Some}
@@ -50,7 +50,8 @@ module _ (arena : Arena) (old new : Work) (kept : IsKept arena old) (rows : (p :
     (rounds : (p : Point) (k : Progress) → at new.rows p ≡ Some k → k.settled ≤ new.round) (lists : KeepsLists old new)
     (flags : (n : NodeId) → kept_in (at new.rows (main n)) ≡ kept_in (at old.rows (main n)))
     (frozen : (n : NodeId) (k : Progress) → at new.rows (main n) ≡ Some k → k.frozen ≡ true → HasFired arena n k)
-    (links : SameLinks old.experts new.experts) where
+    (links : SameLinks old.experts new.experts)
+    (rooms : (n : NodeId) (r : Row) (k : Progress) → row_at arena n ≡ Some r → at new.rows (main n) ≡ Some k → FitsRoom r k) where
   before : (p : Point) → Holds new.rows p → Holds old.rows p
   before p h = sym (rows p) ∙ h
 
@@ -91,6 +92,7 @@ module _ (arena : Arena) (old new : Work) (kept : IsKept arena old) (rows : (p :
     lists = still_lists arena old new links kept;
     tops = kept.tops;
     frozen = frozen;
+    rooms = record { calls = rooms };
   }
 
 -- all rows stay, and the roots of binds
@@ -103,6 +105,7 @@ kept_same arena old new kept rows same step heap round roots deaths lists links 
     (λ n r k c live is l. kept.calls n r k c live (sym (rows (main n)) ∙ is) l)
     (λ p k is. subst (λ (m : ℕ). k.settled ≤ m) (sym round) (kept.rounds p k (sym (rows p) ∙ is)))
     lists (λ n. ap kept_in (rows (main n))) (λ n k is flag. kept.frozen n k (sym (rows (main n)) ∙ is) flag) links
+    (λ n r k live is. kept.rooms.calls n r k live (sym (rows (main n)) ∙ is))
 
 -- ---- a point leaves the heap, and comes back
 
@@ -154,7 +157,7 @@ module _ (arena : Arena) (old new : Work) (n : NodeId) (o : Outcome) (last : Opt
     (typed : (r : Row) (v : Value) → row_at arena n ≡ Some r → o ≡ Val v → IsOfType arena v r.ty)
     (answer_typed : (r : Row) (c : Call) → row_at arena n ≡ Some r → last ≡ Some c → CallFits arena r.def r.ty c) where
   abbrev fresh : Progress
-  fresh = record { stage = w.row.stage; settled = old.round; outcome = Some o; last = last; cutoff = w.row.cutoff; frozen = w.row.frozen }
+  fresh = record { stage = w.row.stage; settled = old.round; outcome = Some o; last = last; cutoff = w.row.cutoff; frozen = w.row.frozen; room = w.row.room }
 
   row_is : (k : Progress) → at new.rows (main n) ≡ Some k → fresh ≡ k
   row_is k e = same_Some fresh k (sym w.now ∙ e)
@@ -222,3 +225,10 @@ module _ (arena : Arena) (old new : Work) (n : NodeId) (o : Outcome) (last : Opt
         | inr ne ↦ kept.frozen m k (sym (w.others (main m) ne) ∙ is) flag
       ])
       links
+      (λ m r k live is. elim (point_cases (main m) (main n)) [
+        | inl e ↦
+            let same : m ≡ n = ap (λ (x : Point). x.node) e in
+            subst (FitsRoom r) (row_is k (subst (λ (x : NodeId). at new.rows (main x) ≡ Some k) same is))
+            (kept.rooms.calls n r w.row (subst (λ (x : NodeId). row_at arena x ≡ Some r) same live) w.was)
+        | inr ne ↦ kept.rooms.calls m r k live (sym (w.others (main m) ne) ∙ is)
+      ])

@@ -23,7 +23,7 @@ use Rattle.node_arena.specs.Graph.{HoldsGiven, graph_of}
 use Rattle.node_arena.specs.Typing.{FoldTakes}
 use Rattle.node_outcomes.specs.Computing.{AreExperts, CallFits, CallsSeen, IsOfType, is_expert, is_expert_def}
 use Rattle.node_outcomes.specs.Row.{is_full, kept_by, kept_in, outcome_in, stage_in}
-use Rattle.node_outcomes.specs.declared.row.Progress.{Progress}
+use Rattle.node_outcomes.specs.Progress.{Progress}
 use Rattle.node_outcomes.specs.declared.row.Stage.{Stage}
 use Rattle.node_outcomes.proofs.Held.{same_held}
 use Rattle.stabilize_round.specs.Freezing.{found, found_in}

@@ -21,7 +21,7 @@ use Rattle.wiring.specs.Deciding.{is_needed}
 use Rattle.wiring.specs.Kept.{IsKept}
 use Rattle.wiring.specs.Stands.{MatchesState, Counts}
 use Rattle.stabilizer.specs.Stepping.{is_loose, is_again, is_unsettled, left_to_settle}
-use Rattle.node_outcomes.specs.declared.row.Progress.{Progress}
+use Rattle.node_outcomes.specs.Progress.{Progress}
 use Rattle.node_outcomes.specs.declared.row.Stage.{Stage}
 use Rattle.node_outcomes.specs.declared.row.Stage.TheVariants as code
 use Rattle.wiring.specs.declared.work.Work.{Work}

@@ -1,6 +1,6 @@
 -- A main is computed and settled, and the state follows, or it is left as it was.
-use Rattle.std.proofs.Common.{◌≡◌, ◌≢◌, ◌⊎◌, inl, inr, ℕ, true, Option, None, Some, refl, sym, ap, subst, ◌∙◌, arith, Vec, Global, zero, suc, ◌<◌, Bool, false, List, [], ◌∷◌}
-use Rattle.std.specs.Prelude.{option_map, is_some, min, reverse, ◌==◌}
+use Rattle.std.proofs.Common.{◌≡◌, ◌≢◌, ◌≤◌, ◌⊎◌, inl, inr, ℕ, true, Option, None, Some, refl, sym, ap, subst, ◌∙◌, arith, Vec, Global, zero, suc, ◌<◌, Bool, false, List, [], ◌∷◌}
+use Rattle.std.specs.Prelude.{option_map, is_some, min, reverse, ◌==◌, vec_capacity}
 use Rattle.std.proofs.lemmas.Option.{none-some, same_Some}
 use Rattle.inc_value.specs.declared.node.NodeId.{NodeId}
 use Rattle.inc_value.specs.declared.node.Part.TheVariants.{Main}
@@ -31,7 +31,7 @@ use Rattle.stabilizer.specs.Settling.{IsSettled}
 use Rattle.stabilizer.specs.Stepping.{MainIsSettled, MainIsLeft, IsOfBuilds}
 use Rattle.wiring.specs.Stands.{Counts, MatchesState, counts_of}
 use Rattle.wiring.specs.Wiring.{KeepsGraph, KeepsRound, KeepsLists, TellsReaders, Stops}
-use Rattle.node_outcomes.specs.declared.row.Progress.{Progress}
+use Rattle.node_outcomes.specs.Progress.{Progress}
 use Rattle.wiring.specs.declared.work.Work.{Work}
 use Rattle.stabilizer.proofs.Step.Carrying.{kept_same, settled_kept}
 use Rattle.stabilizer.proofs.Step.Experts.{frozen_rests, graph_seen, owes_staged}
@@ -73,7 +73,7 @@ module _ (s : State) (arena : Arena) (old new : Work) (counts counts' : Counts) 
   heap' a = is_some (at new.graph.heap a)
 
   row_now : (k : Progress) → at new.rows (main n) ≡ Some k
-      → record { stage = w.row.stage; settled = old.round; outcome = Some o; last = last'; cutoff = w.row.cutoff; frozen = w.row.frozen } ≡ k
+      → record { stage = w.row.stage; settled = old.round; outcome = Some o; last = last'; cutoff = w.row.cutoff; frozen = w.row.frozen; room = w.row.room } ≡ k
   row_now k e = same_Some _ k (sym w.now ∙ e)
 
   row_other : (a : Point) (k : Progress) → (main n ≡ a → ⊥) → at new.rows a ≡ Some k → at old.rows a ≡ Some k
@@ -234,6 +234,7 @@ module _ (F : Functions) (arena : Arena) (old mid new : Work) (n : NodeId) (p : 
       last = c.last;
       cutoff = c.computed.kept.cutoff;
       frozen = c.computed.kept.frozen;
+      room = c.computed.kept.room;
     })) round_is;
     others = others;
     graph = record {
@@ -272,8 +273,8 @@ module _ (F : Functions) (arena : Arena) (old mid new : Work) (n : NodeId) (p : 
   marks_now : Unmarks old.experts new.experts n
   marks_now = subst (λ (e : List ExpertPlace). Unmarks old.experts e n) (sym round.experts) marks
 
-  pub main_settled : MainIsSettled F arena old new n before after
-  main_settled = record {
+  pub main_settled : vec_capacity old.ran ≤ vec_capacity new.ran → MainIsSettled F arena old new n before after
+  main_settled room = record {
     outcome = o;
     last = c.last;
     called = c.called;
@@ -281,6 +282,7 @@ module _ (F : Functions) (arena : Arena) (old mid new : Work) (n : NodeId) (p : 
     marks = marks_now;
     settled = is_settled;
     count = c.count;
+    room = room;
     rest = more;
   }
 

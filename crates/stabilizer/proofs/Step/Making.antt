@@ -1,5 +1,5 @@
 -- Roots are put on one by one, and steps are made one by one.
-use Rattle.std.proofs.Common.{◌≡◌, ◌≢◌, ◌⊎◌, inl, inr, ℕ, ◌<◌, ◌+◌, ◌++◌, zero, suc, List, [], ◌∷◌, length, map, take, drop, get_or, None, refl, sym, ap, subst, ◌∙◌, arith}
+use Rattle.std.proofs.Common.{◌≡◌, ◌≢◌, ◌⊎◌, inl, inr, ℕ, ◌<◌, ◌+◌, ◌++◌, zero, suc, List, [], ◌∷◌, length, map, take, drop, get_or, None, refl, sym, ap, subst, ◌∙◌, arith, length-append}
 use Rattle.std.proofs.lemmas.List.{take_more, map-append, take-append-drop}
 use Rattle.inc_value.specs.declared.node.NodeId.{NodeId}
 use Rattle.inc_value.specs.declared.node.Point.{Point}
@@ -30,6 +30,7 @@ use Rattle.wiring.specs.declared.work.Work.{Work}
 use Rattle.stabilizer.specs.Kept.{PartsKept}
 use Rattle.stabilizer.specs.Round.{IsInRound, RootsMore, OnlyRoots, Settles, Pauses, SettleRefused}
 use Rattle.stabilizer.specs.Stepping.{HasCalledDue, Steps, StepRefused, StepStops, as_it_was, unbuilt, wiring, StepFalls, left_to_settle}
+use Rattle.stabilizer.specs.Stepping.{SettlesLeast, StepsMade, none_made, one_made}
 use Rattle.stabilizer.specs.declared.parts.Parts.{Parts}
 use Rattle.stabilizer.proofs.Round.Began.{round_on}
 use Rattle.stabilizer.proofs.Building.EveryPoint.{every_point, every_node, covers}
@@ -66,6 +67,7 @@ pub record ArePut (arena : Arena) (old now : Work) (nodes : List NodeId) : Type 
   pub quiet : now.todo.items ≡ []
   pub more : RootsMore old.graph.roots now.graph.roots (map main nodes)
   pub wired : PutsRoots arena old now
+  pub still : nodes ≡ [] → now ≡ old
   pub round : now.round ≡ old.round
 
 pub none_put : (arena : Arena) (old : Work) → IsKept arena old → old.todo.items ≡ [] → ArePut arena old old []
@@ -74,6 +76,7 @@ none_put arena old kept quiet = record {
   quiet = quiet;
   more = λ p. omega arith;
   wired = λ F z s counts inv st. (s, here, st, λ q. refl);
+  still = λ none. refl;
   round = refl;
 }
 
@@ -95,6 +98,8 @@ one_put arena old mid new nodes i d within put more wired quiet round kept = rec
       (roots_join old.graph.roots mid.graph.roots new.graph.roots (map main (take i nodes)) (main (get_or nodes i d) ∷ []) put.more
       (roots_one mid.graph.roots new.graph.roots (main (get_or nodes i d)) more));
   wired = puts_join arena old mid new put.wired wired;
+  still = λ none. absurd (let k = ap length (sym (take_more nodes i d within) ∙ none) in
+      let l = length-append (take i nodes) (get_or nodes i d ∷ []) in omega (arith, k, l));
   round = round ∙ put.round;
 }
   where
@@ -219,9 +224,10 @@ pub record AreSettled (M : Meaning) (old now : Parts) (before between : Counts) 
   pub kept : PartsKept now
   pub quiet : now.work.todo.items ≡ []
   pub settled : Settles M old now before between
+  pub steps : StepsMade M old before now between
 
 pub no_step : (M : Meaning) (old : Parts) (before : Counts) → PartsKept old → old.work.todo.items ≡ [] → AreSettled M old old before before
-no_step M old before kept quiet = record { kept = kept; quiet = quiet; settled = none_settled M old before }
+no_step M old before kept quiet = record { kept = kept; quiet = quiet; settled = none_settled M old before; steps = none_made }
 
 -- a step of functions that mean the same
 module _ (M N : Meaning) (same : N ≡ M) (old mid new : Parts) (before between after : Counts) (so : AreSettled M old mid before between) where
@@ -229,11 +235,13 @@ module _ (M N : Meaning) (same : N ≡ M) (old mid new : Parts) (before between 
   as_meant P h = subst P same h
 
   -- one step more
-  pub next_step : PartsKept new → new.work.todo.items ≡ [] → Steps N mid new between after → AreSettled M old new before after
-  next_step kept quiet steps = record {
+  pub next_step : PartsKept new → new.work.todo.items ≡ [] → Steps N mid new between after → SettlesLeast N mid new between after
+      → AreSettled M old new before after
+  next_step kept quiet steps settles = record {
     kept = kept;
     quiet = quiet;
     settled = settles_more M old mid new before between after so.settled so.quiet (as_meant (λ (L : Meaning). Steps L mid new between after) steps);
+    steps = one_made so.steps so.kept so.settled (as_meant (λ (L : Meaning). SettlesLeast L mid new between after) settles);
   }
 
   -- it leaves less

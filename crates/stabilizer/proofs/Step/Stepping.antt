@@ -29,7 +29,7 @@ use Rattle.stabilize_round.specs.Steps.{Step, plainly}
 use Rattle.wiring.specs.Kept.{IsKept}
 use Rattle.node_outcomes.specs.Meaning.{Meaning}
 use Rattle.node_outcomes.specs.Row.{kept_in, outcome_in, settled_in}
-use Rattle.node_outcomes.specs.declared.row.Progress.{Progress}
+use Rattle.node_outcomes.specs.Progress.{Progress}
 use Rattle.std.proofs.lemmas.Option.{same_Some}
 use Rattle.stabilizer.specs.Settling.{IsSettled}
 use Rattle.wiring.specs.Stands.{MatchesState, Counts}

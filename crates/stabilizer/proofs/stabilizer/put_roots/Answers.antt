@@ -1,4 +1,4 @@
-use Rattle.std.proofs.Common.{◌≢◌, ◌≡◌, length, map, ap, subst, arith}
+use Rattle.std.proofs.Common.{◌≢◌, ◌≡◌, ◌∙◌, length, map, ap, subst, arith}
 use Rattle.std.proofs.lemmas.List.{take_all}
 use Rattle.inc_value.specs.declared.node.NodeId.{NodeId}
 use Rattle.inc_value.specs.declared.node.Point.{Point}
@@ -51,3 +51,6 @@ returns-clause-roots c =
     roots_only c.args.work.now.graph.roots c.loop-node.work.graph.roots (map main c.args.roots.now)
     (subst (λ ns. RootsMore c.args.work.now.graph.roots c.loop-node.work.graph.roots (map main ns))
     (take_all c.loop-node.node-index c.args.roots.now c.loop-node-test.false) c.loop-node.invariant.more)
+
+pub returns-clause-still : goal.returns-clause-still
+returns-clause-still c none = c.loop-node.invariant.still (take_all c.loop-node.node-index c.args.roots.now c.loop-node-test.false ∙ none)

@@ -45,7 +45,7 @@ loop-p-preserved g c =
     let stepped = steps_at N c.loop-p.parts c.step.new.parts between after c.in-Some.p made.stepped in
     record {
       so = next_step M N same c.args.parts.now c.loop-p.parts c.step.new.parts before between after i.so c.step.ensures.stays.kept
-          c.in_ok-p.ensures.quiet stepped;
+          c.in_ok-p.ensures.quiet stepped made.settled;
       stays = stays_on K _ _ _ c.args.parts.now c.loop-p.parts c.step.new.parts i.stays c.step.ensures.stays;
       gives = gives_next M N same c.args.parts.now c.loop-p.parts c.step.new.parts before between after i.so c.requires.in_round i.gives stepped made.settled;
       wants = c.in_ok-p.ensures.wants ∙ i.wants;
@@ -111,6 +111,8 @@ returns-in_err-p-clause-lacks g c =
       left = left;
       counts = counts_by K c.loop-p.functions;
       settles = c.loop-p.invariant.so.settled;
+      steps = c.loop-p.invariant.so.steps;
+      kept = c.loop-p.invariant.so.kept;
       lacks = subst (λ (wants : ℕ). StepLacks left wants (K.wants c.step.new.functions)) c.loop-p.invariant.wants
           c.in_err-p.ensures.lacks;
     } in
@@ -130,6 +132,7 @@ returns g c =
     rw c.in_default.is at step.ended in
     record {
       settled = rw (none.unchanged, none.uncalled) i.so.settled;
+      steps = rw (none.unchanged, none.uncalled) i.so.steps;
       empty = rw none.unchanged none.empty;
       refused = tt;
       gives = rw none.unchanged i.gives;

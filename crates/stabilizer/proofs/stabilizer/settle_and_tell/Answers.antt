@@ -41,6 +41,8 @@ returns-in-Err-tell-clause-lacks g c = in_telling (record {
   left = c.settle_all.new.parts;
   counts = _;
   settles = c.in-Ok.ensures.settled;
+  steps = c.in-Ok.ensures.steps;
+  kept = c.settle_all.ensures.stays.kept;
   unwanted = c.in-Ok.ensures.wants;
   heavy = rw (← c.news_room.ensures.stay) c.in-Err-tell.ensures.heavy;
 })

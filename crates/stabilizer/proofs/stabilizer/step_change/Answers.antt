@@ -49,6 +49,8 @@ returns-clause-settled g c = on_ok c.wire.result (λ wires. record {
   attaches = c.in_ok-attach_right.ensures.attached;
   full = c.in_ok-attach_right.ensures.full;
   wires = wires;
+  still = c.attach_right.ensures.stays;
+  idle = c.wire.ensures.idle;
   rest = refl;
 }) c.wire.ensures.wired
 

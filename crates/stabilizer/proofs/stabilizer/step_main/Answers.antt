@@ -1,4 +1,6 @@
-use Rattle.std.proofs.Common.{inl, inr, refl}
+use Rattle.std.proofs.Common.{◌≤◌, inl, inr, refl, sym, ap, subst, Vec, Global}
+use Rattle.std.specs.Prelude.{vec_capacity}
+use Rattle.inc_value.specs.declared.node.NodeId.{NodeId}
 use Rattle.node_arena.proofs.RightSides.{fit_lists_given}
 use Rattle.node_outcomes.specs.Meaning.{functions_of}
 use Rattle.wiring.specs.declared.work.Work.{Work}
@@ -58,7 +60,8 @@ returns-in-Ok g c =
     let s = c.settle.ensures in
     record {
       settled = main_settled (functions_of K c.args.functions.now) c.args.parts.now.arena old mid c.settle.new.self c.args.node c.main.result c.main.ensures
-          c.in-Ok.outcome before after c.requires.may.kept.work c.requires.taken noted marks computed tally s.row s.graph s.told s.round s.todo;
+          c.in-Ok.outcome before after c.requires.may.kept.work c.requires.taken noted marks computed tally s.row s.graph s.told s.round s.todo
+          (subst (λ (v : Vec NodeId Global). vec_capacity old.ran ≤ vec_capacity v) (sym (ap (λ (w : Work). w.ran) s.rest)) c.compute-computed.ensures.room);
       refused = tt;
       memory = tt;
       lacks = tt;

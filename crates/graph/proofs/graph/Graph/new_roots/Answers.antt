@@ -7,9 +7,12 @@ in_use-requires g c = record { within = c.self.invariant.0.earlier }
 
 pub returns-in-Ok : goal.returns-in-Ok
 returns-in-Ok g c =
-    let found = c.in-Ok.ensures in
-    rw (← c.self.view_is) (record {
-      freezes = found.0;
-      all = found.1 ∙ ap (λ (nodes : List NodeId). nodes ++ found.0) c.in_ok-roots.ensures;
-      fresh = found.2;
-    })
+    let found = c.in-Ok.ensures.listed in
+    record {
+      roots = rw (← c.self.view_is) (record {
+        freezes = found.0;
+        all = found.1 ∙ ap (λ (nodes : List NodeId). nodes ++ found.0) c.in_ok-roots.ensures.used;
+        fresh = found.2;
+      });
+      some = tt;
+    }

@@ -4,7 +4,7 @@ use Rattle.node_arena.specs.Arena.{IsSet, IsVariable}
 use Rattle.inc_value.specs.declared.node.NodeId.{NodeId}
 use Rattle.point_map.specs.Rows.{Rows, at}
 use Rattle.inc_terms.specs.Depend.{main, change}
-use Rattle.node_outcomes.specs.declared.row.Progress.{Progress}
+use Rattle.node_outcomes.specs.Progress.{Progress}
 use Rattle.graph.specs.declared.fault.GraphFault.TheVariants as fault
 use Rattle.graph.proofs.Stabilizing.{on_ok}
 use Rattle.graph.proofs.Faulting.{Passes, passed, ok_passes, set_variable, set_unknown, set_not_var, set_wrong_type}

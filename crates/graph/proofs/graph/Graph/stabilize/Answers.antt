@@ -1,4 +1,4 @@
-use Rattle.std.proofs.Common.{◌≡◌, inl, List, None, Some, take, drop, length, refl, sym, ap, subst, ◌∙◌, ℕ, arith}
+use Rattle.std.proofs.Common.{◌≡◌, inl, inr, List, None, Some, take, drop, length, refl, sym, ap, subst, ◌∙◌, ℕ, arith}
 use Rattle.std.specs.Prelude.{is_some}
 use Rattle.inc_terms.specs.Within.{Given}
 use Rattle.node_outcomes.specs.Meaning.{Meaning, functions_of, meaning_of}
@@ -18,6 +18,8 @@ use Rattle.graph.proofs.Rounding.{accepted, refused_in, few_in}
 use Rattle.graph.proofs.Stabilizing.{begins_at, roots_given, all_right, all_lawful, all_few, all_built, all_built_but, sound_again}
 use Rattle.graph.specs.Stabilizes.{left_by}
 use Rattle.graph.proofs.Seeing.{seen_as}
+use Rattle.graph.proofs.Steadying.{finds_by, steady_round}
+use Rattle.graph.specs.Steady.{IsSteady}
 use Rattle.stabilize_round.specs.Calling.{costs_of}
 use Rattle.stabilize_round.specs.Counts.{RoseBy}
 use Rattle.graph.proofs.graph.Graph.stabilize.Goals as goal
@@ -48,7 +50,7 @@ run-ended-requires-clause-given g c =
     let still = rw (← c.self.view_is) at c.in_default.ensures.none in
     let can = c.self.invariant.0.unbroken still in let within = c.self.invariant.0.earlier in
     let new_roots : AreNewRoots old.arena old.work os rooted since c.deref.result.now
-    = rw (← c.self.view_is, ← c.deref.ensures.value) at c.in-Ok.ensures in
+    = rw (← c.self.view_is, ← c.deref.ensures.value) at c.in-Ok.ensures.roots in
     all_of (Given old.arena.given) c.deref.result.now
     (roots_given M old old os rooted since can within c.deref.result.now new_roots)
 
@@ -59,7 +61,7 @@ run-ended-requires-clause-begins g c =
     let still = rw (← c.self.view_is) at c.in_default.ensures.none in
     let can = c.self.invariant.0.unbroken still in let within = c.self.invariant.0.earlier in
     let new_roots : AreNewRoots old.arena old.work os rooted since c.deref.result.now
-    = rw (← c.self.view_is, ← c.deref.ensures.value) at c.in-Ok.ensures in (
+    = rw (← c.self.view_is, ← c.deref.ensures.value) at c.in-Ok.ensures.roots in (
       since,
       in_use (drop rooted os),
       new_roots.freezes,
@@ -86,7 +88,7 @@ returns-in-Ok-ended-clause-brought g c =
     let since = c.self.inside.since in let still = rw (← c.self.view_is) at c.in_default.ensures.none in
     let can = c.self.invariant.0.unbroken still in let within = c.self.invariant.0.earlier in
     let new_roots : AreNewRoots old.arena old.work os rooted since c.deref.result.now
-    = rw (← c.self.view_is, ← c.deref.ensures.value) at c.in-Ok.ensures in
+    = rw (← c.self.view_is, ← c.deref.ensures.value) at c.in-Ok.ensures.roots in
     let begins = begins_at M old new os rooted since can within c.deref.result.now new_roots in
     let right = all_right M old new os rooted since can within (c.in-Ok-ended.ensures.ended.right since _ new_roots.freezes _ begins) in
     let told = c.in-Ok-ended.ensures.told in
@@ -122,7 +124,7 @@ returns-in-Err-ended-clause-refused g c cause is =
     let since = c.self.inside.since in let still = rw (← c.self.view_is) at c.in_default.ensures.none in
     let can = c.self.invariant.0.unbroken still in let within = c.self.invariant.0.earlier in
     let new_roots : AreNewRoots old.arena old.work os rooted since c.deref.result.now
-    = rw (← c.self.view_is, ← c.deref.ensures.value) at c.in-Ok.ensures in
+    = rw (← c.self.view_is, ← c.deref.ensures.value) at c.in-Ok.ensures.roots in
     let begins = begins_at M old new os rooted since can within c.deref.result.now new_roots in
     let refused = c.in-Err-ended.refused in
     rw (← c.self.view_is, c.in-Err-ended.ensures.observers)
@@ -137,7 +139,7 @@ returns-in-Err-ended-clause-few g c cause is =
     let since = c.self.inside.since in let still = rw (← c.self.view_is) at c.in_default.ensures.none in
     let can = c.self.invariant.0.unbroken still in let within = c.self.invariant.0.earlier in
     let new_roots : AreNewRoots old.arena old.work os rooted since c.deref.result.now
-    = rw (← c.self.view_is, ← c.deref.ensures.value) at c.in-Ok.ensures in
+    = rw (← c.self.view_is, ← c.deref.ensures.value) at c.in-Ok.ensures.roots in
     let begins = begins_at M old new os rooted since can within c.deref.result.now new_roots in
     let before = g.F.Functions.calls c.self.inside.functions in let after = g.F.Functions.calls c.run-ended.new.functions in
     rw (← c.self.view_is) (few_in M.functions c.self.inside.functions c.run-ended.new.functions old new c.self.inside.observers rooted since c.self.inside.refused still
@@ -151,7 +153,7 @@ returns-in-Err-ended-clause-calls_grow g c =
     let still = rw (← c.self.view_is) at c.in_default.ensures.none in
     let can = c.self.invariant.0.unbroken still in let within = c.self.invariant.0.earlier in
     let new_roots : AreNewRoots old.arena old.work os rooted since c.deref.result.now
-    = rw (← c.self.view_is, ← c.deref.ensures.value) at c.in-Ok.ensures in
+    = rw (← c.self.view_is, ← c.deref.ensures.value) at c.in-Ok.ensures.roots in
     let begins = begins_at M old old os rooted since can within c.deref.result.now new_roots in
     rw (← c.self.view_is) (c.in-Err-ended.ensures.refused.few since _ new_roots.freezes _ begins).count.kept
 
@@ -171,6 +173,29 @@ returns-in-Err-ended-clause-full g c is =
 
 pub returns-in-Err-ended-clause-flat : goal.returns-in-Err-ended-clause-flat
 returns-in-Err-ended-clause-flat g c no_binds = rw (← c.self.view_is) (c.run-ended.ensures.leaves.flat (rw (← c.self.view_is) at no_binds))
+
+-- ---- a steady graph
+
+pub returns-in-Err-clause-steady : goal.returns-in-Err-clause-steady
+returns-in-Err-clause-steady g c steady = absurd (elim c.in-Err.ensures.some [
+  | inl behind ↦ let same = steady.no_observer in omega (arith, behind, same)
+  | inr behind ↦ let same = steady.no_node in omega (arith, behind, same)
+])
+
+pub returns-in-Err-ended-clause-steady : goal.returns-in-Err-ended-clause-steady
+returns-in-Err-ended-clause-steady g c steady =
+    let M = meaning_of g.F.Functions c.self.inside.functions in
+    let old = c.self.inside.parts in let rooted = c.self.inside.rooted in let since = c.self.inside.since in
+    let still = rw (← c.self.view_is) at c.in_default.ensures.none in
+    let can = c.self.invariant.0.unbroken still in
+    let new_roots : AreNewRoots old.arena old.work c.self.inside.observers.made rooted since c.deref.result.now
+    = rw (← c.self.view_is, ← c.deref.ensures.value) at c.in-Ok.ensures.roots in
+    let so : IsSteady M.functions (seen_as c.self.inside.functions old c.self.inside.observers rooted since c.self.inside.refused)
+    = rw (← c.self.view_is) at steady in
+    rw (← c.self.view_is) (finds_by c.in-Err-ended.refused c.cause_of-cause.result (g.F.Functions.wants c.self.inside.functions) (g.F.Functions.wants c.run-ended.new.functions)
+    (sym c.cause_of-cause.ensures) c.in-Err-ended.ensures.wants
+    (c.in-Err-ended.ensures.steady (steady_round M c.self.inside.functions old c.self.inside.observers rooted since c.self.inside.refused can so
+    c.deref.result.now new_roots)))
 
 -- ---- functions mean what they meant
 
@@ -195,7 +220,7 @@ invariant_of-self-in-Ok-ended g c =
     let since = c.self.inside.since in let still = rw (← c.self.view_is) at c.in_default.ensures.none in
     let can = c.self.invariant.0.unbroken still in let within = c.self.invariant.0.earlier in
     let new_roots : AreNewRoots old.arena old.work os rooted since c.deref.result.now
-    = rw (← c.self.view_is, ← c.deref.ensures.value) at c.in-Ok.ensures in
+    = rw (← c.self.view_is, ← c.deref.ensures.value) at c.in-Ok.ensures.roots in
     let begins = begins_at M old new os rooted since can within c.deref.result.now new_roots in
     let right = all_right M old new os rooted since can within (c.in-Ok-ended.ensures.ended.right since _ new_roots.freezes _ begins) in
     let M' = meaning_of g.F.Functions c.run-ended.new.functions in

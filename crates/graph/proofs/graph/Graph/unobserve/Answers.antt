@@ -7,7 +7,7 @@ use Rattle.node_outcomes.specs.Computing.{seen_of}
 use Rattle.stabilizer.specs.Look.{last_of}
 use Rattle.node_outcomes.specs.Row.{outcome_in, cutoff_in, kept_in}
 use Rattle.expert_nodes.specs.Experts.{ExpertPlace, is_stale_at, kids_at}
-use Rattle.node_outcomes.specs.declared.row.Progress.{Progress}
+use Rattle.node_outcomes.specs.Progress.{Progress}
 use Rattle.node_outcomes.specs.Meaning.{meaning_of}
 use Rattle.graph.specs.Inside.{FitsInside}
 use Rattle.observers.specs.declared.observer.Observer.{Observer}

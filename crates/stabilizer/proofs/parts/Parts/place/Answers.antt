@@ -16,8 +16,9 @@ use Rattle.wiring.specs.declared.work.Work.{Work}
 use Rattle.stabilizer.proofs.Between.Adding.{adds_expert, given_other, no_expert, no_row, added_parts, added_ready, back_parts, back_ready, dropped_again, live_below}
 use Rattle.stabilizer.proofs.Between.Alone.{same_todo}
 use Rattle.stabilizer.proofs.Between.Cutting.{added_cutoffs}
-use Rattle.wiring.proofs.Placing.{unsettled, pair_stays}
+use Rattle.wiring.proofs.Placing.{pair_stays}
 use Rattle.stabilizer.proofs.parts.Parts.place.Goals as goal
+use Rattle.node_outcomes.specs.Progress.{new_row}
 
 -- ---- what is called
 
@@ -110,7 +111,7 @@ module _ (c : goal.After-forget_since) where
 
   dropped : KeepsWork start.work gone
   dropped = let a = c.in-Ok.ensures in let d = c.drop_node.ensures in
-      dropped_again start.arena start.work mid c.args.id (for_parts (def_of c.args.def) (λ part. unsettled))
+      dropped_again start.arena start.work mid c.args.id (for_parts (def_of c.args.def) (λ part. new_row (def_of c.args.def)))
       (for_parts (def_of c.args.def) a.added.0) c.requires.kept.work c.requires.next a.rows a.added.1 a.stays.links a.stays.roots a.stays.heap
       a.stays.round (adds_expert (def_of c.args.def) start.work.experts mid.experts c.args.id
       (no_expert start.arena start.work c.args.id c.requires.kept.work c.requires.next) a.experts).others

@@ -1,4 +1,4 @@
-use Rattle.std.proofs.Common.{inl, inr, refl, arith, ◌≡◌, ◌+◌, ◌<◌, ℕ, List, Option, Some, sym, ap, subst, ◌∙◌}
+use Rattle.std.proofs.Common.{inl, inr, refl, arith, ◌≡◌, ◌+◌, ◌<◌, ℕ, List, Option, Some, sym, ap, subst, ◌∙◌, Vec, Global}
 use Rattle.std.specs.Option.{SomeIff}
 use Rattle.inc_value.specs.declared.node.NodeId.{NodeId}
 use Rattle.inc_value.specs.declared.node.Point.{Point}
@@ -9,11 +9,11 @@ use Rattle.wiring.specs.declared.refused.Refused.TheVariants.{Memory}
 use Rattle.stabilizer.specs.Ended.{RoundEnds, RoundLeaves, RoundStops}
 use Rattle.stabilizer.specs.Freezing.{CanFreeze, FreezesKeep}
 use Rattle.stabilizer.specs.Kept.{counts_by}
-use Rattle.stabilizer.specs.Lacking.{in_step, in_telling, of_lists, of_number, of_roots, of_step, of_telling}
+use Rattle.stabilizer.specs.Lacking.{HasBegun, RoundLacks, SettleOrTellLacks, in_step, in_telling, of_lists, of_number, of_roots, of_step, of_telling}
 use Rattle.stabilizer.specs.Round.{OnlyRoots, RootsMore}
 use Rattle.inc_terms.specs.Depend.{main}
 use Rattle.node_outcomes.specs.Computing.{seen}
-use Rattle.node_outcomes.specs.declared.row.Progress.{Progress}
+use Rattle.node_outcomes.specs.Progress.{Progress}
 use Rattle.observers.specs.Observers.{notices_of, told_by}
 use Rattle.point_map.specs.Rows.{Rows}
 use Rattle.stabilizer.specs.Telling.{shown_or}
@@ -27,7 +27,8 @@ use Rattle.stabilizer.proofs.Round.Paused.{none_paused, roots_paused, roots_full
 use Rattle.stabilizer.proofs.Round.Released.{released_of}
 use Rattle.stabilizer.proofs.Round.Whole.{in_round, opened}
 use Rattle.stabilizer.proofs.stabilizer.Stabilizer.run.Given.{Over}
-use Rattle.stabilizer.proofs.stabilizer.Stabilizer.run.Goals.{After-end_round}
+use Rattle.stabilizer.proofs.Room.{round_roomy}
+use Rattle.stabilizer.proofs.stabilizer.Stabilizer.run.Goals.{After-end_round, After-settle_and_tell}
 use Rattle.stabilizer.proofs.stabilizer.Stabilizer.run.Goals as goal
 use Rattle.necessary_graph.proofs.Linking.{exit_is}
 use Rattle.necessity.proofs.Sound.{on_err}
@@ -72,8 +73,10 @@ returns-in_default g c =
       told = tt;
       notices = tt;
       observers = refl;
+      quiet = tt;
       wants = inl refl;
       lacks = of_number (let last = c.in_default.ensures in omega (arith, last));
+      steady = λ steady. let last = c.in_default.ensures in let number = steady.numbered in absurd (omega (arith, last, number));
     }
 
 -- ---- a link that was owed was refused
@@ -110,6 +113,9 @@ returns-in_err-wire-clause-wants g c = wants_stay c.from_residual.result _ _ ref
 
 pub returns-in_err-wire-clause-lacks : goal.returns-in_err-wire-clause-lacks
 returns-in_err-wire-clause-lacks g c = on_err c.from_residual.result (of_lists c.in_err-wire.ensures.listed)
+
+pub returns-in_err-wire-clause-steady : goal.returns-in_err-wire-clause-steady
+returns-in_err-wire-clause-steady g c = on_err c.from_residual.result (λ steady. absurd (c.in_err-wire.ensures.listed steady.unlinked))
 
 -- ---- a root was refused
 
@@ -152,16 +158,35 @@ returns-in_err-put_roots-clause-wants g c = wants_stay c.from_residual-in_err-pu
 pub returns-in_err-put_roots-clause-lacks : goal.returns-in_err-put_roots-clause-lacks
 returns-in_err-put_roots-clause-lacks g c = on_err c.from_residual-in_err-put_roots.result (of_roots c.in_err-put_roots.ensures.some)
 
+pub returns-in_err-put_roots-clause-steady : goal.returns-in_err-put_roots-clause-steady
+returns-in_err-put_roots-clause-steady g c = on_err c.from_residual-in_err-put_roots.result (λ steady. absurd (c.in_err-put_roots.ensures.some steady.unrooted))
+
 -- ---- a step was refused
 
+-- what it lacked
+settling_lacks : (g : Over) (c : After-settle_and_tell g) → SettleOrTellLacks (meaning_of g.F.Functions c.args.functions.now)
+    (record c.args.parts.now { work = c.put_roots.new.work }) c.args.observers.now.made (counts_by g.F.Functions c.args.functions.now)
+    (g.F.Functions.wants c.args.functions.now) (g.F.Functions.wants c.settle_and_tell.new.functions)
+    → RoundLacks (meaning_of g.F.Functions c.args.functions.now) c.args.parts.now c.args.roots.now c.args.observers.now.made
+    (counts_by g.F.Functions c.args.functions.now) (g.F.Functions.wants c.args.functions.now) (g.F.Functions.wants c.settle_and_tell.new.functions)
+settling_lacks g c lacks =
+    let begun : HasBegun c.args.parts.now c.args.roots.now c.wire.new.self c.put_roots.new.work = record {
+      wires = c.in_ok-wire.ensures.wired;
+      puts = c.in_ok-put_roots.ensures.wired;
+      idle = c.wire.ensures.idle;
+      still = c.in_ok-put_roots.ensures.still;
+    } in
+    elim lacks [ in_step lacks ↦ of_step begun lacks | in_telling lacks ↦ of_telling begun lacks ]
+
 pub returns-in_err-settle_and_tell-clause-lacks : goal.returns-in_err-settle_and_tell-clause-lacks
-returns-in_err-settle_and_tell-clause-lacks g c =
-    on_err c.from_residual-in_err-settle_and_tell.result
-    (elim c.in_err-settle_and_tell.ensures.lacks [
-      | in_step lacks ↦ of_step {wired = c.wire.new.self} {rooted = c.put_roots.new.work} c.in_ok-wire.ensures.wired c.in_ok-put_roots.ensures.wired lacks
-      | in_telling lacks ↦ of_telling {wired = c.wire.new.self} {rooted = c.put_roots.new.work} c.in_ok-wire.ensures.wired
-          c.in_ok-put_roots.ensures.wired lacks
-    ])
+returns-in_err-settle_and_tell-clause-lacks g c = on_err c.from_residual-in_err-settle_and_tell.result
+    (settling_lacks g (goal.at.returns-in_err-settle_and_tell-clause-lacks g c).After-settle_and_tell c.in_err-settle_and_tell.ensures.lacks)
+
+pub returns-in_err-settle_and_tell-clause-steady : goal.returns-in_err-settle_and_tell-clause-steady
+returns-in_err-settle_and_tell-clause-steady g c = on_err c.from_residual-in_err-settle_and_tell.result (λ steady.
+    round_roomy (meaning_of g.F.Functions c.args.functions.now) c.args.parts.now c.args.roots.now c.args.observers.now.made c.requires.ready steady
+    (counts_by g.F.Functions c.args.functions.now) _ _
+    (settling_lacks g (goal.at.returns-in_err-settle_and_tell-clause-steady g c).After-settle_and_tell c.in_err-settle_and_tell.ensures.lacks))
 
 pub returns-in_err-settle_and_tell-clause-refused : goal.returns-in_err-settle_and_tell-clause-refused
 returns-in_err-settle_and_tell-clause-refused g c =
@@ -296,6 +321,8 @@ returns g c =
       told = s.told ∙ ap (λ (f : NodeId → Outcome). told_by f c.args.observers.now.made) (sym (shows g c));
       notices = s.notices ∙ ap (λ (f : NodeId → Outcome). notices_of f 0 c.args.observers.now.made) (sym (shows g c));
       observers = tt;
+      quiet = ap (λ (v : Vec Point Global). v.items) (ended g c).todo ∙ s.quiet;
       wants = s.wants;
       lacks = tt;
+      steady = tt;
     }

@@ -3,8 +3,9 @@ use Rattle.std.proofs.lemmas.Result.{on_ok_weaker}
 use Rattle.inc_value.specs.Choice.{Among}
 use Rattle.inc_terms.specs.Code.{def_of}
 use Rattle.link_table.proofs.Lists.{on_err}
+use Rattle.node_outcomes.specs.Progress.{new_row}
 use Rattle.wiring.specs.declared.work.Work.{Work}
-use Rattle.wiring.proofs.Placing.{unsettled, no_expert_added, one_point, two_points, listed_pair, listed_alone}
+use Rattle.wiring.proofs.Placing.{no_expert_added, one_point, two_points, listed_pair, listed_alone}
 use Rattle.wiring.proofs.work.Work.add_node.Goals as goal
 
 pub returns-in-None-clause-added : goal.returns-in-None-clause-added
@@ -34,12 +35,12 @@ returns-in-Some-clause-pairs c = on_ok_weaker c.add_pair.result (λ pairs n who 
 
 pub returns-in-None-clause-rows : goal.returns-in-None-clause-rows
 returns-in-None-clause-rows c = on_ok_weaker c.add_single.result (λ row.
-    one_point c.args.self.now.rows c.add_single.new.self.rows c.args.node (def_of c.args.def.now) unsettled (sym c.subject.ensures ∙ c.in-None.is)
+    one_point c.args.self.now.rows c.add_single.new.self.rows c.args.node (def_of c.args.def.now) (new_row (def_of c.args.def.now)) (sym c.subject.ensures ∙ c.in-None.is)
     row c.requires.no_change.1) c.add_single.ensures.row
 
 pub returns-in-Some-clause-rows : goal.returns-in-Some-clause-rows
 returns-in-Some-clause-rows c = on_ok_weaker c.add_pair.result (λ rows.
-    two_points c.args.self.now.rows c.add_pair.new.self.rows c.args.node c.in-Some.subject (def_of c.args.def.now) (λ part. unsettled)
+    two_points c.args.self.now.rows c.add_pair.new.self.rows c.args.node c.in-Some.subject (def_of c.args.def.now) (λ part. (new_row (def_of c.args.def.now)))
     (sym c.subject.ensures ∙ c.in-Some.is) rows) c.add_pair.ensures.rows
 
 pub returns-in-None-clause-err_pairs : goal.returns-in-None-clause-err_pairs

@@ -3,13 +3,15 @@ use Rattle.std.specs.Prelude.{is_some}
 use Rattle.inc_value.specs.Choice.{Among}
 use Rattle.inc_value.specs.declared.node.NodeId.{NodeId}
 use Rattle.inc_value.specs.declared.node.Point.{Point}
+use Rattle.inc_terms.specs.Code.{def_of}
 use Rattle.inc_terms.specs.Depend.{change}
 use Rattle.point_map.specs.Rows.{Changes}
 use Rattle.necessary_graph.specs.Part.{Needed}
 use Rattle.node_lists.specs.Listed.{Listed}
+use Rattle.node_outcomes.specs.Progress.{new_row}
 use Rattle.wiring.specs.declared.work.Work.{Work}
 use Rattle.wiring.proofs.Deciding.{need_same}
-use Rattle.wiring.proofs.Placing.{stays_twice, stays_listed, stays_then_listed, unsettled, by_part, both_points, both_rows, on_and_off, among_before, among_last}
+use Rattle.wiring.proofs.Placing.{stays_twice, stays_listed, stays_then_listed, by_part, both_points, both_rows, on_and_off, among_before, among_last}
 use Rattle.wiring.proofs.work.Work.add_pair.Goals as goal
 
 -- a point that wasn't there isn't needed
@@ -58,9 +60,9 @@ returns-clause-rows c =
     let old = c.args.self.now.rows in
     let mid = c.add.new.self.rows in
     let new = c.add-2.new.self.rows in
-    both_rows old mid new c.args.node unsettled
-    (subst (λ (p : Point). Changes old mid p (Some unsettled)) c.change-own.ensures c.in-Ok-add.ensures.row)
-    (subst (λ (p : Point). Changes mid new p (Some unsettled)) c.main.ensures c.in-Ok-add-2.ensures.row)
+    both_rows old mid new c.args.node (new_row (def_of c.args.def.now))
+    (subst (λ (p : Point). Changes old mid p (Some (new_row (def_of c.args.def.now)))) c.change-own.ensures c.in-Ok-add.ensures.row)
+    (subst (λ (p : Point). Changes mid new p (Some (new_row (def_of c.args.def.now)))) c.main.ensures c.in-Ok-add-2.ensures.row)
 
 -- without memory no node is listed
 
