@@ -61,7 +61,7 @@ body_view (declaration.Expert function first) = formula.Expert function (constan
 
 -- a command with its positions
 abbrev pub command_view : Command → model.Command
-command_view (command.Declare name ty body) = model.Declare name ty (body_view body)
+command_view (command.Declare name ty body) = model.Declare name ty (body_view body.value)
 command_view (command.Grab name ty bind) = model.Take name ty bind
 command_view (command.Assign target value) = model.Assign target (constant_view value)
 command_view (command.Observe observer target) = model.Observe observer target

@@ -141,13 +141,8 @@ fn variable(
 ) -> Result<Option<Command>, AllocError>
     ensures { (F : Meanings) → IfOk result (λ c. option_map command_view c ≡ command_of F names.entry.now (Var name.now ty (literal_view first.now))) }
 {
-    let name = Name::new(alloc, name.bytes())?;
     match literal_of_type(alloc, names, ty, first)? {
-        Some(first) => Ok(Some(Command::Declare {
-            name,
-            ty,
-            body: Declaration::Variable(first),
-        })),
+        Some(first) => timed(alloc, name, ty, Declaration::Variable(first)),
         None => Ok(None),
     }
 }
@@ -310,7 +305,7 @@ fn timed(
     ensures { IfOk result (λ c. option_map command_view c ≡ Some (Declare name.now ty (body_view body))) }
 {
     match Name::new(alloc, name.bytes()) {
-        Ok(name) => Ok(Some(Command::Declare { name, ty, body })),
+        Ok(name) => body.named(alloc, name, ty),
         Err(fault) => {
             drop(body);
             Err(fault)
@@ -339,7 +334,7 @@ fn computed<L: Library>(
 {
     match typed(alloc, names, library, &[], formula) {
         Ok(Some(typed)) => match Name::new(alloc, name.bytes()) {
-            Ok(name) => Ok(Some(typed.declared(name))),
+            Ok(name) => typed.declared(alloc, name),
             Err(fault) => {
                 drop(typed);
                 Err(fault)

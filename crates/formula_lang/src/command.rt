@@ -1,7 +1,7 @@
 //! Commands whose names, functions and types are checked.
-ghost use Rattle.std.specs.Prelude.{◌≡◌};
-ghost use Rattle.script_model.specs.Check.{kind_of_body, target_of_body};
-ghost use Rattle.formula_lang.specs.CommandView.{body_view};
+ghost use Rattle.std.specs.Prelude.{◌≡◌, Some, IfOk, option_map};
+ghost use Rattle.script_model.specs.Check.{Declare, kind_of_body, target_of_body};
+ghost use Rattle.formula_lang.specs.CommandView.{body_view, command_view};
 ghost use Rattle.formula_lang.specs.NamesView.{kind_view};
 
 use crate::names::Kind;
@@ -9,6 +9,7 @@ use crate::typing::element_of;
 use inc_value::{Base, FnRef, Text, Ty};
 use line_parser::Name;
 use line_times::Nanoseconds;
+use std::alloc::{AllocError, Global};
 
 /// A value as a command holds it.
 pub enum Constant {
@@ -154,6 +155,24 @@ impl Declaration {
         }
     }
 
+    /// The command that declares a name with it.
+    pub(crate) fn named(
+        self,
+        alloc: Global,
+        name: Name,
+        ty: Ty,
+    ) -> Result<Option<Command>, AllocError>
+        ensures { IfOk result (λ c. option_map command_view c ≡ Some (Declare name ty (body_view self))) }
+    {
+        match Box::new(alloc, self) {
+            Ok(body) => Ok(Some(Command::Declare { name, ty, body })),
+            Err(_) => {
+                drop(name);
+                Err(AllocError)
+            }
+        }
+    }
+
     /// How a name is declared with it.
     pub fn kind(&self) -> Kind
         ensures { kind_view result ≡ kind_of_body (body_view self.now) }
@@ -189,7 +208,7 @@ pub enum Command {
     Declare {
         name: Name,
         ty: Ty,
-        body: Declaration,
+        body: Box<Declaration>,
     },
     /// Declares a name for the present right side of the bind at a position.
     Grab {

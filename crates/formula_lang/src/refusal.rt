@@ -2,7 +2,9 @@
 ghost use Rattle.std.specs.Prelude.{◌≡◌, is_none, map, option_map};
 ghost use Rattle.std.specs.List.{list_any};
 ghost use Rattle.script_model.specs.Check.{binds_of, command_of, experts_of, first_that, functions_in, is_against, is_among, is_bind, is_declared, is_expert, is_variable, kind_of, line_order, new_names, new_observers, observers_of, read_names, reason_number, variables_of};
-ghost use Rattle.script_model.specs.Formula.{meanings_of};
+ghost use Rattle.script_model.specs.Formula.{Meanings, meanings_of};
+ghost use Rattle.script_model.specs.Grammar.{Set, Show};
+ghost use Rattle.script_model.specs.Literals.{Literal as ALiteral};
 ghost use Rattle.line_parser.specs.TreeView.{line_view};
 ghost use Rattle.formula_lang.specs.Verdict.{reason_view};
 ghost use Rattle.formula_lang.specs.Rows.{is_no_bind, is_no_expert, is_no_observer, is_no_variable, is_unknown as is_unknown_in, lacks};
@@ -76,6 +78,60 @@ impl Reason {
 
 /// The first reason that stands against the line.
 pub(crate) fn first_reason<L: Library>(
+    line: &Line,
+    names: &Names,
+    library: &L,
+    is_unknown: bool,
+    is_ill_typed: bool,
+) -> Option<Reason>
+    requires read { is_unknown ≡ list_any (is_unknown_in names.now) (read_names (line_view line.now)) }
+    requires typed { is_ill_typed ≡ is_none (command_of (meanings_of (L.named library.now) (L.value library.now)) names.now (line_view line.now)) }
+    ensures { option_map reason_view result
+        ≡ first_that (is_against (meanings_of (L.named library.now) (L.value library.now)) names.entry.now (line_view line.now)) line_order }
+{
+    match line {
+        Line::Stabilize => None,
+        Line::Show { observer } => first_against_show(names, observer),
+        Line::Set { name, .. } => first_against_set(names, name, is_unknown, is_ill_typed),
+        _ => first_of_all(line, names, library, is_unknown, is_ill_typed),
+    }
+}
+
+/// The one reason that may stand against a `show`.
+fn first_against_show(names: &Names, observer: &Name) -> Option<Reason>
+    ensures { (F : Meanings) → option_map reason_view result ≡ first_that (is_against F names.entry.now (Show observer.now)) line_order }
+{
+    if names.is_in_use(observer.bytes()) {
+        None
+    } else {
+        Some(Reason::ObserverUnknown)
+    }
+}
+
+/// The first of the three reasons that may stand against a `set`.
+fn first_against_set(
+    names: &Names,
+    name: &Name,
+    is_unknown: bool,
+    is_ill_typed: bool,
+) -> Option<Reason>
+    ensures { (F : Meanings) (value : ALiteral) → is_unknown ≡ list_any (is_unknown_in names.entry.now) (read_names (Set name.now value))
+        → is_ill_typed ≡ is_none (command_of F names.entry.now (Set name.now value))
+        → option_map reason_view result ≡ first_that (is_against F names.entry.now (Set name.now value)) line_order }
+{
+    if is_unknown {
+        Some(Reason::NameUnknown)
+    } else if !is_variable(names, name) {
+        Some(Reason::NotVariable)
+    } else if is_ill_typed {
+        Some(Reason::IllTyped)
+    } else {
+        None
+    }
+}
+
+/// The first reason that stands against the line, looked for in all of them.
+fn first_of_all<L: Library>(
     line: &Line,
     names: &Names,
     library: &L,

@@ -41,15 +41,11 @@ impl Drop for TypedFormula {
 
 impl TypedFormula {
     /// The declaration of a name for the formula.
-    pub(crate) fn declared(self, name: Name) -> Command
-        ensures { command_view result ≡ Declare name self.ty (Computed (formula_view self.formula) nothing_kept) }
+    pub(crate) fn declared(self, alloc: Global, name: Name) -> Result<Option<Command>, AllocError>
+        ensures { IfOk result (λ c. option_map command_view c ≡ Some (Declare name self.ty (Computed (formula_view self.formula) nothing_kept))) }
     {
         let TypedFormula { formula, ty } = self;
-        Command::Declare {
-            name,
-            ty,
-            body: Declaration::Computed(formula),
-        }
+        Declaration::Computed(formula).named(alloc, name, ty)
     }
 
     /// The declaration of a name for the first value of the formula on which the predicate is true, if the predicate takes
@@ -69,14 +65,11 @@ impl TypedFormula {
             return Ok(None);
         }
         match Name::new(alloc, name.bytes()) {
-            Ok(name) => Ok(Some(Command::Declare {
-                name,
-                ty,
-                body: Declaration::Frozen {
-                    child: formula,
-                    predicate,
-                },
-            })),
+            Ok(name) => Declaration::Frozen {
+                child: formula,
+                predicate,
+            }
+            .named(alloc, name, ty),
             Err(fault) => {
                 drop(formula);
                 Err(fault)

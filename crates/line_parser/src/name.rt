@@ -1,12 +1,13 @@
 //! Names in scripts.
 ghost use Rattle.std.specs.Prelude.{◌≡◌, IfOk};
 
+use smallvec::SmallVec;
 use std::alloc::{AllocError, Global};
 use std::marker::Model;
 
-/// A name of a node, an observer or a function, seen as its bytes.
+/// A name of a node, an observer or a function, seen as its bytes. One of up to 16 bytes takes no memory.
 pub struct Name {
-    bytes: Vec<u8>,
+    bytes: SmallVec<u8, 16>,
 }
 
 // (written out: whoever drops one proves one call, and no drop of its parts)
@@ -31,7 +32,7 @@ impl Name {
         ensures { IfOk result (λ n. n ≡ bytes.now) }
     {
         Ok(Name {
-            bytes: bytes.to_vec(alloc)?,
+            bytes: SmallVec::from_slice(alloc, bytes)?,
         })
     }
 
@@ -39,6 +40,6 @@ impl Name {
     pub fn bytes(&self) -> &[u8]
         ensures { result.now ≡ self.now }
     {
-        &self.bytes
+        self.bytes.as_slice()
     }
 }

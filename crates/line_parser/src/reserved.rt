@@ -14,7 +14,12 @@ const RESERVED_WORDS: [&[u8]; 21] = [
 fn is_among(word: &[u8], table: &[&[u8]]) -> bool
     ensures { result ≡ list_any (bytes_eq word.now) (map (λ w. w.now) table.now) }
 {
-    table.contains(&word)
+    for reserved in table {
+        if word == *reserved {
+            return true;
+        }
+    }
+    false
 }
 
 /// Whether a word may be a name: it is not reserved.

@@ -10,6 +10,7 @@ ghost use Rattle.line_tokens.specs.View.{sign_view, token_view, unit_view};
 ghost use Rattle.line_tokens.specs.Reading.{front_view, content_view};
 
 use crate::token::{Content, Sign, TimeUnit, Token};
+use smallvec::SmallVec;
 use std::alloc::{AllocError, Global};
 
 /// Whether words are made of this byte: a letter, a digit or `_`.
@@ -253,12 +254,15 @@ fn first_token<'a>(
 }
 
 /// The tokens of a line; none where a byte begins no token, a text has no end, a `\` stands before
-/// another byte, or a number runs into letters.
-pub fn tokens<'a>(alloc: Global, line: &'a [u8]) -> Result<Option<Vec<Token<'a>>>, AllocError>
+/// another byte, or a number runs into letters. Up to four of them take no memory, but that of texts.
+pub fn tokens<'a>(
+    alloc: Global,
+    line: &'a [u8],
+) -> Result<Option<SmallVec<Token<'a>, 4>>, AllocError>
     ensures found { IfOk result (λ r. IfSome r (λ ts. AreSpelled (map token_view ts.items) line.now)) }
     ensures none { IfOk result (λ r. IfNone r ((ts : List tokens.Token) → AreSpelled ts line.now → ⊥)) }
 {
-    let mut found = Vec::new(alloc);
+    let mut found = SmallVec::new(alloc);
     let mut rest = line;
     while let [first, after @ ..] = rest {
         if *first == b' ' {

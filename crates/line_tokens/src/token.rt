@@ -89,3 +89,10 @@ pub enum Token<'a> {
     /// A sign.
     Punctuation(Sign),
 }
+
+/// Stands in each unused place of a row of tokens.
+impl<'a> Default for Token<'a> {
+    fn default() -> Token<'a> {
+        Token::AdvanceTo
+    }
+}

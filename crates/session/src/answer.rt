@@ -453,7 +453,7 @@ fn write_accepted<L: Library>(
     ensures ok { OnOk result (IsAcceptedWritten script.now.kept out.old.items out.new.items) }
     ensures err { OnErr result (Extends out.old.items out.new.items) }
 {
-    match write_stable(alloc, script.accepted(), out) {
+    match write_stable(script.accepted(), out) {
         Ok(()) => write_notices(alloc, script, script.notices(), out),
         Err(fault) => Err(fault),
     }

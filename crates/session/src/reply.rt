@@ -1,9 +1,11 @@
 //! The lines that a session writes.
 ghost use Rattle.std.specs.Prelude.{◌≡◌, ◌++◌, OnOk, OnErr};
 ghost use Rattle.inc_value.specs.Outcome.{printed_outcome};
+ghost use Rattle.session.specs.Answered.{Extends};
 ghost use Rattle.session.specs.Replies.{broken_line, change_line, done_line, first_line, invalid_line, line_of, refused_line, shown_line, stable_line, too_deep_line};
 
-use inc_value::Outcome;
+use inc_value::{Outcome, Value};
+use itoa::Buffer;
 use std::alloc::{AllocError, Global};
 
 /// Appends the reply to an accepted command.
@@ -50,12 +52,29 @@ pub(crate) fn write_too_deep(
 }
 
 /// Appends the reply to an accepted stabilize, the `round`-th of them.
-pub(crate) fn write_stable(alloc: Global, round: u64, out: &mut Vec<u8>) -> Result<(), AllocError>
+pub(crate) fn write_stable(round: u64, out: &mut Vec<u8>) -> Result<(), AllocError>
     ensures ok { OnOk result (out.new.items ≡ out.old.items ++ stable_line round) }
     ensures err { OnErr result (out.new.items ≡ out.old.items) }
 {
-    let line = format!(in alloc; "stable {round}\n")?;
-    out.extend_from_slice(line.as_bytes())
+    let written = out.len();
+    match add_stable(round, out) {
+        Ok(()) => Ok(()),
+        Err(fault) => {
+            out.truncate(written);
+            Err(fault)
+        }
+    }
+}
+
+/// The same. Without memory some of it may be written.
+fn add_stable(round: u64, out: &mut Vec<u8>) -> Result<(), AllocError>
+    ensures ok { OnOk result (out.new.items ≡ out.old.items ++ stable_line round) }
+    ensures err { OnErr result (Extends out.old.items out.new.items) }
+{
+    let mut digits = Buffer::new();
+    out.extend_from_slice(b"stable ")?;
+    out.extend_from_slice(digits.format(round).as_bytes())?;
+    out.extend_from_slice(b"\n")
 }
 
 /// Appends an observer's name, these bytes and an outcome, where a reference is printed as the name `referred`.
@@ -71,12 +90,55 @@ fn write_outcome(
         ≡ out.old.items ++ line_of (observer.now ++ (between.now ++ printed_outcome referred.now outcome.now))) }
     ensures err { OnErr result (out.new.items ≡ out.old.items) }
 {
-    let mut line = Vec::new(alloc);
-    line.extend_from_slice(observer)?;
-    line.extend_from_slice(between)?;
-    outcome.print_into(alloc, referred, &mut line)?;
-    line.push(b'\n')?;
-    out.extend_from_slice(&line)
+    let written = out.len();
+    match add_outcome(alloc, observer, between, outcome, referred, out) {
+        Ok(()) => Ok(()),
+        Err(fault) => {
+            out.truncate(written);
+            Err(fault)
+        }
+    }
+}
+
+/// The same. Without memory some of it may be written.
+fn add_outcome(
+    alloc: Global,
+    observer: &[u8],
+    between: &[u8],
+    outcome: &Outcome,
+    referred: &[u8],
+    out: &mut Vec<u8>,
+) -> Result<(), AllocError>
+    ensures ok { OnOk result (out.new.items
+        ≡ out.old.items ++ line_of (observer.now ++ (between.now ++ printed_outcome referred.now outcome.now))) }
+    ensures err { OnErr result (Extends out.old.items out.new.items) }
+{
+    out.extend_from_slice(observer)?;
+    out.extend_from_slice(between)?;
+    add_printed(alloc, outcome, referred, out)?;
+    out.extend_from_slice(b"\n")
+}
+
+/// Appends an outcome as it is printed, where a reference is printed as the name `referred`. An integer takes no
+/// memory but that of `out`.
+fn add_printed(
+    alloc: Global,
+    outcome: &Outcome,
+    referred: &[u8],
+    out: &mut Vec<u8>,
+) -> Result<(), AllocError>
+    ensures ok { OnOk result (out.new.items ≡ out.old.items ++ printed_outcome referred.now outcome.now) }
+    ensures err { OnErr result (out.new.items ≡ out.old.items) }
+{
+    match outcome {
+        Outcome::Val(Value::Int(number)) => {
+            let mut digits = Buffer::new();
+            out.extend_from_slice(digits.format(*number).as_bytes())
+        }
+        Outcome::Val(Value::Bool(_) | Value::Text(_) | Value::Node(..)) | Outcome::Invalid => {
+            outcome.print_into(alloc, referred, out)
+        }
+    }
 }
 
 /// Appends what an observer shows, where a reference is printed as the name `referred`.

@@ -14,4 +14,5 @@ pub returns-in-Ok : goal.returns-in-Ok
 returns-in-Ok g c =
     let F = meanings_of (g.L.Library.named c.args.library.now) (g.L.Library.value c.args.library.now) in
     let found = rw c.in-Ok-Some.field-0-is at c.in-Ok-Some.ensures in
-    rw (c.declared.ensures, computed_top F c.args.names.now (tree_view c.args.formula.now) c.requires, ← found, c.in-Ok.ensures, c.bytes.ensures) refl
+    rw (computed_top F c.args.names.now (tree_view c.args.formula.now) c.requires, ← found)
+    (rw (c.in-Ok.ensures, c.bytes.ensures) at c.declared.ensures)

@@ -28,7 +28,7 @@ loop-rest-smaller c =
 
 pub loop-rest-preserved : goal.loop-rest-preserved
 loop-rest-preserved c =
-    rw (c.in_ok-push.ensures.items, map-append)
+    rw (c.in_ok-push.ensures.ok, map-append)
     (read_token c.args.line.now (map token_view c.loop-rest.found.items) c.loop-rest.rest.now (token_view c.in-Some.token) c.in-Some.behind.now
     c.in-len1-up.len_at_least c.if-first-eq32.false
     (sym c.in_ok-token.ensures ∙ ap (option_map front_view) c.in-Some.is) c.loop-rest.invariant)

@@ -1,4 +1,5 @@
 use Rattle.std.proofs.Common.{◌≡◌, ℕ, List, Err, None, Some, refl, sym, ◌∙◌, ap, subst}
+use Rattle.formula_lang.specs.declared.command.Declaration.{Declaration}
 use Rattle.formula_lang.specs.CommandView.{body_view, command_view}
 use Rattle.line_parser.specs.TreeView.{line_view}
 use Rattle.script_model.specs.Check.{Names, Declare, Observe, Show, Take, Unobserve, Watch, command_of, first_that, is_against, line_order}
@@ -30,7 +31,7 @@ returns g c =
     × (command_of (meanings_of (g.L.Library.named c.library.result.now) (g.L.Library.value c.library.result.now)) n line ≡ Some command)) c.names.ensures c.in-Ok.ensures.allowed) in
     let performed : Performs (λ x. meanings_of (g.L.Library.named x) (g.L.Library.value x)) g.L.Library.known g.L.Library.calls command
     c.args.script.now c.match-command.script c.args.out.now.items c.match-command.out.items c.match-command.done = elim c.match-command.branch [
-      | in-Declare w ↦ let is = ap (λ (n : List ℕ). Declare n w.in-Declare.ty (body_view w.in-Declare.body)) w.bytes.ensures ∙ ap command_view (sym w.in-Declare.is) in rw (w.script-is, w.out-is, w.done-is) (performed_as _ _ _ _ _ is _ _ _ _ _ w.declare-done.ensures)
+      | in-Declare w ↦ let is = ap (λ (n : List ℕ). Declare n w.in-Declare.ty (body_view w.deref.result.now)) w.bytes.ensures ∙ ap (λ (b : Declaration). Declare w.in-Declare.name w.in-Declare.ty (body_view b)) w.deref.ensures ∙ ap command_view (sym w.in-Declare.is) in rw (w.script-is, w.out-is, w.done-is) (performed_as _ _ _ _ _ is _ _ _ _ _ w.declare-done.ensures)
       | in-Grab w ↦ let is = ap (λ (n : List ℕ). Take n w.in-Grab.ty w.in-Grab.bind) w.bytes-in-Grab.ensures ∙ ap command_view (sym w.in-Grab.is) in rw (w.script-is, w.out-is, w.done-is) (performed_as _ _ _ _ _ is _ _ _ _ _ w.grab-done.ensures)
       | in-Assign w ↦ let is = ap command_view (sym w.in-Assign.is) in rw (w.script-is, w.out-is, w.done-is) (performed_as _ _ _ _ _ is _ _ _ _ _ w.set-done.ensures)
       | in-Observe w ↦ let is = ap (λ (n : List ℕ). Observe n w.in-Observe.target) w.bytes-in-Observe.ensures ∙ ap command_view (sym w.in-Observe.is) in rw (w.script-is, w.out-is, w.done-is) (performed_as _ _ _ _ _ is _ _ _ _ _ w.observe-done.ensures)
@@ -55,7 +56,7 @@ declare-done-requires-clause-binds g c =
     let l = c.library.result.now in
     let few = few_binds (meanings_of (g.L.Library.named l) (g.L.Library.value l)) c.names.result.now c.requires.asked.0 (line_view c.args.line.now)
     (command_view c.in-Ok.command) c.requires.asked.1 c.in-Ok.ensures.allowed.1 in
-    rw c.in-Declare.is at few
+    rw c.deref.ensures (rw c.in-Declare.is at few)
 
 pub returns-in-Err-Refusal : goal.returns-in-Err-Refusal
 returns-in-Err-Refusal g c =

@@ -3,7 +3,7 @@ use Rattle.script_model.specs.Check.{first_that, is_against, line_order}
 use Rattle.script_model.specs.Formula.{meanings_of}
 use Rattle.line_parser.specs.TreeView.{line_view}
 use Rattle.formula_lang.specs.Verdict.{reason_view}
-use Rattle.formula_lang.proofs.refusal.first_reason.Given as goal
+use Rattle.formula_lang.proofs.refusal.first_of_all.Given as goal
 
 -- the first of what is left is the first of all
 abbrev pub invariant-loop-reason : goal.invariant-loop-reason
