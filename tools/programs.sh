@@ -171,7 +171,7 @@ python3 tools/deep_lines.py >"$room/written" || { cat "$room/written"; false; }
 judge "incr run: the deepest lines under 256 KB of stack" $? 0
 
 if [ -x crates/incr_bench/out/incr_bench ]; then
-    echo 'usage: incr_bench chain|fan|tree|fold|cut|never|idle|flip|flipx|aside|switch|bind|nested|boxed|ticks|watched|turns|told|shown|ended|expert|expertx|frozen SIZE ROUNDS' >"$room/bench.usage"
+    echo 'usage: incr_bench chain|fan|tree|fold|cut|never|idle|flip|flipx|aside|switch|bind|nested|boxed|ticks|watched|turns|told|shown|ended|expert|expertx|frozen|steady SIZE ROUNDS' >"$room/bench.usage"
     measures 0 crates/incr_bench/stdout nested 9 100
     printf 'calls 0\nnotices 15\nlast 4\n' >"$room/told.out"
     measures 0 "$room/told.out" told 5 3
@@ -182,6 +182,8 @@ if [ -x crates/incr_bench/out/incr_bench ]; then
     measures 0 "$room/expertx.out" expertx 3 5
     printf 'calls 0\nnotices 0\nlast 6\n' >"$room/frozen.out"
     measures 0 "$room/frozen.out" frozen 3 5
+    printf 'calls 70\nnotices 5\nlast 11\n' >"$room/steady.out"
+    measures 0 "$room/steady.out" steady 3 5
     measures 2 "$room/bench.usage" boxed 220
     measures 2 "$room/bench.usage" chain 129 1
     timeout 10 crates/incr_bench/out/incr_bench chain 3 1 >/dev/full 2>/dev/null

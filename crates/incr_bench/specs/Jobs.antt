@@ -4,7 +4,7 @@ use Rattle.std.specs.Str.{bytes_eq}
 use Rattle.std.specs.Str.Parse.{IsNumeral, digits_value, without_leading_plus}
 use Rattle.incr_bench.specs.declared.job.Job.{Job}
 use Rattle.incr_bench.specs.declared.job.Shape.{Shape}
-use Rattle.incr_bench.specs.declared.job.Shape.TheVariants.{Chain, Fan, Tree, Fold, Cut, Never, Idle, Flip, Flipx, Aside, Switch, Bind, Nested, Boxed, Ticks, Watched, Turns, Told, Shown, Ended, Expert, Expertx, Frozen}
+use Rattle.incr_bench.specs.declared.job.Shape.TheVariants.{Chain, Fan, Tree, Fold, Cut, Never, Idle, Flip, Flipx, Aside, Switch, Bind, Nested, Boxed, Ticks, Watched, Turns, Told, Shown, Ended, Expert, Expertx, Frozen, Steady}
 
 -- the shape that a word names
 abbrev pub shape_of : List ℕ → Option Shape
@@ -32,7 +32,8 @@ shape_of name =
     else (if bytes_eq name (codes "expert") then Some Expert
     else (if bytes_eq name (codes "expertx") then Some Expertx
     else (if bytes_eq name (codes "frozen") then Some Frozen
-    else None))))))))))))))))))))))
+    else (if bytes_eq name (codes "steady") then Some Steady
+    else None)))))))))))))))))))))))
 
 -- the largest size of a shape: as long as a chain may be, and as many nodes as a graph may have
 abbrev pub most_of : Shape → ℕ
@@ -42,6 +43,7 @@ most_of Flipx = 127
 most_of Tree = 524288
 most_of Bind = 200000
 most_of Nested = 200000
+most_of Steady = 65536
 most_of _ = 1000000
 
 -- a word writes the number, or none below 2^64: digits, before which a plus may stand

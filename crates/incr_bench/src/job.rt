@@ -77,6 +77,9 @@ pub enum Shape {
 
     /// Freezes that keep a value, of a variable that changes.
     Frozen,
+
+    /// Instruments of a trading screen, of which a round sets the numbers of one: their links, tests and references stay.
+    Steady,
 }
 
 /// What the words ask for.
@@ -96,6 +99,7 @@ fn most(shape: Shape) -> usize
         Shape::Flip | Shape::Flipx => 127,
         Shape::Tree => 524_288,
         Shape::Bind | Shape::Nested => 200_000,
+        Shape::Steady => 65_536,
         Shape::Fan
         | Shape::Fold
         | Shape::Cut
@@ -144,6 +148,7 @@ fn shape_named(name: &str) -> Option<Shape>
         "expert" => Some(Shape::Expert),
         "expertx" => Some(Shape::Expertx),
         "frozen" => Some(Shape::Frozen),
+        "steady" => Some(Shape::Steady),
         _ => None,
     }
 }

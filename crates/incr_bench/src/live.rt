@@ -156,6 +156,19 @@ impl<F: Functions> Live<F> {
         append(&mut self.nodes, made)
     }
 
+    /// Makes the sum of nodes, as one fold. It is refused where the functions know no sum.
+    pub fn sum(&mut self, kids: &[NodeId]) -> Result<(), Fault>
+        ensures grows { OnOk result (length self.new.nodes.items ≡ length self.old.nodes.items + 1) }
+        ensures uncalled { self.new.graph.functions ≡ self.old.graph.functions }
+    {
+        let add = Function::Add.reference();
+        if !self.knows(&add) {
+            return Err(Fault::Refused);
+        }
+        let made = self.graph.fold(add, Value::Int(0), kids);
+        append(&mut self.nodes, made)
+    }
+
     /// Makes a node that reads the first of two nodes of numbers where the test holds, else the second.
     pub fn choose(&mut self, test: usize, yes: usize, no: usize) -> Result<(), Fault>
         ensures grows { OnOk result (length self.new.nodes.items ≡ length self.old.nodes.items + 1) }

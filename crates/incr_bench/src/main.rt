@@ -25,7 +25,7 @@ use std_streams::{StdSink, words};
 
 /// What is written where the words ask for nothing.
 const USAGE: &[u8] =
-    b"usage: incr_bench chain|fan|tree|fold|cut|never|idle|flip|flipx|aside|switch|bind|nested|boxed|ticks|watched|turns|told|shown|ended|expert|expertx|frozen SIZE ROUNDS\n";
+    b"usage: incr_bench chain|fan|tree|fold|cut|never|idle|flip|flipx|aside|switch|bind|nested|boxed|ticks|watched|turns|told|shown|ended|expert|expertx|frozen|steady SIZE ROUNDS\n";
 
 fn main(rt: HostRuntime) -> ExitCode {
     let words = match words(rt.alloc(), env::args(&rt)) {

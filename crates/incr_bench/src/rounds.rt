@@ -8,7 +8,7 @@ use crate::counted::Counted;
 use crate::fault::Fault;
 use crate::job::{Job, Shape};
 use crate::live::Live;
-use crate::shapes::{TICK, lister};
+use crate::shapes::{NUMBERS, PARTS, TICK, lister};
 use inc_value::{Base, Value};
 use node_arena::Functions;
 use std::time::Clock;
@@ -40,13 +40,18 @@ fn fresh(round: u64) -> Value
     Value::Int((round % 2_000_000_000) as i64 + 2)
 }
 
-/// Gives so many variables another value.
-fn set_all<F: Functions>(live: &mut Live<F>, size: usize, round: u64) -> Result<(), Fault>
+/// Gives so many variables another value, from a place on.
+fn set_all<F: Functions>(
+    live: &mut Live<F>,
+    start: usize,
+    size: usize,
+    round: u64,
+) -> Result<(), Fault>
     ensures uncalled { live.new.graph.functions ≡ live.old.graph.functions }
     ensures untold { live.new.notices ≡ live.old.notices }
 {
     for place in 0..size {
-        live.set(place, fresh(round))?;
+        live.set(start.saturating_add(place), fresh(round))?;
     }
     Ok(())
 }
@@ -78,7 +83,7 @@ fn change<F: Functions>(live: &mut Live<F>, job: Job, round: u64) -> Result<(), 
             live.set(job.size, Value::Node(target, Base::Int))
         }
         Shape::Ticks => live.advance(TICK),
-        Shape::Told | Shape::Shown => set_all(live, job.size, round),
+        Shape::Told | Shape::Shown => set_all(live, 0, job.size, round),
         Shape::Ended => live.unobserve(turn(round, job.size).saturating_add(1)),
         Shape::Expert => {
             let place = turn(round, job.size);
@@ -88,6 +93,10 @@ fn change<F: Functions>(live: &mut Live<F>, job: Job, round: u64) -> Result<(), 
             let place = turn(round, job.size);
             live.set(place, fresh(round))?;
             relist(live, lister(job.size, place), place)
+        }
+        Shape::Steady => {
+            let instrument = turn(round, job.size);
+            set_all(live, instrument.saturating_mul(PARTS), NUMBERS, round)
         }
         _ => live.set(0, fresh(round)),
     }

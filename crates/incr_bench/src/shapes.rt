@@ -17,6 +17,12 @@ pub const TICK: u64 = 1_000_000;
 /// How many variables one expert lists.
 const LISTED: usize = 1_000;
 
+/// How many nodes one instrument has. The first are its numbers.
+pub const PARTS: usize = 14;
+
+/// How many numbers one instrument has.
+pub const NUMBERS: usize = 3;
+
 /// One variable under a chain of negations, of which the last is observed.
 fn chain<F: Functions>(live: &mut Live<F>, size: usize) -> Result<(), Fault>
     ensures uncalled { live.new.graph.functions ≡ live.old.graph.functions }
@@ -233,6 +239,58 @@ fn frozen<F: Functions>(live: &mut Live<F>, size: usize) -> Result<(), Fault>
     Ok(())
 }
 
+/// Instrument so many of a trading screen: three numbers, a truth that stays true, a reference that stays, and what reads them. An
+/// expert of four of these is observed, and a sum of six; the sum's observer is watched.
+fn instrument<F: Functions>(live: &mut Live<F>, number: usize) -> Result<(), Fault>
+    requires { number ≤ 1000000 }
+    ensures uncalled { live.new.graph.functions ≡ live.old.graph.functions }
+{
+    let at = number * PARTS;
+    live.var(Value::Int(1))?;
+    live.var(Value::Int(1))?;
+    live.var(Value::Int(1))?;
+    live.var(Value::Bool(true))?;
+    let bid = live.node(at);
+    let ask = live.node(at + 1);
+    live.var(Value::Node(bid, Base::Int))?;
+    live.map(Function::Sub.reference(), &[ask, bid])?;
+    live.tell_all(at + 5)?;
+    let kids = [bid, ask, live.node(at + 2)];
+    live.map(Function::Clamp.reference(), &kids)?;
+    live.neg(at)?;
+    live.choose(at + 3, at + 6, at + 5)?;
+    live.join(at + 4)?;
+    live.freeze(at)?;
+    live.freeze(at + 7)?;
+    live.expert()?;
+    for kid in 5..9 {
+        live.link(at + 12, at + kid)?;
+    }
+    let kids = [
+        live.node(at + 5),
+        live.node(at + 8),
+        live.node(at + 9),
+        live.node(at + 10),
+        live.node(at + 11),
+        live.node(at + 12),
+    ];
+    live.sum(&kids)?;
+    live.observe(at + 13)?;
+    live.observe(at + 12)?;
+    live.watch(2 * number)
+}
+
+/// A trading screen of so many instruments.
+fn steady<F: Functions>(live: &mut Live<F>, size: usize) -> Result<(), Fault>
+    requires { size ≤ 1000000 }
+    ensures uncalled { live.new.graph.functions ≡ live.old.graph.functions }
+{
+    for number in 0..size {
+        instrument(live, number)?;
+    }
+    Ok(())
+}
+
 /// A variable and a bind on it, which is observed, of right sides that a function makes.
 pub fn bind<F: Functions>(live: &mut Live<F>, side: FnRef) -> Result<(), Fault>
     requires known { IsTrue (F.known live.old.graph.functions side) }
@@ -289,6 +347,7 @@ pub fn fill<F: Functions>(live: &mut Live<F>, shape: Shape, size: usize) -> Resu
         Shape::Ended => watched(live, size + 1),
         Shape::Expert | Shape::Expertx => experts(live, size),
         Shape::Frozen => frozen(live, size),
+        Shape::Steady => steady(live, size),
         Shape::Bind | Shape::Nested => Err(Fault::Refused),
     }
 }
