@@ -16,11 +16,26 @@
    - `malloc`, `realloc` and `free` are those of one C library, and align as C says;
    - no call is made in a signal handler, nor in the forked child of a process with threads.
 
-   Link libincr.a, or libincr.so. */
+   Platform: the library is machine code for Linux on x86-64. It needs a C library, and nothing else. Threads: it starts none, takes no
+   lock, and has no state of its own; sessions of different threads don't meet.
+
+   This header is C99 or later, and C++98 or later. Link libincr.a, or libincr.so: `pkg-config --cflags --libs incr` tells how. */
 #ifndef INCR_H
 #define INCR_H
 #include <stddef.h>
 #include <stdint.h>
+
+/* The version of this header; `incr_version()` is that of the library that is linked. */
+#define INCR_VERSION 100 /* 10,000 * major + 100 * minor + patch */
+#define INCR_VERSION_TEXT "0.1.0"
+
+/* The most bytes of a line, without its newline, and the most lines of a session. */
+#define INCR_MAX_LINE 4096
+#define INCR_MAX_LINES 1073741824
+
+/* Whether an answer is that a line was refused, and the number of that refusal in docs/language.md. */
+#define INCR_IS_REFUSED(answer) ((answer) > INCR_REFUSED)
+#define INCR_REFUSAL(answer) ((answer) - INCR_REFUSED)
 
 #ifdef __cplusplus
 extern "C" {
@@ -46,28 +61,60 @@ typedef struct incr_told {
     size_t now;     /* how many bytes that has which it shows now */
 } incr_told;
 
-/* What calls answer. A line that is refused with the number n answers INCR_REFUSED + n; docs/language.md lists the numbers. */
-enum {
-    INCR_BLANK = 0,       /* the line asks for nothing, and prints nothing */
-    INCR_ACCEPTED = 1,    /* the line was accepted */
-    INCR_DONE = 1,        /* what was asked of an open, a rest or a close is done */
-    INCR_NO_NOTICE = 0,   /* there is no notice of that number */
-    INCR_INIT = 1,        /* the notice is the first one of an observer behind its `watch` */
-    INCR_CHANGE = 2,      /* the notice is of a change from one value to another */
-    INCR_INVALID = 3,     /* the notice is that what the observer shows turned to invalid */
-    INCR_REFUSED = 100,   /* and the number of the refusal */
-    INCR_NO_SESSION = -1, /* the slot has no session */
-    INCR_NO_MEMORY = -2,  /* malloc or realloc gave none */
-    INCR_TOO_MANY = -3,   /* the session has taken 2^30 lines, and takes no more */
-    INCR_NO_SLOT = -4,    /* there is no slot of that number */
-    INCR_IS_OPEN = -5     /* the slot has a session already, which stays as it was */
+/* What calls answer. A line that is refused with the number n answers INCR_REFUSED + n; docs/language.md tells the causes of each. Some
+   numbers answer several calls, and have a name for each. The enum is made by tools/words.py. */
+enum incr_answer {
+    INCR_IS_OPEN = -5,                  /* the slot has a session already */
+    INCR_NO_SLOT = -4,                  /* there is no slot of that number */
+    INCR_TOO_MANY = -3,                 /* the session has taken 2^30 lines, and takes no more */
+    INCR_NO_MEMORY = -2,                /* no memory was found */
+    INCR_NO_SESSION = -1,               /* the slot has no session */
+    INCR_BLANK = 0,                     /* the line asks for nothing */
+    INCR_NO_NOTICE = 0,                 /* there is no notice of that number */
+    INCR_ACCEPTED = 1,                  /* the line was accepted */
+    INCR_DONE = 1,                      /* what was asked for is done */
+    INCR_INIT = 1,                      /* the notice is the first one of an observer */
+    INCR_CHANGE = 2,                    /* the notice is of another value */
+    INCR_INVALID = 3,                   /* the notice is that a value turned to invalid */
+    INCR_REFUSED = 100,                 /* and the number of the refusal; no call answers this alone */
+    INCR_REFUSED_NO_COMMAND = 101,      /* the line is no command */
+    INCR_REFUSED_TOO_LONG = 102,        /* the line has more than 4,096 bytes */
+    INCR_REFUSED_DECLARED = 103,        /* the name is declared already */
+    INCR_REFUSED_UNDECLARED = 104,      /* a name isn't declared */
+    INCR_REFUSED_NO_FUNCTION = 105,     /* there is no function of this name */
+    INCR_REFUSED_MISFIT = 106,          /* a type or a number of arguments doesn't fit */
+    INCR_REFUSED_NO_VARIABLE = 107,     /* the name isn't that of a variable */
+    INCR_REFUSED_NO_BIND = 108,         /* the name isn't that of a bind */
+    INCR_REFUSED_UNBUILT = 109,         /* the bind has no right side */
+    INCR_REFUSED_NO_EXPERT = 110,       /* the name isn't that of an expert */
+    INCR_REFUSED_NO_OBSERVER = 111,     /* there is no observer of this name */
+    INCR_REFUSED_OBSERVED = 112,        /* the observer's name is in use */
+    INCR_REFUSED_UNSTABILIZED = 113,    /* no stabilize was accepted since the observer was made */
+    INCR_REFUSED_NOT_WHOLE = 114,       /* an after, an every or a freeze isn't the whole formula */
+    INCR_REFUSED_PAST = 115,            /* the time is before the clock */
+    INCR_REFUSED_TOO_LATE = 116,        /* a time or a span is too great */
+    INCR_REFUSED_NOT_RISING = 117,      /* the times of a steps don't rise strictly */
+    INCR_REFUSED_NO_SPAN = 118,         /* the span of an every is 0 */
+    INCR_REFUSED_TOO_MANY_PLACES = 119, /* the script would have more than 1,048,575 places */
+    INCR_REFUSED_CYCLE = 120,           /* what observers need, or what was passed through, has a cycle */
+    INCR_REFUSED_TOO_DEEP = 121,        /* what observers need, or what was passed through, is deeper than 128 */
+    INCR_REFUSED_BROKEN = 122,          /* an earlier stabilize was refused, and broke the session */
+    INCR_REFUSED_NO_LINK = 123,         /* the expert's list doesn't have this link */
+    INCR_REFUSED_TOO_MANY_LINKS = 124,  /* the expert's list has 4,096 links already */
+    INCR_REFUSED_TOO_NESTED = 125       /* more than 64 levels are open */
 };
+
+/* What an answer means, in a short sentence of ASCII. It is never null, and stays where it is; a number that no call answers has one too. */
+const char *incr_errstr(int32_t answer);
+
+/* The version of the library: INCR_VERSION where header and library are of one version. */
+int32_t incr_version(void);
 
 /* Opens a session in the slot: INCR_DONE. INCR_IS_OPEN where it has one already, INCR_NO_MEMORY where there is no memory;
    then the slot still has none. */
 int32_t incr_open(incr_slot *slot);
 
-/* Gives the session its next line: `length` bytes at `text`, without a newline. A line of more than 4,096 bytes is refused with 2,
+/* Gives the session its next line: `length` bytes at `text`, without a newline. A line of more than INCR_MAX_LINE bytes is refused with 2,
    and a carriage return at the end of another one is dropped, as the program does.
 
    What the line prints comes behind what is still to be read, and `*count` is how many bytes are to be read in all. Where that is
@@ -75,11 +122,11 @@ int32_t incr_open(incr_slot *slot);
    Where it is more, `out` stays as it was and nothing is lost: incr_rest, or the next line with enough room, hands all of it out.
 
    The answer tells how the line was taken, and not whether there was room: INCR_BLANK, INCR_ACCEPTED, INCR_REFUSED + n;
-   INCR_NO_SESSION with 0 to be read; INCR_TOO_MANY. INCR_REFUSED + 20 and + 21 come from a stabilize, and break the session: it answers
-   each later command with INCR_REFUSED + 22. With INCR_NO_MEMORY the line printed nothing: either the line changed nothing
-   and may be given again, or it is a stabilize that was carried out, whose notices can be read, or one that broke the session
+   INCR_NO_SESSION with 0 to be read; INCR_TOO_MANY. INCR_REFUSED_CYCLE and INCR_REFUSED_TOO_DEEP come from a stabilize, and break the
+   session: it answers each later command with INCR_REFUSED_BROKEN. With INCR_NO_MEMORY the line printed nothing: either the line changed
+   nothing and may be given again, or it is a stabilize that was carried out, whose notices can be read, or one that broke the session
    (docs/embedding.md). */
-int32_t incr_line(incr_slot *slot, const uint8_t *text, size_t length, uint8_t *out, size_t room, size_t *count);
+int32_t incr_line(incr_slot *slot, const char *text, size_t length, uint8_t *out, size_t room, size_t *count);
 
 /* Hands out what is still to be read, by the same rule: INCR_DONE, or INCR_NO_SESSION with 0 to be read. */
 int32_t incr_rest(incr_slot *slot, uint8_t *out, size_t room, size_t *count);
@@ -104,7 +151,7 @@ int32_t incr_close(incr_slot *slot);
 /* The same at the slot with this number, counted from 0, of an array of `slots_length`; INCR_NO_SLOT where there is none, and then
    nothing is written but 0 to `*count` or to all of `*told`. */
 int32_t incr_open_at(incr_slot *slots, size_t slots_length, size_t number);
-int32_t incr_line_at(incr_slot *slots, size_t slots_length, size_t number, const uint8_t *text, size_t length, uint8_t *out, size_t room,
+int32_t incr_line_at(incr_slot *slots, size_t slots_length, size_t number, const char *text, size_t length, uint8_t *out, size_t room,
                      size_t *count);
 int32_t incr_rest_at(incr_slot *slots, size_t slots_length, size_t number, uint8_t *out, size_t room, size_t *count);
 int32_t incr_notice_at(incr_slot *slots, size_t slots_length, size_t number, size_t notice, uint8_t *out, size_t room, incr_told *told);

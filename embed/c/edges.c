@@ -22,7 +22,7 @@ static void prints(const char *what, const char *wanted) {
 }
 
 static int32_t line(incr_slot *slot, const char *text) {
-    return incr_line(slot, (const uint8_t *)text, strlen(text), out, sizeof out, &count);
+    return incr_line(slot, text, strlen(text), out, sizeof out, &count);
 }
 
 static void tells(const char *what, incr_slot *slot, size_t notice, int32_t kind, const char *name, const char *before, const char *now) {
@@ -90,6 +90,21 @@ static void notices(void) {
     is("a notice behind it", incr_notice(&slot, 0, out, sizeof out, &told), INCR_NO_SESSION);
 }
 
+/* Words and versions. */
+static void words(void) {
+    int none = 0;
+    for (int32_t answer = -1000; answer < 1000; answer++) none += !incr_errstr(answer) || !*incr_errstr(answer);
+    is("an answer without words", none, 0);
+    is("words of a refusal", strcmp(incr_errstr(INCR_REFUSED + 4), "a name isn't declared"), 0);
+    is("words of a negative answer", strcmp(incr_errstr(INCR_NO_SESSION), "the slot has no session"), 0);
+    is("words of no answer", strcmp(incr_errstr(INT32_MIN), incr_errstr(INCR_REFUSED)), 0);
+    is("words of an unknown refusal", strcmp(incr_errstr(INT32_MAX), incr_errstr(INCR_REFUSED + 99)), 0);
+    is("which is one", strcmp(incr_errstr(INT32_MAX), incr_errstr(INCR_REFUSED)) != 0, 1);
+    is("the version", incr_version(), INCR_VERSION);
+    is("a refusal", INCR_IS_REFUSED(INCR_REFUSED_UNDECLARED) && !INCR_IS_REFUSED(INCR_ACCEPTED) && !INCR_IS_REFUSED(INCR_NO_MEMORY), 1);
+    is("and its number", INCR_REFUSAL(INCR_REFUSED_UNDECLARED), 4);
+}
+
 int main(void) {
     incr_slot slot = INCR_EMPTY, slots[3] = {INCR_EMPTY, INCR_EMPTY, INCR_EMPTY};
     is("a slot is 16 bytes", sizeof slot, 16);
@@ -114,29 +129,29 @@ int main(void) {
     is("an unknown name", line(&slot, "set z 1"), INCR_REFUSED + 4);
     prints("is told", "refused 4\n");
     is("a line with its newline", line(&slot, "stabilize\n"), INCR_REFUSED + 1);
-    is("an empty line", incr_line(&slot, out, 0, out, sizeof out, &count), INCR_BLANK);
+    is("an empty line", incr_line(&slot, (const char *)out, 0, out, sizeof out, &count), INCR_BLANK);
     is("null with length 0", incr_line(&slot, 0, 0, 0, 0, &count), INCR_BLANK);
 
     /* room */
     memset(out, 7, sizeof out);
-    is("too little room", incr_line(&slot, (const uint8_t *)"show o", 6, out, 5, &count), INCR_ACCEPTED);
+    is("too little room", incr_line(&slot, "show o", 6, out, 5, &count), INCR_ACCEPTED);
     is("tells how much there is", (long long)count, 6);
     is("and copies nothing", out[0], 7);
-    is("no room at all", incr_line(&slot, (const uint8_t *)"show o", 6, 0, 0, &count), INCR_ACCEPTED);
+    is("no room at all", incr_line(&slot, "show o", 6, 0, 0, &count), INCR_ACCEPTED);
     is("adds to it", (long long)count, 12);
     is("a note", line(&slot, "# note"), INCR_BLANK);
     prints("hands all of it out", "o = 7\no = 7\n");
     is("the rest of the room stays", out[12], 7);
     is("a rest", incr_rest(&slot, out, sizeof out, &count), INCR_DONE);
     is("has nothing more", (long long)count, 0);
-    incr_line(&slot, (const uint8_t *)"show o", 6, 0, 0, &count);
+    incr_line(&slot, "show o", 6, 0, 0, &count);
     is("a rest with too little room", incr_rest(&slot, out, 5, &count), INCR_DONE);
     is("tells how much there is", (long long)count, 6);
     is("a rest with room for it", incr_rest(&slot, out, 6, &count), INCR_DONE);
     prints("hands it out", "o = 7\n");
 
     /* long lines and other bytes */
-    static uint8_t big[1 << 20];
+    static char big[1 << 20];
     memset(big, ' ', sizeof big);
     is("4,096 spaces", incr_line(&slot, big, 4096, out, sizeof out, &count), INCR_BLANK);
     is("4,097 spaces", incr_line(&slot, big, 4097, out, sizeof out, &count), INCR_REFUSED + 2);
@@ -145,9 +160,9 @@ int main(void) {
     uint32_t chance = 1;
     int wrong = 0;
     for (int i = 0; i < 20000; i++) {
-        uint8_t bytes[64];
+        char bytes[64];
         size_t length = (chance = chance * 1664525u + 1013904223u) >> 26;
-        for (size_t k = 0; k < length; k++) bytes[k] = (uint8_t)((chance = chance * 1664525u + 1013904223u) >> 24);
+        for (size_t k = 0; k < length; k++) bytes[k] = (char)((chance = chance * 1664525u + 1013904223u) >> 24);
         int32_t how = incr_line(&slot, bytes, length, out, sizeof out, &count);
         wrong += how < 0 || count > 64;
     }
@@ -168,11 +183,11 @@ int main(void) {
     is("an open beyond the last", incr_open_at(slots, 3, 3), INCR_NO_SLOT);
     is("an open far beyond", incr_open_at(slots, 3, SIZE_MAX), INCR_NO_SLOT);
     is("an open of none", incr_open_at(slots, 0, 0), INCR_NO_SLOT);
-    is("a line by number", incr_line_at(slots, 3, 2, (const uint8_t *)"var x int 3", 11, out, sizeof out, &count), INCR_ACCEPTED);
+    is("a line by number", incr_line_at(slots, 3, 2, "var x int 3", 11, out, sizeof out, &count), INCR_ACCEPTED);
     prints("prints", "ok\n");
-    is("a line at another one", incr_line_at(slots, 3, 1, (const uint8_t *)"var x int 3", 11, out, sizeof out, &count), INCR_NO_SESSION);
+    is("a line at another one", incr_line_at(slots, 3, 1, "var x int 3", 11, out, sizeof out, &count), INCR_NO_SESSION);
     count = 7;
-    is("a line beyond", incr_line_at(slots, 3, 3, (const uint8_t *)"var x int 3", 11, out, sizeof out, &count), INCR_NO_SLOT);
+    is("a line beyond", incr_line_at(slots, 3, 3, "var x int 3", 11, out, sizeof out, &count), INCR_NO_SLOT);
     is("has nothing", (long long)count, 0);
     is("a rest by number", incr_rest_at(slots, 3, 2, out, sizeof out, &count), INCR_DONE);
     is("a rest beyond", incr_rest_at(slots, 3, 4, out, sizeof out, &count), INCR_NO_SLOT);
@@ -191,6 +206,7 @@ int main(void) {
     is("a close by number", incr_close_at(slots, 3, 2), INCR_DONE);
     is("a second one", incr_close_at(slots, 3, 2), INCR_NO_SESSION);
 
+    words();
     notices();
     printf("%d passed, %d failed\n", passed, failed);
     return failed != 0;

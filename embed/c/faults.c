@@ -27,7 +27,7 @@ static void print(incr_slot *session, size_t count) {
 static int32_t take(incr_slot *session, const char *text, size_t length) {
     size_t count;
     failing_watch(1);
-    int32_t how = incr_line(session, (const uint8_t *)text, length, room, room_length, &count);
+    int32_t how = incr_line(session, text, length, room, room_length, &count);
     print(session, count);
     failing_watch(0);
     return how;

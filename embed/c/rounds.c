@@ -8,7 +8,7 @@
 static uint8_t out[64];
 static size_t count;
 
-static void take(incr_slot *slot, const char *text, size_t length) { incr_line(slot, (const uint8_t *)text, length, out, sizeof out, &count); }
+static void take(incr_slot *slot, const char *text, size_t length) { incr_line(slot, text, length, out, sizeof out, &count); }
 
 int main(int argc, char **argv) {
     long rounds = argc > 1 ? atol(argv[1]) : 100000;

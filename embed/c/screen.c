@@ -43,9 +43,9 @@ static size_t fetch(incr_slot *session, size_t count) {
 
 /* Gives the session a line, and fetches what is handed out, `*count` bytes, whatever the answer. */
 static int32_t ask(incr_slot *session, const char *text, size_t length, size_t *count) {
-    int32_t how = incr_line(session, (const uint8_t *)text, length, room, room_length, count);
+    int32_t how = incr_line(session, text, length, room, room_length, count);
     *count = fetch(session, *count);
-    if (how < 0) fprintf(stderr, "screen: the session answers %d\n", (int)how);
+    if (how < 0) fprintf(stderr, "screen: %s\n", incr_errstr(how));
     return how;
 }
 
@@ -106,7 +106,7 @@ static int show_prices(incr_slot *session) {
         char text[64];
         snprintf(text, sizeof text, "set %s %d", TICKS[i].name, TICKS[i].price);
         int32_t how = tell(session, text);
-        if (how >= INCR_REFUSED) printf("%s is no price: %d\n", TICKS[i].name, (int)how - INCR_REFUSED);
+        if (INCR_IS_REFUSED(how)) printf("%s is no price: %s\n", TICKS[i].name, incr_errstr(how));
         well = how >= 0 && refresh(session);
     }
     return well;

@@ -1,6 +1,9 @@
 // Sessions of Garovymba for C++17: a class round a slot, which moves and isn't copied.
 #ifndef INCR_HPP
 #define INCR_HPP
+#if __cplusplus < 201703L
+#error "incr.hpp needs C++17"
+#else
 #include "incr.h"
 #include <new>
 #include <stdexcept>
@@ -11,13 +14,14 @@
 
 namespace incr {
 
-// How a line was taken: its number as in incr.h; what was printed and not handed out before; and how many bytes wait beside these,
+// How a line was taken: its number as in incr.h, and what that means in words; what was printed and not handed out before; and how many bytes wait beside these,
 // since there was no memory for them: the next answer, or `rest`, hands them out.
 struct answer {
     int32_t how;
     std::string printed;
     size_t waiting;
-    bool refused() const { return how >= INCR_REFUSED; }
+    bool refused() const { return INCR_IS_REFUSED(how); }
+    const char *words() const { return incr_errstr(how); }
 };
 
 // What a notice tells of an observer: what it shows at first, another value, or that what it shows turned to invalid.
@@ -57,10 +61,10 @@ public:
         const size_t before = held_.size();
         held_.resize(before + least_room);
         size_t count = 0;
-        const int32_t how = incr_line(&slot_, reinterpret_cast<const uint8_t *>(text.data()), text.size(), room(before), least_room, &count);
+        const int32_t how = incr_line(&slot_, text.data(), text.size(), room(before), least_room, &count);
         const size_t waiting = hold(before, least_room, count);
         if (how == INCR_NO_MEMORY) throw std::bad_alloc();
-        if (how < 0) throw ended(how == INCR_TOO_MANY ? "the session takes no more lines" : "there is no session");
+        if (how < 0) throw ended(incr_errstr(how));
         return answer{how, hand_out(), waiting};
     }
 
@@ -82,7 +86,7 @@ public:
             const int32_t what = read_notice(all.size(), room, told);
             if (what == INCR_NO_NOTICE) return all;
             if (what == INCR_NO_MEMORY) throw std::bad_alloc();
-            if (what < 0) throw ended("there is no session");
+            if (what < 0) throw ended(incr_errstr(what));
             all.push_back(notice{kind(what), room.substr(0, told.name), room.substr(told.name, told.before),
                                  room.substr(told.name + told.before, told.now)});
         }
@@ -91,7 +95,7 @@ public:
     // How many stabilizes were accepted: the number of the one whose notices can be read.
     uint64_t round() {
         incr_told told;
-        if (incr_notice(&slot_, SIZE_MAX, nullptr, 0, &told) == INCR_NO_SESSION) throw ended("there is no session");
+        if (incr_notice(&slot_, SIZE_MAX, nullptr, 0, &told) == INCR_NO_SESSION) throw ended(incr_errstr(INCR_NO_SESSION));
         return told.round;
     }
 
@@ -140,4 +144,5 @@ private:
 };
 
 } // namespace incr
+#endif
 #endif

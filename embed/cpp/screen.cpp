@@ -35,7 +35,7 @@ static void show_prices(incr::session &session) {
     refresh(session);
     for (const auto &[name, price] : TICKS) {
         const incr::answer answer = session.line("set " + std::string(name) + " " + std::to_string(price));
-        if (answer.refused()) std::cout << name << " is no price: " << answer.how - INCR_REFUSED << '\n';
+        if (answer.refused()) std::cout << name << " is no price: " << answer.words() << '\n';
         refresh(session);
     }
 }

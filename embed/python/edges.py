@@ -1,6 +1,7 @@
 """What the module does where a session is used wrongly. The last line is `N passed, M failed`."""
 
 import copy
+import ctypes
 import pickle
 import sys
 import threading
@@ -70,8 +71,25 @@ with incr.Session() as session:
     try:
         session.line("set z 1")
     except incr.Refused as refused:
-        is_so("a refusal has its number and its line", (refused.number, refused.printed) == (4, "refused 4"))
+        is_so("a refusal has its number and what was printed", (refused.number, refused.printed) == (4, "refused 4"))
+        is_so("and its words and its line", (refused.words, refused.line) == ("a name isn't declared", "set z 1"))
+        is_so("and tells them", str(refused) == "refused 4: a name isn't declared: set z 1")
+        is_so("and is pickled whole", str(pickle.loads(pickle.dumps(refused))) == str(refused))
+    try:
+        session.line(b"\xff" + b"#" * 4096)
+    except incr.Refused as refused:
+        is_so("a long line is told in part", str(refused) == "refused 2: the line has more than 4,096 bytes: \\xff" + "#" * 96 + "..")
+    lines = session.lines
+    for call in (session.line, session.give, session.run):
+        for other in (3, None, ["show o"], bytearray(b"show o")):
+            raises("%s of %r" % (call.__name__, other), TypeError, lambda: call(other))
+    is_so("what is no text isn't taken", session.lines == lines)
+    is_so("each call takes str", (session.give("show t"), session.run("show t")) == (session.give(b"show t"), session.run(b"show t")))
 is_so("the end of a `with` closes", session.closed)
+incr._LIBRARY.incr_errstr.restype = ctypes.c_char_p
+is_so("words are those of the library", all(incr.words(n) == incr._LIBRARY.incr_errstr(n).decode() for n in range(-1000, 1000)))
+version = [int(part) for part in incr.__version__.split(".")]
+is_so("the version is that of the library", incr._LIBRARY.incr_version() == 10000 * version[0] + 100 * version[1] + version[2])
 raises("a closed session", incr.Closed, lambda: session.line("show o"))
 raises("the notices of a closed session", incr.Closed, session.notices)
 raises("the count of a closed session", incr.Closed, lambda: session.round)

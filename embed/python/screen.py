@@ -42,7 +42,7 @@ def show_prices(session):
         try:
             session.line("set %s %d" % (name, price))
         except incr.Refused as refused:
-            print("%s is no price: %d" % (name, refused.number))
+            print("%s is no price: %s" % (name, refused.words))
         refresh(session)
 
 

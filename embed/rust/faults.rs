@@ -1,8 +1,6 @@
 //! As c/faults.c, by `Session`. What Rust allocates fails in its turn too.
 
-mod incr;
-
-use incr::{Fault, Session};
+use garovymba::{Fault, Session};
 use std::error::Error;
 use std::io::{BufWriter, Write, stdout};
 use std::os::raw::{c_int, c_long, c_uint};

@@ -1,8 +1,6 @@
 //! Rounds of `set`, `stabilize`, `show` for timing: rounds [COUNT]. Prints the last answer, and the seconds to standard error.
 
-mod incr;
-
-use incr::{Fault, Session};
+use garovymba::{Fault, Session};
 use std::io::Write;
 use std::time::Instant;
 

@@ -1,8 +1,6 @@
 //! A price screen, as c/screen.c is. With the name of a script it runs that one instead, and prints the transcript.
 
-mod incr;
-
-use incr::{Kind, Session, Took};
+use garovymba::{Kind, Session, Took};
 use std::error::Error;
 use std::io::{BufWriter, Write, stdout};
 
@@ -69,8 +67,9 @@ fn main() -> Result<(), Box<dyn Error>> {
     }
     refresh(&mut session, &mut out)?;
     for (name, price) in TICKS {
-        if let (Took::Refused(number), _) = session.line(format!("set {name} {price}").as_bytes())? {
-            writeln!(out, "{name} is no price: {number}")?;
+        let (took, _) = session.line(format!("set {name} {price}").as_bytes())?;
+        if let Took::Refused(_) = took {
+            writeln!(out, "{name} is no price: {}", took.words())?;
         }
         refresh(&mut session, &mut out)?;
     }

@@ -13,9 +13,10 @@ mod syntax;
 mod values;
 mod writer;
 
-#[cfg(library)]
-#[cfg_attr(translated, path = "translated.rs")]
-#[cfg_attr(not(translated), path = "../../embed/rust/incr.rs")]
+#[cfg(all(library, not(translated)))]
+extern crate garovymba as incr;
+#[cfg(translated)]
+#[path = "translated.rs"]
 mod incr;
 #[cfg(library)]
 mod run;

@@ -1,4 +1,4 @@
-//! Sessions as `embed/rust/incr.rs` has them, over the crates as they are translated to plain Rust. Each third line, if it
+//! Sessions as the crate `embed/rust/garovymba` has them, over the crates as they are translated to plain Rust. Each third line, if it
 //! is no stabilize, finds memory a few times and then no more. That is to change nothing, so it is given once more.
 
 use kit::{AllocError, Global, Vec};

@@ -12,19 +12,29 @@
 
 Nothing that was printed is lost for want of memory: it waits in the session, and the next answer, or `rest`, hands it out.
 
-The shared library is libincr.so in the folder that INCR_LIBRARY names, beside this file, or in ../out.
+Each call takes str or bytes, and raises TypeError for anything else.
+
+The shared library is libincr.so in the folder that INCR_LIBRARY names, else beside this file, as the wheel has it, else in embed/out.
 """
 
-import collections
+from __future__ import annotations
+
 import ctypes
 import enum
 import os
 import pathlib
 import threading
+import typing
 
-NO_SESSION, NO_MEMORY, TOO_MANY, IS_OPEN = -1, -2, -3, -5
-BLANK, ACCEPTED, REFUSED = 0, 1, 100
-NO_NOTICE = 0
+from ._words import ACCEPTED, BLANK, DONE, IS_OPEN, NO_MEMORY, NO_NOTICE, NO_SESSION, NO_SLOT, REFUSED, TOO_MANY, words
+
+__version__ = "0.1.0"
+__all__ = [
+    "Session", "Notice", "Kind", "IncrError", "Refused", "Closed", "NoMemory", "TooManyLines", "WrongThread", "words",
+    "BLANK", "ACCEPTED", "DONE", "REFUSED", "NO_NOTICE", "NO_SESSION", "NO_MEMORY", "TOO_MANY", "NO_SLOT", "IS_OPEN",
+]
+
+Text = typing.Union[str, bytes]
 NO_NUMBER = ctypes.c_size_t(-1).value
 
 
@@ -34,9 +44,15 @@ class Kind(enum.IntEnum):
     INIT, CHANGE, INVALID = 1, 2, 3
 
 
-# A notice: its kind, the observer's name, which is empty where the observer ended since, what was told of it before, which only a change has, and
-# what it shows now, both as `show` prints them.
-Notice = collections.namedtuple("Notice", "kind name before now")
+class Notice(typing.NamedTuple):
+    """A notice: its kind, the observer's name, which is empty where the observer ended since, what was told of it before, which only a
+    change has, and what it shows now, both as `show` prints them.
+    """
+
+    kind: Kind
+    name: str
+    before: str
+    now: str
 
 
 class IncrError(Exception):
@@ -44,14 +60,23 @@ class IncrError(Exception):
 
 
 class Refused(IncrError):
-    """The session refused a line, with this number; `printed` is what was printed.
+    """The session refused a line: `number` is that of docs/language.md, `words` what it means, `printed` what was printed, and `line` what
+    was given.
 
     The session stays as it was, but where the line is a stabilize: that one breaks it, and each command behind it is refused with 22.
     """
 
-    def __init__(self, number, printed):
-        super().__init__("refused %d" % number)
-        self.number, self.printed = number, printed
+    def __init__(self, number: int, printed: str, line: Text) -> None:
+        super().__init__(number, printed, line)
+        self.number, self.printed, self.line = number, printed, line
+
+    @property
+    def words(self) -> str:
+        return words(REFUSED + self.number)
+
+    def __str__(self) -> str:
+        line = self.line.decode("utf-8", "backslashreplace") if isinstance(self.line, bytes) else self.line
+        return "refused %d: %s: %s" % (self.number, self.words, line if len(line) <= 100 else line[:100] + "..")
 
 
 class Closed(IncrError):
@@ -84,7 +109,7 @@ class _Told(ctypes.Structure):
 def _library():
     here = pathlib.Path(__file__).resolve().parent
     named = os.environ.get("INCR_LIBRARY")
-    folders = [pathlib.Path(named)] if named else [here, here.parent / "out"]
+    folders = [pathlib.Path(named)] if named else [here, here.parent.parent / "out"]
     for folder in folders:
         if (folder / "libincr.so").exists():
             library = ctypes.CDLL(str(folder / "libincr.so"))
@@ -105,6 +130,14 @@ def _library():
 _LIBRARY = _library()
 
 
+def _bytes(text: Text) -> bytes:
+    if isinstance(text, str):
+        return text.encode()
+    if isinstance(text, bytes):
+        return text
+    raise TypeError("a line is str or bytes, and not %s" % type(text).__name__)
+
+
 class Session:
     """A session: a script in the making. It is used by the thread that made it, and closed at the end of a `with`.
 
@@ -116,52 +149,52 @@ class Session:
     # What was printed and not handed out stands in `_pieces`, and behind these are `_count` bytes: in `_room` where they fit, else
     # in the library. Where an allocation fails between two steps each byte is still in one of these places, or in `last`.
 
-    def __init__(self):
+    def __init__(self) -> None:
         self.lines, self.last = 0, b""
         self._slot, self._count, self._pieces = _Slot(), ctypes.c_size_t(), []
         self._at, self._counted = ctypes.byref(self._slot), ctypes.byref(self._count)
         self._room, self._thread = ctypes.create_string_buffer(256), threading.get_ident()
-        if _LIBRARY.incr_open(self._at) != 1:
-            raise NoMemory("no memory for a session")
+        if _LIBRARY.incr_open(self._at) != DONE:
+            raise NoMemory(words(NO_MEMORY))
 
-    def give(self, text):
-        """Gives the session a line of bytes, without its newline: how it was taken, as in incr.h, and the bytes that it prints.
+    def give(self, text: Text) -> typing.Tuple[int, bytes]:
+        """Gives the session a line, without its newline: how it was taken, as in incr.h, and the bytes that it prints.
 
         What waited comes in front of them.
         """
-        return self._take(text), self._hand_out()
+        return self._take(_bytes(text)), self._hand_out()
 
-    def line(self, text):
+    def line(self, text: Text) -> str:
         """Gives the session a line, and answers what it prints, without the newline at its end; raises `Refused` where it is refused.
 
         What waited comes in front, each line with its newline.
         """
-        how = self._take(text.encode() if isinstance(text, str) else bytes(text))
+        how = self._take(_bytes(text))
         told = self._hand_out().decode("ascii")
         if told.endswith("\n"):
             told = told[:-1]
         if how >= REFUSED:
-            raise Refused(how - REFUSED, told)
+            raise Refused(how - REFUSED, told, text)
         return told
 
-    def run(self, script):
-        """Gives the session each line of a script of bytes, and answers its transcript, refusals too.
+    def run(self, script: Text) -> bytes:
+        """Gives the session each line of a script, and answers its transcript, refusals too.
 
         Where a line raises, what was printed before it waits, and `lines` tells how many were taken.
         """
-        lines = script.split(b"\n")
+        lines = _bytes(script).split(b"\n")
         if not lines[-1]:
             lines.pop()
         for line in lines:
             self._take(line)
         return self._hand_out()
 
-    def rest(self):
+    def rest(self) -> bytes:
         """The bytes that wait: what was printed and not handed out, where memory was wanting or a line of `run` raised."""
         self._check()
         return self._hand_out()
 
-    def notices(self):
+    def notices(self) -> typing.List[Notice]:
         """What the last accepted stabilize told: a `Notice` of each observer of which it told something, in the order in which these were made.
 
         The notices can be read until the next accepted stabilize, also where that one raised NoMemory. Reading changes nothing.
@@ -176,24 +209,24 @@ class Session:
             elif what == NO_NOTICE:
                 return notices
             elif what == NO_MEMORY:
-                raise NoMemory("no memory for a notice")
+                raise NoMemory(words(NO_MEMORY))
             elif what == NO_SESSION:
-                raise Closed("the session was closed")
+                raise Closed(words(NO_SESSION))
             else:
                 text = ctypes.string_at(room, length).decode("ascii")
                 name, before = told.name, told.name + told.before
                 notices.append(Notice(Kind(what), text[:name], text[name:before], text[before:]))
 
     @property
-    def round(self):
+    def round(self) -> int:
         """How many stabilizes were accepted: the number of the one whose notices can be read."""
         self._check()
         told = _Told()
         if _LIBRARY.incr_notice(self._at, NO_NUMBER, None, 0, ctypes.byref(told)) == NO_SESSION:
-            raise Closed("the session was closed")
+            raise Closed(words(NO_SESSION))
         return told.round
 
-    def close(self):
+    def close(self) -> None:
         """Ends the session, and lets go of what waits. A second close does nothing."""
         if self._slot.live:
             self._check()
@@ -202,7 +235,7 @@ class Session:
         self._count.value = 0
 
     @property
-    def closed(self):
+    def closed(self) -> bool:
         return self._slot.live == 0
 
     def _take(self, text):
@@ -217,10 +250,10 @@ class Session:
             self.lines = lines
             return how
         if how == NO_SESSION:
-            raise Closed("the session was closed")
+            raise Closed(words(NO_SESSION))
         if how == TOO_MANY:
-            raise TooManyLines("the session takes no more lines")
-        raise NoMemory("no memory for a line")
+            raise TooManyLines(words(TOO_MANY))
+        raise NoMemory(words(NO_MEMORY))
 
     def _keep(self):
         """Puts what waits in the library or in the room behind the pieces."""
@@ -244,10 +277,10 @@ class Session:
         if threading.get_ident() != self._thread:
             raise WrongThread("the session belongs to another thread")
 
-    def __enter__(self):
+    def __enter__(self) -> Session:
         return self
 
-    def __exit__(self, *raised):
+    def __exit__(self, *raised: object) -> None:
         self.close()
 
     def __del__(self):

@@ -1,36 +1,9 @@
-//! Sessions of Garovymba for Rust: a safe type round a slot. It needs libincr.a, and nothing else.
+//! Sessions of Garovymba: a safe type round a slot of `garovymba_sys`.
 
-// (a program that has this file as a module need not call all of it)
-#![allow(dead_code)]
+mod words;
 
-use std::fmt;
-use std::os::raw::c_void;
+use garovymba_sys::{incr_close, incr_line, incr_notice, incr_open, incr_rest, incr_slot, incr_told};
 use std::ptr::null_mut;
-
-/// Where a session is kept.
-#[repr(C)]
-struct Slot {
-    live: u64,
-    at: *mut c_void,
-}
-
-/// What is told of a notice beside its bytes.
-#[repr(C)]
-#[derive(Default)]
-struct Told {
-    round: u64,
-    name: usize,
-    before: usize,
-    now: usize,
-}
-
-unsafe extern "C" {
-    fn incr_open(slot: *mut Slot) -> i32;
-    fn incr_line(slot: *mut Slot, text: *const u8, length: usize, out: *mut u8, room: usize, count: *mut usize) -> i32;
-    fn incr_rest(slot: *mut Slot, out: *mut u8, room: usize, count: *mut usize) -> i32;
-    fn incr_notice(slot: *mut Slot, notice: usize, out: *mut u8, room: usize, told: *mut Told) -> i32;
-    fn incr_close(slot: *mut Slot) -> i32;
-}
 
 /// How a line was taken.
 #[derive(Clone, Copy, Debug, PartialEq, Eq)]
@@ -73,15 +46,6 @@ pub enum Fault {
     TooManyLines,
 }
 
-impl fmt::Display for Fault {
-    fn fmt(&self, f: &mut fmt::Formatter<'_>) -> fmt::Result {
-        f.write_str(match self {
-            Fault::NoMemory => "no memory",
-            Fault::TooManyLines => "the session takes no more lines",
-        })
-    }
-}
-
 impl std::error::Error for Fault {}
 
 /// A session. The pointer in it keeps it on its thread: it is neither `Send` nor `Sync`, and it isn't `Clone`. Moving it moves the
@@ -89,7 +53,7 @@ impl std::error::Error for Fault {}
 ///
 /// Nothing that was printed is lost for want of memory: what isn't handed out waits, and the next answer, or `rest`, hands it out.
 pub struct Session {
-    slot: Slot,
+    slot: incr_slot,
     room: Vec<u8>,
     /// How many bytes at the front of the room were read from the session and not handed out.
     held: usize,
@@ -98,7 +62,7 @@ pub struct Session {
 
 impl Session {
     pub fn open() -> Result<Session, Fault> {
-        let mut slot = Slot { live: 0, at: null_mut() };
+        let mut slot = incr_slot { live: 0, at: null_mut() };
         // SAFETY: the slot is zeros, and nothing else refers to it.
         match unsafe { incr_open(&mut slot) } {
             1 => Ok(Session { slot, room: Vec::new(), held: 0, waiting: 0 }),
@@ -114,14 +78,14 @@ impl Session {
         // SAFETY: the slot has the session that `open` put there, text and room are as long as is said, and nothing else refers to
         // the slot, the room or the count.
         let how = unsafe {
-            incr_line(&mut self.slot, text.as_ptr(), text.len(), self.room.as_mut_ptr().add(self.held), given, &mut count)
+            incr_line(&mut self.slot, text.as_ptr().cast(), text.len(), self.room.as_mut_ptr().add(self.held), given, &mut count)
         };
         self.hold(given, count);
         let took = match how {
             0 => Took::Blank,
             1 => Took::Accepted,
             -3 => return Err(Fault::TooManyLines),
-            refused @ 100..=355 => Took::Refused((refused - 100) as u8),
+            refused @ 101..=355 => Took::Refused((refused - 100) as u8),
             _ => return Err(Fault::NoMemory),
         };
         Ok((took, self.hand_out()))
@@ -180,8 +144,8 @@ impl Session {
     }
 
     /// Reads the notice with this number where there is room for it: what the library answers, and what it tells beside.
-    fn read_notice(&mut self, number: usize, room: &mut [u8]) -> (i32, Told) {
-        let mut told = Told::default();
+    fn read_notice(&mut self, number: usize, room: &mut [u8]) -> (i32, incr_told) {
+        let mut told = incr_told::default();
         // SAFETY: as in `line`.
         let what = unsafe { incr_notice(&mut self.slot, number, room.as_mut_ptr(), room.len(), &mut told) };
         (what, told)
