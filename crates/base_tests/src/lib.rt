@@ -10,6 +10,8 @@ mod builder;
 #[cfg(test)]
 mod expert_lists;
 #[cfg(test)]
+mod last_calls;
+#[cfg(test)]
 mod links;
 #[cfg(test)]
 mod needed_graph;
