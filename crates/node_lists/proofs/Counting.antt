@@ -1,10 +1,10 @@
 -- How many of the nodes in a list are live, and how many are counted dead.
-use Rattle.std.proofs.Common.{◌≡◌, ◌∙◌, inl, inr, ℕ, suc, zero, ◌+◌, ◌-◌, ◌*◌, ◌^◌, ◌<◌, ◌≤◌, ltb, Bool, true, false, cond, List, [], ◌∷◌, length, Some, IsSome, is_some, slice_get, refl, sym, ap, subst, arith}
+use Rattle.std.proofs.Common.{◌≡◌, ◌∙◌, inl, inr, ℕ, suc, ◌+◌, ◌-◌, ◌*◌, ◌^◌, ◌<◌, ◌≤◌, ltb, Bool, true, false, cond, List, [], ◌∷◌, length, Some, IsSome, is_some, slice_get, refl, sym, ap, subst, arith}
 use Rattle.std.specs.List.{filter, count_by}
 use Rattle.std.proofs.lemmas.Bool.{cond_both, ltb-true, lt-ltb}
 use Rattle.std.proofs.lemmas.Bool.Decides.{leb_tells}
 use Rattle.std.proofs.lemmas.List.Sums.{sum_by-cons, count_by-le-length, length-filter}
-use Rattle.inc_value.specs.Choice.{Among, NoRepeats}
+use Rattle.inc_value.specs.Choice.{Among}
 use Rattle.inc_value.specs.Counts.{raised}
 use Rattle.inc_value.specs.declared.node.NodeId.{NodeId}
 use Rattle.node_arena.specs.Arena.{Arena, IsLive, row_at}
@@ -188,19 +188,3 @@ pub place_of : (n : NodeId) (ns : List NodeId) → Among n ns → (place : ℕ) 
 place_of n [] h = absurd h
 place_of n (x ∷ xs) (inl e) = (0, (omega arith), ap Some (sym e))
 place_of n (x ∷ xs) (inr h) = let r = place_of n xs h in (suc r.0, (let k = r.1 in omega (arith, k)), r.2)
-
--- and the node at a place is listed
-pub at_place : (ns : List NodeId) (place : ℕ) (n : NodeId) → slice_get ns place ≡ Some n → Among n ns
-at_place [] place n e = absurd (cc)
-at_place (x ∷ xs) zero n e = inl (cc)
-at_place (x ∷ xs) (suc place) n e = inr (at_place xs place n e)
-
--- where none is twice, a node has one place
-pub place_once : (ns : List NodeId) (i j : ℕ) (n : NodeId) → NoRepeats ns → slice_get ns i ≡ Some n → slice_get ns j ≡ Some n → i ≡ j
-place_once [] i j n once a b = absurd (cc)
-place_once (x ∷ xs) zero zero n once a b = refl
-place_once (x ∷ xs) zero (suc j) n once a b =
-    let same : n ≡ x = cc in absurd (once.0 (subst (λ z. Among z xs) same (at_place xs j n b)))
-place_once (x ∷ xs) (suc i) zero n once a b =
-    let same : n ≡ x = cc in absurd (once.0 (subst (λ z. Among z xs) same (at_place xs i n a)))
-place_once (x ∷ xs) (suc i) (suc j) n once a b = ap suc (place_once xs i j n once.1 a b)

@@ -60,16 +60,9 @@ module _ (m : Rows Row) (once : StandsOnce m.places) (p : Point) where
   some_height None s = let f = s in absurd cc
   some_height (Some r) s = refl
 
-  some_row : (o : Option Row) → IsSome o → IsSome (option_and_then height_in o)
-  some_row None s = let f = s in absurd cc
-  some_row (Some r) s = refl
-
   -- a point with a height has a row
   pub holds_row : Holds (heights_of m) p → Holds m p
   holds_row h = some_height (at m p) (rw (← height_at) h)
-
-  pub holds_height : Holds m p → Holds (heights_of m) p
-  holds_height h = rw height_at (some_row (at m p) h)
 
 pub above_back : (n : ℕ) → unwrap_or (above_zero n) 0 ≡ n
 above_back zero = refl

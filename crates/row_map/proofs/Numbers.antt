@@ -176,13 +176,6 @@ module _ {R : Type 0} where
             (row_removed m.places new.places i p was once there (place_changes m new i None turn));
       }
 
-  -- numbers that say the same
-  pub numbered_still : (numbers kept : Rows ℕ) (m : Rows R) → IsNumbered numbers m → ((p : Point) → at kept p ≡ at numbers p) → IsNumbered kept m
-  numbered_still numbers kept m by same = record {
-    stands = λ p i h. by.stands p i (sym (same p) ∙ h);
-    number = λ p i row h. same p ∙ by.number p i row h;
-  }
-
   -- what is added stands at a place that was vacant
   pub vacant_place : (slots : List (Option (Entry R))) (i : ℕ) → slice_index_or slots i None ≡ None → standing (rows_of slots) i ≡ None
   vacant_place slots i none = seen_at slots i ∙ ap (option_map pair_of) none

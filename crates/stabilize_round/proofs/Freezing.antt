@@ -6,8 +6,8 @@ use Rattle.inc_value.specs.declared.value.Value.{Value}
 use Rattle.inc_value.specs.declared.value.Value.TheVariants as value
 use Rattle.inc_terms.specs.Graph as graph
 use Rattle.inc_terms.specs.Graph.{Row, Def}
-use Rattle.stabilize_round.specs.State.{State, Call}
-use Rattle.stabilize_round.specs.Freezing.{found_in, fires, row_fires, fires_at, or_else, graph_after}
+use Rattle.stabilize_round.specs.State.{Call}
+use Rattle.stabilize_round.specs.Freezing.{found_in, fires, row_fires, or_else}
 
 -- none whose predicate was never called
 pub never_called : (def : Def) (frozen : Option Value) → fires def frozen None ≡ None
@@ -74,22 +74,3 @@ rests x frozen e = rw e refl
 
 pub kept_now : (x frozen : Option Value) (v : Value) → x ≡ Some v → or_else x frozen ≡ Some v
 kept_now x frozen v e = rw e refl
-
--- ---- graphs without freezes that fire
-
--- a node that is no freeze doesn't fire
-pub other_rests : (s : State) (n : NodeId) → ((r : Row) (kid : NodeId) (f : FnRef) → s.graph.row n ≡ Some r → r.def ≡ graph.Freeze kid f → ⊥)
-    → fires_at s n ≡ None
-other_rests s n none = by_row (s.graph.row n) refl
-  where
-    by_def : (r : Row) → s.graph.row n ≡ Some r → (def : Def) → r.def ≡ def → fires def (s.graph.frozen n) (s.last n) ≡ None
-    by_def r row (graph.Freeze kid f) is = absurd (none r kid f row is)
-    by_def r row _ is = refl
-
-    by_row : (x : Option Row) → s.graph.row n ≡ x → row_fires x (s.graph.frozen n) (s.last n) ≡ None
-    by_row None row = refl
-    by_row (Some r) row = by_def r row r.def refl
-
--- where none fires the graph stays
-pub graph_rests : (s : State) → ((n : NodeId) → fires_at s n ≡ None) → graph_after s ≡ s.graph
-graph_rests s none = λ i. record s.graph { frozen = λ n. rests (fires_at s n) (s.graph.frozen n) (none n) i }
