@@ -1,5 +1,5 @@
 //! Lines built in an arena.
-ghost use Rattle.std.specs.Prelude.{◌≡◌, map, option_map, slice_get, Ok, IfOk, IsErr, OnOk, OnErr, IsErrOf};
+ghost use Rattle.std.specs.Prelude.{◌≡◌, ◌≤◌, length, map, option_map, slice_get, vec_capacity, Ok, IfOk, IsOk, IsErr, OnOk, OnErr, IsErrOf};
 ghost use Rattle.inc_value.specs.Value.{type_of};
 ghost use Rattle.inc_terms.specs.Graph.{Const, Map, Fold, If, Join, Bind, Steps};
 ghost use Rattle.node_arena.specs.Arena.{IsFull};
@@ -38,21 +38,25 @@ fn node_of(listed: &[ListedNode], captures: &[NodeId], made: &[NodeId], part: Pa
     node.unwrap_or_default()
 }
 
-/// The nodes that parts stand for.
-fn nodes_of(
-    alloc: Global,
+/// Lists the nodes that parts stand for, in place of those that were listed. This asks for memory only where there are more
+/// than the list has room for.
+fn list_nodes(
     listed: &[ListedNode],
     captures: &[NodeId],
     made: &[NodeId],
     parts: &[Part],
-) -> Result<Vec<NodeId>, AllocError>
-    ensures { IfOk result (λ nodes. nodes.items ≡ map (node_of listed.now captures.now made.now) parts.now) }
+    nodes: &mut Vec<NodeId>,
+) -> Result<(), AllocError>
+    ensures nodes { OnOk result (nodes.new.items ≡ map (node_of listed.now captures.now made.now) parts.now) }
+    ensures succeeds { length parts.now ≤ vec_capacity nodes.old → IsOk result }
+    ensures room { vec_capacity nodes.old ≤ vec_capacity nodes.new }
 {
-    let mut nodes = Vec::new(alloc);
+    nodes.clear();
+    nodes.reserve(parts.len())?;
     for part in parts {
-        nodes.push(node_of(listed, captures, made, *part))?;
+        nodes.push_reserved(node_of(listed, captures, made, *part));
     }
-    Ok(nodes)
+    Ok(())
 }
 
 /// The node, or why it isn't built, where its ids were given and its types fit.
@@ -233,13 +237,14 @@ fn add_over(
     }
 }
 
-/// Adds the node of a line, where its parts are of the types that it wants.
+/// Adds the node of a line, where its parts are of the types that it wants. The nodes of its list are listed in `nodes`.
 fn add_line(
     alloc: Global,
     listed: &[ListedNode],
     captures: &[NodeId],
     made: &[NodeId],
     row: &TypedLine,
+    nodes: &mut Vec<NodeId>,
     builder: &mut Builder,
 ) -> Result<NodeId, BuildFault>
     requires ready { IsReady builder.old (filled listed.now captures.now made.now row.now.line) row.now.ty }
@@ -249,23 +254,21 @@ fn add_line(
     ensures err { OnErr result (builder.new ≡ builder.old) }
 {
     let parts = parts_in_list(&row.line);
-    match nodes_of(alloc, listed, captures, made, parts) {
-        Ok(nodes) => {
-            let added = add_over(alloc, listed, captures, made, row, &nodes, builder);
-            drop(nodes);
-            added
-        }
+    match list_nodes(listed, captures, made, parts, nodes) {
+        Ok(()) => add_over(alloc, listed, captures, made, row, nodes, builder),
         Err(AllocError) => Err(BuildFault::Memory),
     }
 }
 
-/// Adds the node of a line, where its parts are of the types that it wants, and notes it.
+/// Adds the node of a line, where its parts are of the types that it wants, and notes it. The nodes of its list are listed in
+/// `nodes`.
 fn add_next(
     alloc: Global,
     listed: &[ListedNode],
     captures: &[NodeId],
     made: &mut Vec<NodeId>,
     row: &TypedLine,
+    nodes: &mut Vec<NodeId>,
     builder: &mut Builder,
 ) -> Result<(), BuildFault>
     requires ready { IsReady builder.old (filled listed.now captures.now made.old.items row.now.line) row.now.ty }
@@ -277,7 +280,7 @@ fn add_next(
     if made.reserve(1).is_err() {
         return Err(BuildFault::Memory);
     }
-    let id = add_line(alloc, listed, captures, made, row, builder)?;
+    let id = add_line(alloc, listed, captures, made, row, nodes, builder)?;
     made.push_reserved(id);
     Ok(())
 }
@@ -303,7 +306,7 @@ fn add_left(
     Ok(())
 }
 
-/// Builds the lines of a body, and gives the nodes of all, line 0 first.
+/// Builds the lines of a body, and gives the nodes of all, line 0 first. One list serves all lines.
 fn build_lines(
     alloc: Global,
     body: &Body,
@@ -319,9 +322,18 @@ fn build_lines(
     let draft = body.draft();
     let lines = draft.lines();
     let mut made = Vec::new(alloc);
+    let mut nodes = Vec::new(alloc);
     add_left(alloc, left, &mut made, builder)?;
     for row in lines {
-        add_next(alloc, draft.listed(), captures, &mut made, row, builder)?;
+        add_next(
+            alloc,
+            draft.listed(),
+            captures,
+            &mut made,
+            row,
+            &mut nodes,
+            builder,
+        )?;
     }
     Ok(made)
 }
