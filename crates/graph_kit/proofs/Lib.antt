@@ -1,0 +1,5 @@
+mod Assigning
+mod Forking
+mod Seeing
+mod Shown
+mod Typing

@@ -1,0 +1,5 @@
+pub mod Setting
+pub mod Settled
+pub mod Shown
+pub mod Trees
+pub mod Typed
