@@ -179,7 +179,7 @@ module _ (rows : Rows Progress) where
 -- ---- what a node gives whose function is called on what its children show
 
 unmoved : (rows : Rows Progress) (n : NodeId) (kept : Progress) → at rows (main n) ≡ Some kept → IsRewritten rows rows (main n) (with_last kept.last)
-unmoved rows n kept e = record { changed = rw e refl; others = λ q ne. refl; points = λ i. refl }
+unmoved rows n kept e = record { changed = rw e refl; others = λ q ne. refl }
 
 no_rise : (n : ℕ) → RoseBy n 0 n
 no_rise n = record { kept = omega arith; most = omega arith; exact = λ h. omega arith }

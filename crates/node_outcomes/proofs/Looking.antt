@@ -1,8 +1,7 @@
 -- What a look at the children of a node tells, and what is known of the node then.
-use Rattle.std.proofs.Common.{◌≡◌, inl, inr, ℕ, Bool, true, false, List, [], ◌∷◌, ◌++◌, Option, None, Some, refl, sym, ap, subst, ◌∙◌}
+use Rattle.std.proofs.Common.{◌≡◌, inl, inr, ℕ, Bool, true, false, List, [], ◌∷◌, Option, None, Some, refl, sym, ap, subst, ◌∙◌}
 use Rattle.std.specs.Prelude.{◌||◌, option_and_then, Result, Ok, Err}
 use Rattle.std.specs.List.{AllZip}
-use Rattle.std.proofs.lemmas.Option.{same_Some}
 use Rattle.inc_value.specs.declared.node.NodeId.{NodeId}
 use Rattle.inc_value.specs.declared.node.Point.{Point}
 use Rattle.inc_value.specs.declared.outcome.Outcome.{Outcome}
@@ -10,37 +9,17 @@ use Rattle.inc_value.specs.declared.outcome.Outcome.TheVariants.{Val, Invalid}
 use Rattle.inc_value.specs.declared.ty.Ty.{Ty}
 use Rattle.inc_value.specs.declared.value.Value.{Value}
 use Rattle.inc_terms.specs.Depend.{main}
-use Rattle.point_map.specs.Lends.{IsWritten}
-use Rattle.point_map.specs.Rows.{KeepsRows, Rows, at}
+use Rattle.point_map.specs.Rows.{KeepsRows, Rows, at, Changes}
 use Rattle.stabilize_round.proofs.Points.{same_or_other}
 use Rattle.stabilize_round.specs.State.{Call}
-use Rattle.node_outcomes.specs.Computing.{AllShow, Calls, ComputesCall, IsKnown, IsMade, LastWas, MustCall, ShowsValue, forced_by, last_in, noted, value_shown}
+use Rattle.node_outcomes.specs.Computing.{AllShow, Calls, ComputesCall, IsKnown, IsMade, LastWas, MustCall, ShowsValue, forced_by, last_in, noted}
 use Rattle.node_outcomes.specs.Lacking.{HasText, LacksRoom, gives_text, ran_full, sees_text}
-use Rattle.node_outcomes.specs.LastCall.{Last, call_of}
-use Rattle.node_outcomes.specs.Looking.{IsKnownOn, IsLook, IsLookAt, LacksCall}
+use Rattle.node_outcomes.specs.LastCall.{Last}
+use Rattle.node_outcomes.specs.Looking.{IsKnownOn, LacksCall}
 use Rattle.node_outcomes.specs.Progress.{Progress}
-use Rattle.node_outcomes.specs.Row.{passes_in, with_call, with_lent}
-use Rattle.node_outcomes.specs.declared.sight.Told.{Told}
-use Rattle.node_outcomes.specs.declared.sight.Told.TheVariants as told
+use Rattle.node_outcomes.specs.Row.{with_call, with_lent}
 use Rattle.node_outcomes.proofs.Computing.{filter_is_values}
 use Rattle.node_outcomes.proofs.Rewriting.{rewritten}
-
--- the values of a call are those that are kept
-pub call_values : (values : Option (List Value)) (given : Option Value) (c : Call) → call_of values given ≡ Some c → values ≡ Some c.arguments
-call_values None given c e = cc
-call_values (Some xs) None c e = cc
-call_values (Some xs) (Some v) c e = ap (λ (x : Call). Some x.arguments) (same_Some _ c e)
-
--- no call is kept without a result
-pub none_given : (values : Option (List Value)) → call_of values None ≡ None
-none_given None = refl
-none_given (Some xs) = refl
-
--- ---- looks
-
-or_nothing : (b : Bool) → (b || false) ≡ b
-or_nothing true = refl
-or_nothing false = refl
 
 -- the last call of a node by its row
 last_of : (rows : Rows Progress) (n : NodeId) (k : Progress) → at rows (main n) ≡ Some k → last_in rows n ≡ k.last
@@ -50,32 +29,6 @@ pub last_was : (rows : Rows Progress) (n : NodeId) (k : Progress) (c : Call) →
 last_was rows n k c there is = last_of rows n k there ∙ is
 
 module _ (round : ℕ) (rows : Rows Progress) where
-  -- a node that shows no value isn't among those that all do
-  shows_none : (n : NodeId) (ns : List NodeId) → value_shown rows n ≡ None → AllShow rows (n ∷ ns) → ⊥
-  shows_none n ns none all = absurd (let some = rw none at all.0 in cc)
-
-  -- a look at one node alone
-  pub look_one : (t : Told) (n : NodeId) (values : List Value) → IsLookAt t round rows n [] values → IsLook t round rows (n ∷ []) values
-  look_one told.Invalid n values h = shows_none n [] h
-  look_one (told.Values forced) n values h =
-      (subst (λ (vs : List Value). AllZip (ShowsValue rows) (n ∷ []) vs) (sym h.2) (h.1, tt), h.3 ∙ sym (or_nothing _))
-  look_one told.Other n values h = tt
-
-  -- a look at another after one that showed a value
-  pub look_two : (forced also : Bool) (n m : NodeId) (first values : List Value) → IsLookAt (told.Values forced) round rows n [] first
-      → IsLookAt (told.Values also) round rows m first values → IsLook (told.Values (forced || also)) round rows (n ∷ m ∷ []) values
-  look_two forced also n m first values h k = (
-    subst (λ (vs : List Value). AllZip (ShowsValue rows) (n ∷ m ∷ []) vs) (sym (k.2 ∙ ap (λ (vs : List Value). vs ++ k.0 ∷ []) h.2)) (h.1, (k.1, tt)),
-    rw (h.3, k.3) (ap (λ (b : Bool). passes_in round (at rows (main n)) || b) (sym (or_nothing _))),
-  )
-
-  -- one of two shows none
-  pub first_none : (n m : NodeId) (values : List Value) → value_shown rows n ≡ None → IsLook told.Invalid round rows (n ∷ m ∷ []) values
-  first_none n m values h = shows_none n (m ∷ []) h
-
-  pub second_none : (n m : NodeId) (values : List Value) → value_shown rows m ≡ None → IsLook told.Invalid round rows (n ∷ m ∷ []) values
-  second_none n m values h all = shows_none m [] h all.1
-
   -- values that nodes show one for one are the same
   shown_once : (nodes : List NodeId) (values others : List Value) → AllZip (ShowsValue rows) nodes values → AllZip (ShowsValue rows) nodes others
       → others ≡ values
@@ -119,15 +72,15 @@ module _ (round : ℕ) (rows : Rows Progress) where
 -- a row that is written, which was there
 module _ (old new : Rows Progress) (n : NodeId) (k : Progress) (there : at old (main n) ≡ Some k) where
   -- it is written as it was
-  pub rows_stay : IsWritten old new (main n) k → KeepsRows old new
+  pub rows_stay : Changes old new (main n) (Some k) → KeepsRows old new
   rows_stay w q = elim (same_or_other (main n) q) [
-    | inl same ↦ subst (λ (x : Point). at new x ≡ at old x) same (w.changes.changed ∙ sym there)
-    | inr ne ↦ w.changes.others q (λ h. ne (sym h))
+    | inl same ↦ subst (λ (x : Point). at new x ≡ at old x) same (w.changed ∙ sym there)
+    | inr ne ↦ w.others q (λ h. ne (sym h))
   ]
 
   -- so a node is computed whose function is not called
   pub known_stays : {answer : List Value → Value} {t : Ty} {stale : Bool} {round : ℕ} {ran : List NodeId} {calls : ℕ} {nodes : List NodeId} {o : Outcome} {cost : ℕ}
-      → IsWritten old new (main n) k → ComputesCall answer t stale round (noted old ran calls) (noted old ran calls) n nodes o cost
+      → Changes old new (main n) (Some k) → ComputesCall answer t stale round (noted old ran calls) (noted old ran calls) n nodes o cost
       → ComputesCall answer t stale round (noted old ran calls) (noted new ran calls) n nodes o cost
   known_stays w h = record {
     kept = h.kept;
@@ -139,7 +92,6 @@ module _ (old new : Rows Progress) (n : NodeId) (k : Progress) (there : at old (
     row = record {
       changed = rows_stay w (main n) ∙ h.row.changed;
       others = λ q ne. rows_stay w q;
-      points = w.points;
     };
     ran = h.ran;
     count = h.count;
@@ -149,19 +101,19 @@ module _ (old new : Rows Progress) (n : NodeId) (k : Progress) (there : at old (
 
   -- it is written with another call, or as it was without memory
   pub calls_written : {E : Type 0} (answer : List Value → Value) (t : Ty) (l : Last) (ran ran' : List NodeId) (calls calls' : ℕ) (values : List Value) (cost : ℕ)
-      (r : Result Outcome E) → IsWritten old new (main n) (with_lent l k)
+      (r : Result Outcome E) → Changes old new (main n) (Some (with_lent l k))
       → IsMade answer t (record { call = k.last; room = k.room }) l ran ran' calls calls' n values cost r
       → Calls answer t (noted old ran calls) (noted new ran' calls') n values cost r
   calls_written answer t l ran ran' calls calls' values cost (Ok o) w m = record {
     outcome = m.outcome;
     type = m.type;
     row = rewritten old new (main n) (with_call (record { arguments = values; result = answer values })) k there
-        (subst (λ (x : Last). IsWritten old new (main n) (with_lent x k)) m.last w);
+        (subst (λ (x : Last). Changes old new (main n) (Some (with_lent x k))) m.last w);
     ran = m.ran;
     count = m.count;
   }
   calls_written answer t l ran ran' calls calls' values cost (Err e) w m = record {
-    rows = rows_stay (subst (λ (x : Last). IsWritten old new (main n) (with_lent x k)) m.last w);
+    rows = rows_stay (subst (λ (x : Last). Changes old new (main n) (Some (with_lent x k))) m.last w);
     ran = m.ran;
     count = m.count;
   }

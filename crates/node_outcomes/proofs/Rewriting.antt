@@ -4,8 +4,7 @@ use Rattle.std.proofs.Math.Path.{fun_ext}
 use Rattle.std.specs.Prelude.{option_map}
 use Rattle.inc_value.specs.declared.node.Point.{Point}
 use Rattle.inc_terms.specs.Depend.{main}
-use Rattle.point_map.specs.Lends.{IsWritten}
-use Rattle.point_map.specs.Rows.{Rows, KeepsRows, at}
+use Rattle.point_map.specs.Rows.{Rows, KeepsRows, at, Changes}
 use Rattle.stabilize_round.specs.State.{Call}
 use Rattle.stabilize_round.proofs.Points.{same_or_other}
 use Rattle.node_outcomes.specs.Computing.{value_shown}
@@ -13,12 +12,11 @@ use Rattle.node_outcomes.specs.LastCall.{Last}
 use Rattle.node_outcomes.specs.Row.{IsRewritten, value_in, with_call, with_lent, with_none}
 use Rattle.node_outcomes.specs.Progress.{Progress}
 
-pub rewritten : (old new : Rows Progress) (p : Point) (change : Progress → Progress) (k : Progress) → at old p ≡ Some k → IsWritten old new p (change k)
+pub rewritten : (old new : Rows Progress) (p : Point) (change : Progress → Progress) (k : Progress) → at old p ≡ Some k → Changes old new p (Some (change k))
     → IsRewritten old new p change
 rewritten old new p change k was w = record {
-  changed = w.changes.changed ∙ sym (ap (option_map change) was);
-  others = w.changes.others;
-  points = w.points;
+  changed = w.changed ∙ sym (ap (option_map change) was);
+  others = w.others;
 }
 
 -- a row whose last call was lent, and that got another in its place
@@ -42,7 +40,6 @@ module _ (old mid new : Rows Progress) (p : Point) (k : Progress) (was : at old 
     called_row c is = record {
       changed = now ∙ (ap (λ (x : Last). Some (with_lent x (with_none k))) is ∙ sym (ap (option_map (with_call c)) was));
       others = λ q ne. given.others q ne ∙ lent.others q ne;
-      points = λ i. given.points i ∙ lent.points i;
     }
 
     pub uncalled_row : l ≡ record { call = k.last; room = k.room } → KeepsRows old new

@@ -6,7 +6,7 @@ use Rattle.inc_value.specs.declared.outcome.Outcome.TheVariants.{Val}
 use Rattle.inc_value.specs.declared.value.Value.{Value}
 use Rattle.map_nodes.specs.declared.cutoff.Cutoff.{Cutoff}
 use Rattle.map_nodes.specs.declared.cutoff.Cutoff.TheVariants.{Equal, Never}
-use Rattle.point_map.specs.Rows.{Rows, at, SamePoints}
+use Rattle.point_map.specs.Rows.{Rows, at}
 use Rattle.stabilize_round.specs.Freezing.{found}
 use Rattle.stabilize_round.specs.State as machine
 use Rattle.node_outcomes.specs.LastCall.{Last}
@@ -73,7 +73,6 @@ fires_in (Some k) = fires_by k.frozen k.last
 pub record IsRewritten (old new : Rows Progress) (p : Point) (change : Progress → Progress) : Type 0 where
   pub changed : at new p ≡ option_map change (at old p)
   pub others : (q : Point) → q ≢ p → at new q ≡ at old q
-  pub points : SamePoints old new
 
 -- the machine's stage that a row's stage stands for
 abbrev pub stage_of : Stage → machine.Stage

@@ -17,14 +17,14 @@ use crate::row::{Progress, give_back, lend_call};
 use crate::sight::fill_shown;
 use inc_value::{FnKind, FnRef, NodeId, Outcome, Point, Value};
 use node_arena::Functions;
-use point_map::PointMap;
+use slot_map::SlotMap;
 use smallvec::SmallVec;
 use std::alloc::{AllocError, Global};
 
 /// Calls a map's function on the values that its children show, and keeps the call.
 pub(crate) fn call_map<F: Functions>(
     alloc: Global,
-    rows: &mut PointMap<Progress>,
+    rows: &mut SlotMap<Progress>,
     ran: &mut Vec<NodeId>,
     functions: &mut F,
     node: NodeId,
@@ -57,7 +57,7 @@ pub(crate) fn call_map<F: Functions>(
 /// Calls a map's function on the values that its children show, keeps the call and lists the node.
 fn map_shown<F: Functions>(
     alloc: Global,
-    rows: &PointMap<Progress>,
+    rows: &SlotMap<Progress>,
     last: &mut LastCall,
     ran: &mut Vec<NodeId>,
     functions: &mut F,
@@ -114,7 +114,7 @@ fn map_shown<F: Functions>(
 /// node. The list may be another then.
 fn map_in<F: Functions>(
     alloc: Global,
-    rows: &PointMap<Progress>,
+    rows: &SlotMap<Progress>,
     list: &mut SmallVec<Value, 2>,
     kept: &mut Kept,
     given: &mut Option<Value>,
@@ -163,7 +163,7 @@ fn map_in<F: Functions>(
 /// isn't listed.
 pub(crate) fn call_fold<F: Functions>(
     alloc: Global,
-    rows: &mut PointMap<Progress>,
+    rows: &mut SlotMap<Progress>,
     ran: &mut Vec<NodeId>,
     functions: &mut F,
     node: NodeId,
@@ -200,7 +200,7 @@ pub(crate) fn call_fold<F: Functions>(
 /// Folds the values that a fold's children show, keeps these and the result, and lists the node where there are any.
 fn fold_shown<F: Functions>(
     alloc: Global,
-    rows: &PointMap<Progress>,
+    rows: &SlotMap<Progress>,
     last: &mut LastCall,
     ran: &mut Vec<NodeId>,
     functions: &mut F,
@@ -261,7 +261,7 @@ fn fold_shown<F: Functions>(
 /// node where there are any. The list may be another then.
 fn fold_in<F: Functions>(
     alloc: Global,
-    rows: &PointMap<Progress>,
+    rows: &SlotMap<Progress>,
     list: &mut SmallVec<Value, 2>,
     kept: &mut Kept,
     given: &mut Option<Value>,

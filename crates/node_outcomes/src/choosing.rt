@@ -10,11 +10,12 @@ use crate::row::Progress;
 use inc_terms::Def;
 use inc_value::{NodeId, Outcome, Point};
 use point_map::PointMap;
+use slot_map::SlotMap;
 
 /// The right side of a node that is so defined: the one that its change's outcome chooses, if it ran and chose one. A
 /// bind's is its root, which stands among the roots by its change.
 pub fn right_side(
-    rows: &PointMap<Progress>,
+    rows: &SlotMap<Progress>,
     roots: &PointMap<NodeId>,
     node: NodeId,
     def: &Def,
@@ -41,7 +42,7 @@ pub fn right_side(
 }
 
 /// Whether a node's change ran last with this outcome of its subject.
-pub fn ran_with(rows: &PointMap<Progress>, node: NodeId, given: &Outcome) -> bool
+pub fn ran_with(rows: &SlotMap<Progress>, node: NodeId, given: &Outcome) -> bool
     ensures { IsTrue result ↔ (outcome_in (at rows.now (change node)) ≡ Some given.now) }
 {
     match rows.get(Point::change(node)) {

@@ -33,6 +33,7 @@ use inc_terms::Def;
 use inc_value::{FnKind, FnRef, NodeId, Outcome, Point, Value};
 use node_arena::{Arena, Functions};
 use point_map::PointMap;
+use slot_map::SlotMap;
 use smallvec::SmallVec;
 use std::alloc::{AllocError, Global};
 
@@ -45,7 +46,7 @@ use std::alloc::{AllocError, Global};
 pub fn compute<F: Functions>(
     alloc: Global,
     arena: &Arena,
-    rows: &mut PointMap<Progress>,
+    rows: &mut SlotMap<Progress>,
     roots: &PointMap<NodeId>,
     experts: &mut Experts,
     ran: &mut Vec<NodeId>,
@@ -127,7 +128,7 @@ fn by_clock(alloc: Global, def: &Def, time: i64) -> Result<Outcome, AllocError>
 /// unless it was last called on that.
 fn compute_freeze<F: Functions>(
     alloc: Global,
-    rows: &mut PointMap<Progress>,
+    rows: &mut SlotMap<Progress>,
     ran: &mut Vec<NodeId>,
     round: u64,
     functions: &mut F,
@@ -162,7 +163,7 @@ fn compute_freeze<F: Functions>(
 /// What a freeze gives that keeps no value.
 fn compute_unfrozen<F: Functions>(
     alloc: Global,
-    rows: &mut PointMap<Progress>,
+    rows: &mut SlotMap<Progress>,
     ran: &mut Vec<NodeId>,
     round: u64,
     functions: &mut F,
@@ -204,7 +205,7 @@ fn compute_unfrozen<F: Functions>(
 /// Then it isn't stale any more, whatever it gives.
 fn compute_expert<F: Functions>(
     alloc: Global,
-    rows: &mut PointMap<Progress>,
+    rows: &mut SlotMap<Progress>,
     experts: &mut Experts,
     ran: &mut Vec<NodeId>,
     round: u64,
@@ -255,7 +256,7 @@ fn compute_expert<F: Functions>(
 /// What a node gives whose function takes the nodes' values, as a map's does.
 fn compute_map<F: Functions>(
     alloc: Global,
-    rows: &mut PointMap<Progress>,
+    rows: &mut SlotMap<Progress>,
     ran: &mut Vec<NodeId>,
     round: u64,
     functions: &mut F,
@@ -303,7 +304,7 @@ fn compute_map<F: Functions>(
 #[inline]
 fn map_few<F: Functions>(
     alloc: Global,
-    rows: &mut PointMap<Progress>,
+    rows: &mut SlotMap<Progress>,
     ran: &mut Vec<NodeId>,
     round: u64,
     functions: &mut F,
@@ -340,7 +341,7 @@ fn map_few<F: Functions>(
 /// What a node gives whose function takes the nodes' values, which are any.
 fn map_any<F: Functions>(
     alloc: Global,
-    rows: &mut PointMap<Progress>,
+    rows: &mut SlotMap<Progress>,
     ran: &mut Vec<NodeId>,
     round: u64,
     functions: &mut F,
@@ -372,7 +373,7 @@ fn map_any<F: Functions>(
 /// What a node gives whose function is folded over the nodes' values. A stale one is called whatever it was last called on.
 fn compute_fold<F: Functions>(
     alloc: Global,
-    rows: &mut PointMap<Progress>,
+    rows: &mut SlotMap<Progress>,
     ran: &mut Vec<NodeId>,
     round: u64,
     functions: &mut F,
@@ -426,7 +427,7 @@ fn compute_fold<F: Functions>(
 #[inline]
 fn fold_few<F: Functions>(
     alloc: Global,
-    rows: &mut PointMap<Progress>,
+    rows: &mut SlotMap<Progress>,
     ran: &mut Vec<NodeId>,
     round: u64,
     functions: &mut F,
@@ -474,7 +475,7 @@ fn fold_few<F: Functions>(
 /// What a node gives whose function is folded over the nodes' values, which are any.
 fn fold_any<F: Functions>(
     alloc: Global,
-    rows: &mut PointMap<Progress>,
+    rows: &mut SlotMap<Progress>,
     ran: &mut Vec<NodeId>,
     round: u64,
     functions: &mut F,
@@ -530,7 +531,7 @@ fn known_on(
 }
 
 /// Whether a node's function is called whatever it was last called on.
-fn must_call(rows: &PointMap<Progress>, round: u64, stale: bool, kids: &[NodeId]) -> bool
+fn must_call(rows: &SlotMap<Progress>, round: u64, stale: bool, kids: &[NodeId]) -> bool
     ensures { IsTrue result ↔ MustCall stale round rows.now kids.now }
 {
     stale || is_forced(rows, round, kids)
@@ -541,7 +542,7 @@ fn must_call(rows: &PointMap<Progress>, round: u64, stale: bool, kids: &[NodeId]
 /// of cutoff Never was settled in this round.
 fn known_outcome(
     alloc: Global,
-    rows: &PointMap<Progress>,
+    rows: &SlotMap<Progress>,
     round: u64,
     node: NodeId,
     stale: bool,

@@ -12,7 +12,7 @@ use crate::last_call::LastCall;
 use inc_terms::Def;
 use inc_value::{NodeId, Outcome, Point, Value};
 use map_nodes::{Cutoff, stops};
-use point_map::PointMap;
+use slot_map::SlotMap;
 use std::alloc::{AllocError, Global};
 use std::marker::Model;
 use std::mem;
@@ -102,7 +102,7 @@ fn folds(def: &Def) -> bool {
 }
 
 /// Whether a point was settled in this round.
-pub fn was_settled(rows: &PointMap<Progress>, p: Point, round: u64) -> bool
+pub fn was_settled(rows: &SlotMap<Progress>, p: Point, round: u64) -> bool
     ensures { result ≡ settled_in round (at rows.now p) }
 {
     match rows.get(p) {
@@ -112,7 +112,7 @@ pub fn was_settled(rows: &PointMap<Progress>, p: Point, round: u64) -> bool
 }
 
 /// Whether a point of a live node has no links yet.
-pub fn is_bare(rows: &PointMap<Progress>, p: Point) -> bool
+pub fn is_bare(rows: &SlotMap<Progress>, p: Point) -> bool
     ensures { IsTrue result ↔ stage_in (at rows.now p) ≡ Some Stage.Bare }
 {
     match rows.get(p) {
@@ -125,7 +125,7 @@ pub fn is_bare(rows: &PointMap<Progress>, p: Point) -> bool
 }
 
 /// Whether a point of a live node has its gate's link alone.
-pub fn is_gated(rows: &PointMap<Progress>, p: Point) -> bool
+pub fn is_gated(rows: &SlotMap<Progress>, p: Point) -> bool
     ensures { IsTrue result ↔ stage_in (at rows.now p) ≡ Some Stage.Gated }
 {
     match rows.get(p) {
@@ -138,7 +138,7 @@ pub fn is_gated(rows: &PointMap<Progress>, p: Point) -> bool
 }
 
 /// Whether a main of a live node waits for its node's change, with all links but that to its right side.
-pub fn is_static(rows: &PointMap<Progress>, p: Point) -> bool
+pub fn is_static(rows: &SlotMap<Progress>, p: Point) -> bool
     ensures { IsTrue result ↔ stage_in (at rows.now p) ≡ Some Stage.Static }
 {
     match rows.get(p) {
@@ -151,7 +151,7 @@ pub fn is_static(rows: &PointMap<Progress>, p: Point) -> bool
 }
 
 /// Whether a point of a live node has all its links.
-pub fn is_full(rows: &PointMap<Progress>, p: Point) -> bool
+pub fn is_full(rows: &SlotMap<Progress>, p: Point) -> bool
     ensures { IsTrue result ↔ stage_in (at rows.now p) ≡ Some Stage.Full }
 {
     match rows.get(p) {
@@ -164,14 +164,14 @@ pub fn is_full(rows: &PointMap<Progress>, p: Point) -> bool
 }
 
 /// The stage of a point of a live node.
-pub fn stage_of(rows: &PointMap<Progress>, p: Point) -> Option<Stage>
+pub fn stage_of(rows: &SlotMap<Progress>, p: Point) -> Option<Stage>
     ensures { result ≡ stage_in (at rows.now p) }
 {
     Some(rows.get(p)?.stage)
 }
 
 /// Gives a point another stage.
-pub fn set_stage(rows: &mut PointMap<Progress>, p: Point, stage: Stage)
+pub fn set_stage(rows: &mut SlotMap<Progress>, p: Point, stage: Stage)
     requires there { Holds rows.old p }
     ensures { IsRewritten rows.old rows.new p (with_stage stage) }
 {
@@ -191,7 +191,7 @@ fn is_stopped(row: &Progress, outcome: &Outcome) -> bool
 
 /// Gives a point another outcome, settled in this round. The answer is whether its readers needn't be told, by its
 /// cutoff and what it showed before.
-pub fn set_outcome(rows: &mut PointMap<Progress>, p: Point, outcome: Outcome, round: u64) -> bool
+pub fn set_outcome(rows: &mut SlotMap<Progress>, p: Point, outcome: Outcome, round: u64) -> bool
     requires there { Holds rows.old p }
     ensures rewritten { IsRewritten rows.old rows.new p (with_outcome outcome round) }
     ensures stopped { IsTrue result ↔ ((k : Row) × (at rows.old p ≡ Some k) × IsStopped k.cutoff k.outcome outcome) }
@@ -204,7 +204,7 @@ pub fn set_outcome(rows: &mut PointMap<Progress>, p: Point, outcome: Outcome, ro
 }
 
 /// A change has no outcome any more: its node is built for nothing.
-pub fn forget_outcome(rows: &mut PointMap<Progress>, p: Point)
+pub fn forget_outcome(rows: &mut SlotMap<Progress>, p: Point)
     requires there { Holds rows.old p }
     ensures { IsRewritten rows.old rows.new p without_outcome }
 {
@@ -213,7 +213,7 @@ pub fn forget_outcome(rows: &mut PointMap<Progress>, p: Point)
 }
 
 /// Lends the last call of a point's node, with the lists for the next. The row has none meanwhile. This takes no memory.
-pub(crate) fn lend_call(alloc: Global, rows: &mut PointMap<Progress>, p: Point) -> LastCall
+pub(crate) fn lend_call(alloc: Global, rows: &mut SlotMap<Progress>, p: Point) -> LastCall
     requires there { Holds rows.old p }
     ensures lent { (k : Row) × (at rows.old p ≡ Some k) × (result ≡ record { call = k.last; room = k.room }) }
     ensures row { IsRewritten rows.old rows.new p with_none }
@@ -223,7 +223,7 @@ pub(crate) fn lend_call(alloc: Global, rows: &mut PointMap<Progress>, p: Point) 
 }
 
 /// Gives a call that was lent, or one since, back to its row.
-pub(crate) fn give_back(rows: &mut PointMap<Progress>, p: Point, last: LastCall)
+pub(crate) fn give_back(rows: &mut SlotMap<Progress>, p: Point, last: LastCall)
     requires there { Holds rows.old p }
     ensures { IsRewritten rows.old rows.new p (with_lent last) }
 {
@@ -232,7 +232,7 @@ pub(crate) fn give_back(rows: &mut PointMap<Progress>, p: Point, last: LastCall)
 }
 
 /// A freeze keeps the value on which its predicate was called last.
-pub fn freeze(rows: &mut PointMap<Progress>, p: Point)
+pub fn freeze(rows: &mut SlotMap<Progress>, p: Point)
     requires there { Holds rows.old p }
     ensures { IsRewritten rows.old rows.new p with_frozen }
 {
@@ -252,7 +252,7 @@ fn found(row: &Progress) -> Option<&Value>
 }
 
 /// The value that a freeze keeps, if it keeps one.
-pub(crate) fn kept_value(rows: &PointMap<Progress>, node: NodeId) -> Option<&Value>
+pub(crate) fn kept_value(rows: &SlotMap<Progress>, node: NodeId) -> Option<&Value>
     ensures { option_copied result ≡ kept_in (at rows.now (main node)) }
 {
     let row = rows.get(Point::main(node))?;
@@ -260,14 +260,14 @@ pub(crate) fn kept_value(rows: &PointMap<Progress>, node: NodeId) -> Option<&Val
 }
 
 /// Whether a freeze keeps a value.
-pub fn is_frozen(rows: &PointMap<Progress>, node: NodeId) -> bool
+pub fn is_frozen(rows: &SlotMap<Progress>, node: NodeId) -> bool
     ensures { result ≡ is_some (kept_in (at rows.now (main node))) }
 {
     kept_value(rows, node).is_some()
 }
 
 /// Whether a freeze that keeps no value is to keep one: its predicate was last found true.
-pub fn fires(rows: &PointMap<Progress>, node: NodeId) -> bool
+pub fn fires(rows: &SlotMap<Progress>, node: NodeId) -> bool
     ensures { result ≡ is_some (fires_in (at rows.now (main node))) }
 {
     match rows.get(Point::main(node)) {
@@ -277,7 +277,7 @@ pub fn fires(rows: &PointMap<Progress>, node: NodeId) -> bool
 }
 
 /// Sets a node's cutoff.
-pub fn set_cutoff(rows: &mut PointMap<Progress>, p: Point, cutoff: Cutoff)
+pub fn set_cutoff(rows: &mut SlotMap<Progress>, p: Point, cutoff: Cutoff)
     requires there { Holds rows.old p }
     ensures { IsRewritten rows.old rows.new p (with_cutoff cutoff) }
 {

@@ -14,12 +14,12 @@ use crate::last_call::Called;
 use crate::row::Progress;
 use inc_value::{NodeId, Outcome, Point, Value};
 use map_nodes::Cutoff;
-use point_map::PointMap;
+use slot_map::SlotMap;
 use smallvec::SmallVec;
 use std::alloc::{AllocError, Global};
 
 /// The value that a node shows, if it shows one. A dead node shows none.
-pub(crate) fn value_shown(rows: &PointMap<Progress>, node: NodeId) -> Option<&Value>
+pub(crate) fn value_shown(rows: &SlotMap<Progress>, node: NodeId) -> Option<&Value>
     ensures { option_copied result ≡ value_in (at rows.now (main node)) }
 {
     match &rows.get(Point::main(node))?.outcome {
@@ -29,7 +29,7 @@ pub(crate) fn value_shown(rows: &PointMap<Progress>, node: NodeId) -> Option<&Va
 }
 
 /// What a node shows. A dead one shows Invalid, and so does one that was never brought up to date.
-pub fn shown(alloc: Global, rows: &PointMap<Progress>, node: NodeId) -> Result<Outcome, AllocError>
+pub fn shown(alloc: Global, rows: &SlotMap<Progress>, node: NodeId) -> Result<Outcome, AllocError>
     ensures outcome { IfOk result (λ o. (seen rows.now (main node) ≡ Some o)
         ⊎ ((seen rows.now (main node) ≡ None) × (o ≡ Outcome.Invalid))) }
     ensures lacks { OnErr result ((v : AValue) × (seen rows.now (main node) ≡ Some (Outcome.Val v)) × (type_of v ≡ Text)) }
@@ -44,7 +44,7 @@ pub fn shown(alloc: Global, rows: &PointMap<Progress>, node: NodeId) -> Result<O
 }
 
 /// The last call of a node's function, if there was one.
-pub(crate) fn last_call(rows: &PointMap<Progress>, node: NodeId) -> Option<Called<'_>>
+pub(crate) fn last_call(rows: &SlotMap<Progress>, node: NodeId) -> Option<Called<'_>>
     ensures { result ≡ option_and_then (λ k. k.last) (at rows.now (main node)) }
 {
     rows.get(Point::main(node))?.last.get()
@@ -63,7 +63,7 @@ pub(crate) enum Told {
 
 /// Looks at nodes, each once, and fills an empty list with copies of the values that they show. This takes no memory.
 pub(crate) fn look(
-    rows: &PointMap<Progress>,
+    rows: &SlotMap<Progress>,
     round: u64,
     nodes: &[NodeId],
     values: &mut SmallVec<Value, 2>,
@@ -90,7 +90,7 @@ pub(crate) fn look(
 /// Looks at a node, and appends a copy of the value that it shows.
 #[inline]
 fn look_at(
-    rows: &PointMap<Progress>,
+    rows: &SlotMap<Progress>,
     round: u64,
     node: NodeId,
     values: &mut SmallVec<Value, 2>,
@@ -142,7 +142,7 @@ fn passes_now(row: &Progress, round: u64) -> bool
 }
 
 /// Whether a node of cutoff Never was settled in the round.
-fn passes(rows: &PointMap<Progress>, round: u64, node: NodeId) -> bool
+fn passes(rows: &SlotMap<Progress>, round: u64, node: NodeId) -> bool
     ensures { result ≡ passes_in round (at rows.now (main node)) }
 {
     match rows.get(Point::main(node)) {
@@ -152,7 +152,7 @@ fn passes(rows: &PointMap<Progress>, round: u64, node: NodeId) -> bool
 }
 
 /// Whether one of the nodes has cutoff Never and was settled in the round.
-pub(crate) fn is_forced(rows: &PointMap<Progress>, round: u64, nodes: &[NodeId]) -> bool
+pub(crate) fn is_forced(rows: &SlotMap<Progress>, round: u64, nodes: &[NodeId]) -> bool
     ensures { result ≡ forced_by round rows.now nodes.now }
 {
     for node in nodes {
@@ -164,7 +164,7 @@ pub(crate) fn is_forced(rows: &PointMap<Progress>, round: u64, nodes: &[NodeId])
 }
 
 /// Whether each of the nodes shows a value.
-pub(crate) fn show_values(rows: &PointMap<Progress>, nodes: &[NodeId]) -> bool
+pub(crate) fn show_values(rows: &SlotMap<Progress>, nodes: &[NodeId]) -> bool
     ensures { IsTrue result ↔ AllShow rows.now nodes.now }
 {
     for node in nodes {
@@ -176,7 +176,7 @@ pub(crate) fn show_values(rows: &PointMap<Progress>, nodes: &[NodeId]) -> bool
 }
 
 /// Whether the node shows this value.
-fn shows_value(rows: &PointMap<Progress>, node: NodeId, value: &Value) -> bool
+fn shows_value(rows: &SlotMap<Progress>, node: NodeId, value: &Value) -> bool
     ensures { IsTrue result ↔ ShowsValue rows.now node value.now }
 {
     match value_shown(rows, node) {
@@ -186,7 +186,7 @@ fn shows_value(rows: &PointMap<Progress>, node: NodeId, value: &Value) -> bool
 }
 
 /// Whether the nodes show these values, one for one.
-pub(crate) fn show(rows: &PointMap<Progress>, nodes: &[NodeId], values: &[Value]) -> bool
+pub(crate) fn show(rows: &SlotMap<Progress>, nodes: &[NodeId], values: &[Value]) -> bool
     ensures { IsTrue result ↔ AllZip (ShowsValue rows.now) nodes.now values.now }
 {
     if nodes.len() != values.len() {
@@ -219,7 +219,7 @@ pub(crate) fn make_room(values: &mut SmallVec<Value, 2>, n: usize) -> Result<(),
 /// copies of values that are no texts take no memory.
 pub(crate) fn fill_shown(
     alloc: Global,
-    rows: &PointMap<Progress>,
+    rows: &SlotMap<Progress>,
     nodes: &[NodeId],
     values: &mut SmallVec<Value, 2>,
 ) -> Result<(), AllocError>

@@ -1,10 +1,10 @@
 -- In a steady round nothing but a function finds no memory.
-use Rattle.std.proofs.Common.{◌≡◌, ◌≢◌, ◌⊎◌, inl, inr, ◌∙◌, ◌+◌, ◌<◌, ◌≤◌, ℕ, Option, None, Some, true, List, [], ◌∷◌, length, refl, sym, ap, subst, arith}
+use Rattle.std.proofs.Common.{◌≡◌, ◌≢◌, ◌⊎◌, inl, inr, ◌∙◌, ◌<◌, ◌≤◌, ℕ, Option, None, Some, true, List, [], ◌∷◌, length, refl, sym, ap, subst, arith}
 use Rattle.std.specs.Prelude.{is_some, option_and_then, vec_capacity}
 use Rattle.std.specs.List.{filter_map}
 use Rattle.std.proofs.lemmas.List.{length-reverse}
 use Rattle.std.proofs.lemmas.Option.{none-some, same_Some}
-use Rattle.inc_value.specs.Choice.{Among, NoRepeats}
+use Rattle.inc_value.specs.Choice.{Among}
 use Rattle.inc_value.specs.Counts.{raised}
 use Rattle.inc_value.specs.Outcome.{IsNoText}
 use Rattle.inc_value.specs.Value.{type_of}
@@ -45,43 +45,13 @@ use Rattle.stabilizer.specs.Round.{IsReady}
 use Rattle.stabilizer.specs.Steady.{IsSteady}
 use Rattle.stabilizer.specs.Telling.{shown_or, shows_of}
 use Rattle.stabilizer.specs.declared.parts.Parts.{Parts}
-use Rattle.stabilizer.proofs.Round.Alive.{alive, alive_count, among_alive}
+use Rattle.stabilizer.proofs.Round.Alive.{alive, alive_count, among_alive, at_most}
 use Rattle.stabilizer.proofs.Round.Telling.{among_used}
 use Rattle.stabilizer.proofs.Step.Making.{quiet_of}
 use Rattle.expert_nodes.specs.Experts.{is_stale_at, kids_at}
 use Rattle.stabilizer.proofs.Round.Began.{round_on}
 use Rattle.stabilizer.proofs.Round.Whole.{in_round}
 use Rattle.stabilizer.proofs.Steady.{StaysSteady, begins_steady, steps_steady, heap_needed, need_stays, none_gated, none_waiting, row_there, runs_again}
-
--- ---- as many as are live at most
-
--- a list without a place of an element
-abbrev without : {A : Type 0} (n : A) (ns : List A) → Among n ns → List A
-without n [] h = absurd h
-without n (m ∷ ns) (inl same) = ns
-without n (m ∷ ns) (inr h) = m ∷ without n ns h
-
-one_fewer : {A : Type 0} (n : A) (ns : List A) (h : Among n ns) → length (without n ns h) + 1 ≡ length ns
-one_fewer n [] h = absurd h
-one_fewer n (m ∷ ns) (inl same) = omega arith
-one_fewer n (m ∷ ns) (inr h) = let rest = one_fewer n ns h in omega (arith, rest)
-
-still_among : {A : Type 0} (m n : A) (ns : List A) (h : Among n ns) → (m ≡ n → ⊥) → Among m ns → Among m (without n ns h)
-still_among m n [] h other among = absurd h
-still_among m n (k ∷ ns) (inl same) other (inl is) = absurd (other (is ∙ sym same))
-still_among m n (k ∷ ns) (inl same) other (inr rest) = rest
-still_among m n (k ∷ ns) (inr h) other (inl is) = inl is
-still_among m n (k ∷ ns) (inr h) other (inr rest) = inr (still_among m n ns h other rest)
-
--- what is listed once and all of another list isn't more than that
-at_most : {A : Type 0} (ms ns : List A) → NoRepeats ms → ((m : A) → Among m ms → Among m ns) → length ms ≤ length ns
-at_most [] ns once all = omega arith
-at_most (m ∷ ms) ns once all =
-    let h = all m (inl refl) in
-    let fewer = one_fewer m ns h in
-    let rest = at_most ms (without m ns h) once.1 (λ k a. still_among k m ns h
-    (λ same. once.0 (subst (λ x. Among x ms) same a)) (all k (inr a))) in
-    omega (arith, fewer, rest)
 
 -- ---- values
 
@@ -250,10 +220,8 @@ module _ (M : Meaning) (old : Parts) (roots : List NodeId) (made : List Observer
         → length left.work.ran.items < vec_capacity left.work.ran
     list_roomy n r row held =
         let less = unlisted n r row held in
-        let enough = steady.roomy in
-        let more = stays.room in
-        let as_many = ap live stays.arena in
-        omega (arith, less, enough, more, as_many)
+        let enough = kept.work.rooms.ran in
+        omega (arith, less, enough)
 
     -- and for the values on which its function is called
     list_has_room : (n : NodeId) (r : Row) (ks : List NodeId) (k : Progress) → row_at left.arena n ≡ Some r → taken_by (graph_in left) n r.def ≡ Some ks

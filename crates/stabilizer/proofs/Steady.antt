@@ -1,6 +1,6 @@
 -- What a steady round leaves as it was, step by step.
-use Rattle.std.proofs.Common.{◌≡◌, ◌≤◌, ◌⊎◌, arith, inl, inr, ◌∙◌, ℕ, Option, None, Some, true, List, [], ◌∷◌, refl, sym, ap, subst, Vec, Global}
-use Rattle.std.specs.Prelude.{is_some, vec_capacity}
+use Rattle.std.proofs.Common.{◌≡◌, ◌⊎◌, inl, inr, ◌∙◌, ℕ, Option, None, Some, true, List, [], ◌∷◌, refl, sym, ap, subst, Vec, Global}
+use Rattle.std.specs.Prelude.{is_some}
 use Rattle.std.proofs.lemmas.Option.{none-some, same_Some}
 use Rattle.inc_value.specs.Choice.{Among}
 use Rattle.inc_value.specs.declared.node.NodeId.{NodeId}
@@ -55,7 +55,7 @@ use Rattle.stabilize_round.specs.Moves.{calls_of}
 use Rattle.stabilizer.specs.declared.parts.Parts.{Parts}
 
 -- nodes, links, roots, what binds are built for, freezes keep and experts list, the stages of points and what changes ran with are as they were; and so are
--- mains but those that were settled in the round; for those that ran there is as much room as there was at least
+-- mains but those that were settled in the round
 pub record StaysSteady (old new : Parts) : Type 0 where
   pub arena : new.arena ≡ old.arena
   pub links : new.work.graph.links ≡ old.work.graph.links
@@ -65,22 +65,8 @@ pub record StaysSteady (old new : Parts) : Type 0 where
   pub changes : (n : NodeId) → outcome_in (at new.work.rows (change n)) ≡ outcome_in (at old.work.rows (change n))
   pub mains : (n : NodeId) → (settled_in new.work.round (at new.work.rows (main n)) ≡ true)
       ⊎ (at new.work.rows (main n) ≡ at old.work.rows (main n))
-  pub room : vec_capacity old.work.ran ≤ vec_capacity new.work.ran
   pub settled : (n : NodeId) → settled_in old.work.round (at old.work.rows (main n)) ≡ true
       → settled_in new.work.round (at new.work.rows (main n)) ≡ true
-
-pub steady_itself : (parts : Parts) → StaysSteady parts parts
-steady_itself parts = record {
-  arena = refl;
-  links = refl;
-  roots = refl;
-  graph = refl;
-  stages = λ p. refl;
-  changes = λ n. refl;
-  mains = λ n. inr refl;
-  room = omega arith;
-  settled = λ n is. is;
-}
 
 pub steady_then : (old mid new : Parts) → StaysSteady old mid → StaysSteady mid new → StaysSteady old new
 steady_then old mid new first next = record {
@@ -94,7 +80,6 @@ steady_then old mid new first next = record {
     | inl settled ↦ inl settled
     | inr same ↦ elim (first.mains n) [ inl settled ↦ inl (next.settled n settled) | inr before ↦ inr (same ∙ before) ]
   ];
-  room = let a = first.room in let b = next.room in omega (arith, a, b);
   settled = λ n is. next.settled n (first.settled n is);
 }
 
@@ -222,7 +207,6 @@ module _ (F : Functions) (mid : Parts) (kept : IsKept mid.arena mid.work) (heap 
       | inl e ↦ inl (subst (λ (q : Point). settled_in new.round (at new.rows q) ≡ true) (sym e) now_settled)
       | inr ne ↦ inr (k.others (main c) ne)
     ];
-    room = m.room;
     settled = λ c is. elim (same_or_other (main c) (main n)) [
       | inl e ↦ subst (λ (q : Point). settled_in new.round (at new.rows q) ≡ true) (sym e) now_settled
       | inr ne ↦ subst (λ (r : ℕ). settled_in r (at new.rows (main c)) ≡ true) (sym k.round) (ap (settled_in mid.work.round) (k.others (main c) ne) ∙ is)
@@ -263,7 +247,6 @@ module _ (mid : Parts) (heap : Rows ℕ) (rows' : Rows Progress) (todo : Vec Poi
     stages = told_as stage_in (ap stage_in rewritten.changed ∙ run_stage given mid.work.round (at mid.work.rows (change n)));
     changes = changes_as;
     mains = λ c. inr (others_main c);
-    room = omega arith;
     settled = λ c is. ap (settled_in mid.work.round) (others_main c) ∙ is;
   }
 
@@ -394,6 +377,5 @@ begins_steady F old roots made steady wired rooted begun =
       stages = λ p. refl;
       changes = λ n. refl;
       mains = λ n. inr refl;
-      room = omega arith;
       settled = λ n is. is;
     })

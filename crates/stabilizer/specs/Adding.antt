@@ -40,7 +40,7 @@ pub record HasNode (old new : Parts) (id : NodeId) (row : Row) : Type 0 where
   pub heap : KeepsRows old.work.graph.heap new.work.graph.heap
   pub right_sides : new.work.roots ≡ old.work.roots
   pub experts : ExpertIsAdded row.def old.work.experts new.work.experts id
-  pub ran : new.ran ≡ old.ran
+  pub ran : new.ran.items ≡ old.ran.items
   pub kept : PartsKept new
   pub ready : (M : Meaning) → CallsFit old.arena.given M.known M.ids row.def → IsReady M old → IsReady M new
 
@@ -48,7 +48,7 @@ pub record HasNode (old new : Parts) (id : NodeId) (row : Row) : Type 0 where
 pub record AddsNothing (old new : Parts) : Type 0 where
   pub arena : new.arena ≡ old.arena
   pub work : KeepsWork old.work new.work
-  pub ran : new.ran ≡ old.ran
+  pub ran : new.ran.items ≡ old.ran.items
   pub kept : PartsKept new
   pub ready : (M : Meaning) → IsReady M old → IsReady M new
 
@@ -73,7 +73,7 @@ pub record SaysAdded (old new : Parts) (def : Def) (ty : Ty) (result : Result No
   pub heap : KeepsRows old.work.graph.heap new.work.graph.heap
   pub right_sides : new.work.roots ≡ old.work.roots
   pub experts : IfOk result (λ (n : NodeId). ExpertIsAdded def old.work.experts new.work.experts n)
-  pub ran : new.ran ≡ old.ran
+  pub ran : new.ran.items ≡ old.ran.items
   pub kept : PartsKept new
   pub ready : OnOk result ((M : Meaning) → CallsFit old.arena.given M.known M.ids def → IsReady M old → IsReady M new)
   pub err_ready : OnErr result ((M : Meaning) → IsReady M old → IsReady M new)

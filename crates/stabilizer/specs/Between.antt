@@ -1,5 +1,5 @@
 -- What stands between rounds, of the parts alone, and what calls made there leave.
-use Rattle.std.specs.Prelude.{◌≡◌, ◌≢◌, ◌⊎◌, ◌↔◌, ◌+◌, ◌++◌, ◌<◌, ◌≤◌, ℕ, Bool, false, true, List, [], ◌∷◌, Option, None, Some}
+use Rattle.std.specs.Prelude.{◌≡◌, ◌≢◌, ◌⊎◌, ◌↔◌, ◌+◌, ◌++◌, ◌<◌, ◌≤◌, ℕ, Bool, false, true, List, [], ◌∷◌, Option, None, Some, vec_capacity}
 use Rattle.inc_value.specs.Choice.{Among}
 use Rattle.inc_value.specs.declared.node.NodeId.{NodeId}
 use Rattle.inc_value.specs.declared.node.Point.{Point}
@@ -74,7 +74,7 @@ pub record IsBetween (F : Functions) (arena : Arena) (work : Work) : Type 0 wher
   pub unfired : (n : NodeId) (r : Row) → row_at arena n ≡ Some r → fires r.def (kept_in (at work.rows (main n))) (last_call work n) ≡ None
   pub ran : work.ran.items ≡ []
 
--- of what is kept beside the nodes all stays, of experts what is seen of each
+-- of what is kept beside the nodes all stays, of experts what is seen of each; there may be more room to list those that ran
 pub record KeepsWork (old new : Work) : Type 0 where
   pub rows : KeepsRows old.rows new.rows
   pub points : KeepsRows old.graph.heights new.graph.heights
@@ -82,7 +82,9 @@ pub record KeepsWork (old new : Work) : Type 0 where
   pub roots : new.graph.roots ≡ old.graph.roots
   pub heap : KeepsRows old.graph.heap new.graph.heap
   pub todo : new.todo.items ≡ old.todo.items
-  pub round : KeepsRound (record old { experts = new.experts }) new
+  pub round : KeepsRound (record old { experts = new.experts; ran = new.ran }) new
+  pub ran : new.ran.items ≡ old.ran.items
+  pub room : vec_capacity old.ran ≤ vec_capacity new.ran
   pub experts : KeepsExperts old.experts new.experts
 
 -- the node stands in the scope with this row, or is a variable there, as it was

@@ -1,5 +1,5 @@
 -- What building a right side adds.
-use Rattle.std.specs.Prelude.{◌≡◌, ◌≢◌, ◌⊎◌, ◌↔◌, ◌+◌, ◌-◌, ◌≤◌, ◌<◌, ◌^◌, ℕ, false, None, Some, [], is_some, IsSome}
+use Rattle.std.specs.Prelude.{◌≡◌, ◌≢◌, ◌⊎◌, ◌↔◌, ◌+◌, ◌-◌, ◌≤◌, ◌<◌, ◌^◌, ℕ, false, None, Some, [], is_some, IsSome, vec_capacity}
 use Rattle.inc_value.specs.Choice.{Among}
 use Rattle.inc_value.specs.declared.node.NodeId.{NodeId}
 use Rattle.inc_value.specs.declared.node.Part.{Part}
@@ -41,8 +41,9 @@ pub record HasGrown (old new : Parts) (b : NodeId) : Type 0 where
   pub roots : new.work.graph.roots ≡ old.work.graph.roots
   pub heap : KeepsRows old.work.graph.heap new.work.graph.heap
   pub todo : new.work.todo.items ≡ old.work.todo.items
-  pub round : KeepsRound old.work new.work
-  pub ran : new.ran ≡ old.ran
+  pub round : KeepsRound (record old.work { ran = new.work.ran }) new.work
+  pub called : new.work.ran.items ≡ old.work.ran.items
+  pub ran : new.ran.items ≡ old.ran.items
 
 -- the bind's function couldn't build: all stays, but that ids were given, which no node has
 pub record IsUnbuilt (old new : Parts) (b : NodeId) : Type 0 where
@@ -93,10 +94,12 @@ pub record AreListed (arena : Arena) (These : NodeId → Type 0) (work : Work) :
   pub pairs : (n : NodeId) (r : Row) → row_at arena n ≡ Some r → These n → IsSome (subject_of r.def) → Among n work.pairs.nodes
   pub scoped : (n : NodeId) (r : Row) → row_at arena n ≡ Some r → These n → Among n work.scoped.nodes
 
--- of the nodes whose ids were given since the count just these got points, to which nothing was done yet
+-- of the nodes whose ids were given since the count just these got points, to which nothing was done yet. There may be more room to list those that ran
 pub record HasAdopted (arena : Arena) (count : ℕ) (These : NodeId → Type 0) (old new : Work) : Type 0 where
   pub step : IsInStep new.graph
-  pub older : KeepsOlder count old new
+  pub older : KeepsOlder count (record old { ran = new.ran }) new
+  pub ran : new.ran.items ≡ old.ran.items
+  pub room : vec_capacity old.ran ≤ vec_capacity new.ran
   pub lists : KeepsListed arena count old new
   pub points : HavePoints arena count These new
   pub fresh : (p : Point) (k : Progress) → count ≤ p.node.gen_ → at new.rows p ≡ Some k → IsNewRow arena p.node k
@@ -114,7 +117,8 @@ pub record Adopts (old new : Parts) (b : NodeId) (count : ℕ) (These : NodeId �
   pub arena : new.arena ≡ old.arena
   pub timed : new.timed ≡ old.timed
   pub dying : new.dying.items ≡ old.dying.items
-  pub ran : new.ran ≡ old.ran
+  pub ran : new.ran.items ≡ old.ran.items
+  pub room : vec_capacity old.ran ≤ vec_capacity new.ran
 
 -- so did the nodes whose ids were given since the count and before another
 abbrev pub AdoptsBefore : Parts → Parts → NodeId → ℕ → ℕ → Type 0

@@ -1,5 +1,5 @@
 -- What dies with a bind that is built anew.
-use Rattle.std.specs.Prelude.{◌≡◌, ◌≢◌, ◌⊎◌, ◌↔◌, true, false, [], List, Option, None, Some, IsSome, option_map, option_and_then, ◌≤◌, length}
+use Rattle.std.specs.Prelude.{◌≡◌, ◌≢◌, ◌⊎◌, ◌↔◌, ◌++◌, true, false, [], List, Option, None, Some, IsSome, option_map, option_and_then, ◌≤◌, length}
 use Rattle.inc_value.specs.declared.node.NodeId.{NodeId}
 use Rattle.inc_value.specs.declared.node.Point.{Point}
 use Rattle.inc_value.specs.Choice.{Among, NoRepeats, Reaches}
@@ -223,7 +223,7 @@ pub record HasDied (old new : Parts) (b : NodeId) : Type 0 where
   pub pairs : new.work.pairs.nodes ≡ old.work.pairs.nodes
   pub scoped : new.work.scoped.nodes ≡ old.work.scoped.nodes
   pub todo : new.work.todo.items ≡ old.work.todo.items
-  pub called : new.work.ran.items ≡ old.work.ran.items
+  pub called : new.work.ran ≡ old.work.ran
   pub retries : new.work.retries ≡ old.work.retries
   pub round : new.work.round ≡ old.work.round
   pub experts : new.work.experts ≡ old.work.experts
@@ -236,6 +236,13 @@ pub record AreListed (arena : Arena) (old new : Work) (nodes : List NodeId) : Ty
   pub died : (n : NodeId) → Among n nodes → died_at new n ≡ scope_at arena n
   pub others : (n : NodeId) → (Among n nodes → ⊥) → died_at new n ≡ died_at old n
   pub rest : new ≡ record old { deaths = new.deaths }
+
+-- just the nodes stand behind those that stood there before, each once
+pub record AreBehind (old new nodes : List NodeId) : Type 0 where
+  pub more : List NodeId
+  pub behind : new ≡ old ++ more
+  pub same : (n : NodeId) → Among n more ↔ Among n nodes
+  pub once : NoRepeats more
 
 -- the nodes are live with their points, are listed once each, and are among those that died in the round
 pub record MayForget (arena : Arena) (work : Work) (nodes : List NodeId) : Type 0 where
@@ -276,7 +283,7 @@ pub record AreForgotten (before arena : Arena) (old new : Work) (nodes : List No
   pub pairs : new.pairs.nodes ≡ old.pairs.nodes
   pub scoped : new.scoped.nodes ≡ old.scoped.nodes
   pub todo : new.todo.items ≡ old.todo.items
-  pub ran : new.ran.items ≡ old.ran.items
+  pub ran : new.ran ≡ old.ran
   pub retries : new.retries ≡ old.retries
   pub round : new.round ≡ old.round
   pub experts : new.experts ≡ old.experts

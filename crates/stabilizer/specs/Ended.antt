@@ -47,7 +47,7 @@ module _ {K More : Type 0} (keeper : Ghosts K More) (fs fs' : K) (old new : Part
     pub shows : (n : NodeId) → Given old.arena.given n → ShowsStill (functions_of keeper fs) old new n
     pub unbuilt : (since : ℕ) (nodes freezes observed : List NodeId) → BeginsAt old since roots nodes freezes observed
         → BuildsAllBut (functions_of keeper fs) old new (nodes ++ observed) e
-    pub ran : new.ran ≡ old.ran
+    pub ran : new.ran.items ≡ old.ran.items
     pub spends : GivesFew (keeper.right fs') old.arena.given new.arena
     pub full : StopsFull (keeper.right fs') new.arena (counts_by keeper fs) (counts_by keeper fs') e
 

@@ -1,10 +1,10 @@
 -- What the parts keep between any two calls, and what a keeper of functions counted.
-use Rattle.std.specs.Prelude.{◌≡◌, ◌⊎◌, ◌↔◌, ◌<◌, ℕ, min, [], Some, Result, Ok, Err}
+use Rattle.std.specs.Prelude.{◌≡◌, ◌⊎◌, ◌↔◌, ◌<◌, ◌≤◌, ℕ, min, [], Some, Result, Ok, Err, vec_capacity}
 use Rattle.inc_value.specs.Counts.{raised}
 use Rattle.inc_value.specs.declared.node.NodeId.{NodeId}
 use Rattle.inc_terms.specs.Graph.{Graph, Row}
 use Rattle.scopes.specs.Scopes.{Scopes, StandsIn}
-use Rattle.node_arena.specs.Arena.{Arena, row_at}
+use Rattle.node_arena.specs.Arena.{Arena, live, row_at}
 use Rattle.node_arena.specs.RightSide.{SameMeaning}
 use Rattle.node_arena.specs.declared.functions.Functions.{Ghosts}
 use Rattle.stabilize_round.specs.Counts.{last_count}
@@ -43,6 +43,7 @@ pub record PartsKept (parts : Parts) : Type 0 where
   pub scopes : KeepsScopes parts.arena parts.scopes
   pub dying : parts.dying.items ≡ []
   pub clock : KeepsClock parts.arena parts.timed
+  pub listing : live parts.arena ≤ vec_capacity parts.ran
 
 -- the count of calls that found no memory: it stays, but that a call which finds none refuses what it was called for, as want of memory, and is counted
 abbrev pub WantsTell : {T : Type 0} → Result T Refused → ℕ → ℕ → Type 0

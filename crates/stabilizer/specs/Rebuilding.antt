@@ -90,7 +90,7 @@ module _ {K More : Type 0} (keeper : Ghosts K More) (fs fs' : K) where
     pub wants : keeper.wants fs' ≡ keeper.wants fs
     pub own : (r : Row) → row_at old.arena n ≡ Some r → row_at new.arena n ≡ Some r
     pub there : Holds new.work.rows (change n)
-    pub ran : new.ran ≡ old.ran
+    pub ran : new.ran.items ≡ old.ran.items
     pub roots : KeepsRoots old.work.graph.roots new.work.graph.roots
     pub round : new.work.round ≡ old.work.round
     pub quiet : new.work.todo.items ≡ []

@@ -33,4 +33,4 @@ pub record RoundStays {K More : Type 0} (keeper : Ghosts K More) (fs fs' : K) (o
   pub flat : StaysFlat old.arena new.arena
   pub roots : KeepsRoots old.work.graph.roots new.work.graph.roots
   pub round : new.work.round ≡ old.work.round
-  pub ran : new.ran ≡ old.ran
+  pub ran : new.ran.items ≡ old.ran.items

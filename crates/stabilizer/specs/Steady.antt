@@ -1,5 +1,5 @@
 -- Rounds for which all room was made beforehand.
-use Rattle.std.specs.Prelude.{◌≡◌, ◌≢◌, ◌<◌, ◌≤◌, true, length, List, [], Some, vec_capacity}
+use Rattle.std.specs.Prelude.{◌≡◌, ◌≢◌, ◌<◌, ◌≤◌, true, length, List, [], Some}
 use Rattle.inc_value.specs.Choice.{Among}
 use Rattle.inc_value.specs.Value.{type_of}
 use Rattle.inc_value.specs.declared.node.NodeId.{NodeId}
@@ -11,7 +11,7 @@ use Rattle.inc_terms.specs.Graph.{Row}
 use Rattle.inc_terms.specs.Term.{Functions}
 use Rattle.expert_nodes.specs.Experts.{kids_at}
 use Rattle.necessary_graph.specs.Part.{Needed}
-use Rattle.node_arena.specs.Arena.{live, row_at}
+use Rattle.node_arena.specs.Arena.{row_at}
 use Rattle.node_outcomes.specs.Computing.{last_in, seen}
 use Rattle.node_outcomes.specs.Row.{outcome_in}
 use Rattle.observers.specs.Observers.{in_use, IsToldNoText}
@@ -31,8 +31,8 @@ pub record StaysChosen (F : Functions) (parts : Parts) (n subject : NodeId) : Ty
 
 -- a round that puts on these roots, and tells these observers, takes no memory of its own: it has a number; no point waits for links, as an expert does
 -- that was linked to a node since the last round; need begins where it began; no needed left, test or child of a join changes; what is needed is of another
--- type than texts, and its function gave no text last; each observer in use looks at what is needed already, and wasn't told of a text last; no needed
--- expert lists more than two nodes; and there is room to list all live nodes as those that ran
+-- type than texts, and its function gave no text last; each observer in use looks at what is needed already, and wasn't told of a text last; and no
+-- needed expert lists more than two nodes
 pub record IsSteady (F : Functions) (parts : Parts) (roots : List NodeId) (made : List Observer) : Type 0 where
   pub numbered : parts.work.round < last_count
   pub unlinked : parts.work.todo.items ≡ []
@@ -44,4 +44,3 @@ pub record IsSteady (F : Functions) (parts : Parts) (roots : List NodeId) (made 
   pub recalled : (n : NodeId) (c : Call) → Needed parts.work.graph (main n) → last_in parts.work.rows n ≡ Some c → type_of c.result ≢ Text
   pub told : (o : Observer) → Among o made → o.in_use ≡ true → IsToldNoText o.watch
   pub few : (n : NodeId) → Needed parts.work.graph (main n) → length (kids_at parts.work.experts n) ≤ 2
-  pub roomy : live parts.arena ≤ vec_capacity parts.work.ran

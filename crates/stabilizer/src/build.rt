@@ -1,5 +1,5 @@
 //! Right sides that are built, and dropped again where a build is refused.
-ghost use Rattle.std.specs.Prelude.{◌≡◌, ◌↔◌, ◌≤◌, ◌<◌, ◌+◌, ◌-◌, false, None, Some, IfOk, IfErr, OnOk, OnErr, ℕ};
+ghost use Rattle.std.specs.Prelude.{◌≡◌, ◌↔◌, ◌≤◌, ◌<◌, ◌+◌, ◌-◌, false, None, Some, IfOk, IfErr, OnOk, OnErr, ℕ, vec_capacity};
 ghost use Rattle.inc_value.specs.declared.node.NodeId.{NodeId as ANode};
 ghost use Rattle.inc_value.specs.declared.node.Point.{Point as APoint};
 ghost use Rattle.inc_terms.specs.Depend.{change};
@@ -17,7 +17,7 @@ ghost use Rattle.stabilizer.specs.Building.{HasDisowned, DropsSince};
 ghost use Rattle.stabilizer.specs.Rooted.{MayBuildFor, WasBuilt, GetsRoot, GetsNoRoot};
 ghost use Rattle.stabilizer.specs.Giving.{GivesLive};
 
-use crate::parts::Parts;
+use crate::parts::{Parts, make_room_to_list};
 use inc_terms::Nodes;
 use inc_value::{FnRef, NodeId, Point, Value};
 use node_arena::{Arena, BuildFault, Functions};
@@ -107,13 +107,19 @@ impl Parts {
         }
     }
 
-    /// Makes the points of the nodes that were added to a bind's scope since the count. Without memory some have them.
+    /// Makes the points of the nodes that were added to a bind's scope since the count, and room to list all live nodes as
+    /// those whose functions are called. Without memory some have their points.
     fn adopt_since(&mut self, bind: NodeId, count: u64) -> Result<(), AllocError>
         requires ready { MayAdopt self.old count }
         ensures all { OnOk result ((next : ℕ) × AdoptsBefore self.old self.new bind count next
             × NoneSince self.old.arena next) }
+        ensures called { OnOk result (live self.old.arena ≤ vec_capacity self.new.work.ran) }
+        ensures listed { OnOk result (live self.old.arena ≤ vec_capacity self.new.ran) }
         ensures some { OnErr result ((next : ℕ) × AdoptsBefore self.old self.new bind count next) }
     {
+        let Ok(()) = make_room_to_list(&self.arena, &mut self.work.ran, &mut self.ran) else {
+            return Err(AllocError);
+        };
         let mut next = count;
         while let Some(node) = self.arena.first_since(next) {
             self.adopt(bind, node)?;

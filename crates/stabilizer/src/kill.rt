@@ -1,5 +1,5 @@
 //! What was built for a bind is cut off, and dies.
-ghost use Rattle.std.specs.Prelude.{◌≡◌, ◌≤◌, ◌<◌, ◌-◌, None, Some, IsSome, [], length, vec_capacity};
+ghost use Rattle.std.specs.Prelude.{◌≡◌, ◌≤◌, ◌<◌, ◌-◌, None, Some, IsSome, [], length, drop, vec_capacity};
 ghost use Rattle.inc_value.specs.Choice.{Among, NoRepeats};
 ghost use Rattle.inc_value.specs.declared.node.NodeId.{NodeId as ANode};
 ghost use Rattle.inc_terms.specs.Depend.{change};
@@ -12,7 +12,7 @@ ghost use Rattle.wiring.specs.Kept.{IsKept};
 ghost use Rattle.timed_nodes.specs.Timed.{KeepsClock};
 ghost use Rattle.stabilizer.specs.Kept.{PartsKept, graph_in};
 ghost use Rattle.stabilizer.specs.Dying.{AreDying, IsCutOff, HasDied, HaveGatesAlone, LeavesStanding, StandsBut, scope_at, AreListed, MayForget};
-ghost use Rattle.stabilizer.specs.Dying.{AreForgotten, LosesRight, IsInvalidated, IsPutToGate, KeepsGate};
+ghost use Rattle.stabilizer.specs.Dying.{AreBehind, AreForgotten, LosesRight, IsInvalidated, IsPutToGate, KeepsGate};
 ghost use Rattle.stabilizer.specs.Staying.{ChangeIsTaken};
 
 use crate::parts::Parts;
@@ -93,6 +93,7 @@ impl Parts {
     pub(crate) fn let_die(&mut self, bind: NodeId)
         requires kept { IsKept self.old.arena self.old.work }
         requires clock { KeepsClock self.old.arena self.old.timed }
+        requires listing { live self.old.arena ≤ vec_capacity self.old.ran }
         requires dying { AreDying (graph_in self.old) bind self.old.dying.items }
         requires gates { HaveGatesAlone self.old bind }
         requires scopes { StandsBut self.old bind }
@@ -101,22 +102,24 @@ impl Parts {
         ensures died { HasDied self.old self.new bind }
         ensures kept { PartsKept self.new }
     {
+        let before = self.work.deaths.len();
         self.list_dying();
         self.work.forget_built(bind);
-        self.forget_dying();
+        self.forget_dead(before);
     }
 
-    /// The nodes that are to die are listed among the dead of the round, each with its scope.
+    /// The nodes that are to die go over to the dead of the round, each with its scope.
     fn list_dying(&mut self)
         requires once { NoRepeats self.old.dying.items }
         requires scopes { (n : ANode) → Among n self.old.dying.items → IsSome (scope_at self.old.arena n) }
         requires absent { (n : ANode) → Among n self.old.dying.items → died_at self.old.work n ≡ None }
         requires room { length self.old.dying.items ≤ self.old.work.deaths.spare }
         ensures listed { AreListed self.old.arena self.old.work self.new.work self.old.dying.items }
-        ensures rest { self.new ≡ record self.old { work = self.new.work } }
+        ensures behind { AreBehind self.old.work.deaths.nodes self.new.work.deaths.nodes self.old.dying.items }
+        ensures none { self.new.dying.items ≡ [] }
+        ensures rest { self.new ≡ record self.old { work = self.new.work; dying = self.new.dying } }
     {
-        for place in 0..self.dying.len() {
-            let node = self.dying[place];
+        while let Some(node) = self.dying.pop() {
             if let Some(scope) = self.scope_of(node) {
                 self.work.deaths.add(node, scope);
             }
@@ -130,16 +133,18 @@ impl Parts {
         self.arena.get(node)?.scope
     }
 
-    /// The nodes that are to die are dropped.
-    fn forget_dying(&mut self)
-        requires forget { MayForget self.old.arena self.old.work self.old.dying.items }
-        ensures forgotten { AreForgotten self.old.arena self.new.arena self.old.work self.new.work self.old.dying.items }
-        ensures none { self.new.dying.items ≡ [] }
+    /// The nodes that died in the round behind so many others are forgotten and dropped.
+    fn forget_dead(&mut self, before: usize)
+        requires forget { MayForget self.old.arena self.old.work (drop before self.old.work.deaths.nodes) }
+        ensures forgotten { AreForgotten self.old.arena self.new.arena self.old.work self.new.work (drop before self.old.work.deaths.nodes) }
         ensures step { IsInStep self.new.work.graph }
         ensures clock { KeepsClock self.old.arena self.old.timed → KeepsClock self.new.arena self.new.timed }
-        ensures rest { self.new ≡ record self.old { arena = self.new.arena; timed = self.new.timed; work = self.new.work; dying = self.new.dying } }
+        ensures rest { self.new ≡ record self.old { arena = self.new.arena; timed = self.new.timed; work = self.new.work } }
     {
-        while let Some(node) = self.dying.pop() {
+        let mut place = self.work.deaths.len();
+        while place > before {
+            place -= 1;
+            let node = self.work.deaths.at(place);
             self.work.forget(node);
             self.timed.forget(node);
             self.arena.drop_node(node);

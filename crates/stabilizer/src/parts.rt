@@ -53,9 +53,11 @@ pub struct Parts {
     /// Which nodes stand in the scopes of binds.
     pub(crate) scopes: Scopes,
     pub(crate) work: Work,
-    /// The nodes that a kill has found, from when they are put back to when they are forgotten. None between any two calls.
+    /// The nodes that a kill has found, from when they leave their scopes to when they are among the round's dead: a node
+    /// that dies is in one of the three at a time. None between any two calls.
     pub(crate) dying: Vec<NodeId>,
-    /// The nodes whose functions were called in the last round that ended, each once.
+    /// The nodes whose functions were called in the last round that ended, each once. There is room for all live nodes, as the
+    /// next round lists its own here.
     pub(crate) ran: Vec<NodeId>,
 }
 
@@ -146,6 +148,10 @@ impl Parts {
         ensures placed { OnOk result (HasNode self.old self.new id (record { def = def_of def; ty = ty; scope = None })) }
         ensures left { OnErr result (AddsNothing self.old self.new) }
     {
+        let Ok(()) = make_room_to_list(&self.arena, &mut self.work.ran, &mut self.ran) else {
+            drop(def);
+            return Err(AllocError);
+        };
         let added = self.work.add_node(&self.arena, id, &def, None);
         match added {
             Ok(()) => {}
@@ -470,6 +476,32 @@ impl Parts {
     {
         &self.ran
     }
+}
+
+/// Makes room in both lists for all live nodes, and one more. Each has what it had.
+pub(crate) fn make_room_to_list(
+    arena: &Arena,
+    called: &mut Vec<NodeId>,
+    listed: &mut Vec<NodeId>,
+) -> Result<(), AllocError>
+    ensures room { OnOk result ((live arena.now < vec_capacity called.new) × (live arena.now < vec_capacity listed.new)) }
+    ensures called { (called.new.items ≡ called.old.items) × (vec_capacity called.old ≤ vec_capacity called.new) }
+    ensures listed { (listed.new.items ≡ listed.old.items) × (vec_capacity listed.old ≤ vec_capacity listed.new) }
+{
+    let count = arena.live() as usize + 1;
+    let Ok(()) = make_room_for(called, count) else {
+        return Err(AllocError);
+    };
+    make_room_for(listed, count)
+}
+
+/// Makes room for so many nodes in all.
+fn make_room_for(nodes: &mut Vec<NodeId>, count: usize) -> Result<(), AllocError>
+    ensures room { OnOk result (count ≤ vec_capacity nodes.new) }
+    ensures items { nodes.new.items ≡ nodes.old.items }
+    ensures more { vec_capacity nodes.old ≤ vec_capacity nodes.new }
+{
+    nodes.reserve(count.saturating_sub(nodes.len()))
 }
 
 /// The main of an expert whose list grew is due where it is needed, and is to be given its links.

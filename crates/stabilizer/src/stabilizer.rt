@@ -40,7 +40,7 @@ use inc_value::{NodeId, Outcome, Part, Point};
 use node_arena::{Arena, Functions};
 use node_outcomes::{Progress, compute, ran_with, shown};
 use observers::Observers;
-use point_map::PointMap;
+use slot_map::SlotMap;
 use std::alloc::{AllocError, Global};
 use std::mem;
 use wiring::{Refused, Work};
@@ -357,7 +357,7 @@ fn turn_change<F: Functions>(
 /// What a node's right side is to be built by, if the node is a bind that isn't built for the outcome.
 fn due_recipe(
     alloc: Global,
-    rows: &PointMap<Progress>,
+    rows: &SlotMap<Progress>,
     node: NodeId,
     def: &Def,
     given: &Outcome,

@@ -112,7 +112,7 @@ woken old mid todo rows q w e rest there more =
       round = record {
         roots = ap (λ (k : Work). k.roots) rest;
         deaths = ap (λ (k : Work). k.deaths) rest;
-        ran = ap (λ (k : Work). k.ran.items) rest;
+        ran = ap (λ (k : Work). k.ran) rest;
         retries = ap (λ (k : Work). k.retries) rest;
         round = ap (λ (k : Work). k.round) rest;
         experts = ap (λ (k : Work). k.experts) rest;
@@ -128,7 +128,6 @@ module _ (old : Work) (q : Point) (step_is : IsInStep old.graph) (dead : at old.
   bare_rows = record {
     changed = dead ∙ sym (ap (option_map (with_stage Bare)) dead);
     others = λ p ne. refl;
-    points = λ i. refl;
   }
 
   no_row : Holds old.rows q → ⊥

@@ -107,6 +107,7 @@ module _ (arena : Arena) (old : Work) (p : Point) (experts : List ExpertPlace) (
     held = λ a. refl;
     roots = refl;
     deaths = refl;
+    ran = refl;
     round = refl;
     lists = record { pairs = refl; scoped = refl };
     experts = up_reads;
@@ -127,7 +128,7 @@ module _ (arena : Arena) (old : Work) (p : Point) (experts : List ExpertPlace) (
 
     up_stands : (s : State) (counts : Counts) (owed : List Point) → MatchesState arena old counts (Some (hand p owed)) s
         → MatchesState arena up counts (Some (hand p owed)) s
-    up_stands s counts owed on = most_stands old up up_most arena s s refl on refl (record {
+    up_stands s counts owed on = most_stands old up up_most arena s s on refl (record {
       links = on.links;
       root = on.root;
       needed = on.needed;

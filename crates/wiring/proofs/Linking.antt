@@ -95,7 +95,7 @@ module _ (F : Functions) (z : Start) (s : State) (arena : Arena) (old : Work) (g
 
   pub linked_with : (N : Point → Type 0) → ((a : Point) → (s.needed a ≡ true) ↔ N a) → StandsWith N arena (record old { graph = g }) counts
       (Some (hand p rest)) after
-  linked_with N needed = most_stands old (record old { graph = g }) (most_same old g old.todo old.retries) arena s after refl st refl (record {
+  linked_with N needed = most_stands old (record old { graph = g }) (most_same old g old.todo old.retries) arena s after st refl (record {
     links = links_after;
     root = λ a. st.root a ∙ sym (roots a);
     needed = needed;
@@ -208,7 +208,7 @@ module _ (F : Functions) (z : Start) (s : State) (arena : Arena) (mid new : Work
       → ((a : Point) → owed a ≡ owed_in owed_new held a)
       → MatchesState arena new counts held (record woken { todo = todo; stage = stage; owed = owed })
   woken_with todo stage owed todo_is stage_is owed_is =
-      most_stands mid new (most_staged mid new q code.Bare w.rows w.lists w.round) arena s (record woken { todo = todo; stage = stage; owed = owed }) w.round.ran
+      most_stands mid new (most_staged mid new q code.Bare w.rows w.lists w.round) arena s (record woken { todo = todo; stage = stage; owed = owed })
       st refl (record {
         links = λ a b. st.links a b ∙ ap (λ (l : Links). times l a b) (sym w.graph.links);
         root = λ a. st.root a ∙ ap (λ (r : Roots). root_times r a) (sym w.graph.roots);

@@ -149,7 +149,7 @@ pub raised_stands : (s : State) (arena : Arena) (work : Work) (rows : Rows Progr
     → ((a : Point) (k : Progress) → at rows a ≡ Some k → at_point p st s.stage a ≡ stage_of k.stage)
     → MatchesState arena (record work { rows = rows }) counts (Some (hand p links)) (raised s p st links)
 raised_stands s arena work rows counts p st links on most others stages =
-    most_stands work (record work { rows = rows }) most arena s (raised s p st links) refl on refl (record {
+    most_stands work (record work { rows = rows }) most arena s (raised s p st links) on refl (record {
       links = on.links;
       root = on.root;
       needed = on.needed;

@@ -54,7 +54,7 @@ module _ (F : Functions) (z : Start) (s : State) (arena : Arena) (old : Work) (g
   high a = level_is a ∙ sym (ap (λ h. level h a) heights)
 
   pub rooted_with : (N : Point → Type 0) → ((a : Point) → (s.needed a ≡ true) ↔ N a) → StandsWith N arena (record old { graph = g }) counts None (rooted s p)
-  rooted_with N needed = most_stands old (record old { graph = g }) (most_same old g old.todo old.retries) arena s (rooted s p) refl st refl (record {
+  rooted_with N needed = most_stands old (record old { graph = g }) (most_same old g old.todo old.retries) arena s (rooted s p) st refl (record {
     links = λ a b. st.links a b ∙ sym (links a b);
     root = roots_more s.root old.graph.roots g.roots p st.root more;
     needed = needed;

@@ -1,6 +1,6 @@
 -- Rows that keep all but their stages, and experts that read what they read: what the work keeps then, and what a state shows of it.
 use Rattle.std.proofs.Common.{◌≡◌, ◌⊎◌, inl, inr, ℕ, Bool, true, List, Option, None, Some, refl, sym, ap, subst, ◌∙◌, arith, Vec, Global}
-use Rattle.std.specs.Prelude.{is_some, option_map, reverse, ◌↔◌, ◌==◌}
+use Rattle.std.specs.Prelude.{◌≤◌, is_some, option_map, reverse, vec_capacity, ◌↔◌, ◌==◌}
 use Rattle.std.proofs.lemmas.Option.{none-some, same_Some}
 use Rattle.inc_value.specs.declared.node.NodeId.{NodeId}
 use Rattle.inc_value.specs.declared.node.Point.{Point}
@@ -13,7 +13,7 @@ use Rattle.link_table.specs.Links.{times, Reads, KeepsLinks}
 use Rattle.necessity.specs.Need.{root_times, KeepsRoots}
 use Rattle.height_order.specs.Levels.{level, KeepsPoints}
 use Rattle.necessary_graph.specs.Part.{NecessaryPart, Needed, IsInStep}
-use Rattle.node_arena.specs.Arena.{Arena, row_at}
+use Rattle.node_arena.specs.Arena.{Arena, live, row_at}
 use Rattle.node_arena.specs.Graph.{graph_of}
 use Rattle.node_arena.specs.Typing.{FoldTakes}
 use Rattle.expert_nodes.specs.Experts.{ExpertPlace, fresh_at}
@@ -116,6 +116,7 @@ pub record KeepsMost (old new : Work) : Type 0 where
   pub held : (a : Point) → is_some (at new.rows a) ≡ is_some (at old.rows a)
   pub roots : new.roots ≡ old.roots
   pub deaths : new.deaths ≡ old.deaths
+  pub ran : new.ran ≡ old.ran
   pub round : new.round ≡ old.round
   pub lists : KeepsLists old new
   pub experts : ReadSame old.experts new.experts
@@ -127,6 +128,7 @@ most_still old new rows lists round = record {
   held = λ a. ap is_some (rows a);
   roots = round.roots;
   deaths = round.deaths;
+  ran = round.ran;
   round = round.round;
   lists = lists;
   experts = read_as old.experts new.experts round.experts;
@@ -140,6 +142,7 @@ most_staged old new q st w lists round = record {
   held = rewritten_there old.rows new.rows q (with_stage st) w;
   roots = round.roots;
   deaths = round.deaths;
+  ran = round.ran;
   round = round.round;
   lists = lists;
   experts = read_as old.experts new.experts round.experts;
@@ -157,6 +160,7 @@ most_same work graph todo left = record {
   held = λ a. refl;
   roots = refl;
   deaths = refl;
+  ran = refl;
   round = refl;
   lists = record { pairs = refl; scoped = refl };
   experts = read_still work.experts;
@@ -180,6 +184,7 @@ most_then old mid new first next = record {
   held = λ a. next.held a ∙ first.held a;
   roots = next.roots ∙ first.roots;
   deaths = next.deaths ∙ first.deaths;
+  ran = next.ran ∙ first.ran;
   round = next.round ∙ first.round;
   lists = record { pairs = next.lists.pairs ∙ first.lists.pairs; scoped = next.lists.scoped ∙ first.lists.scoped };
   experts = read_then old.experts mid.experts new.experts first.experts next.experts;
@@ -193,7 +198,7 @@ module _ (old new : Work) (rest : new ≡ record old { graph = new.graph; rows =
   rest_round = record {
     roots = ap (λ (w : Work). w.roots) rest;
     deaths = ap (λ (w : Work). w.deaths) rest;
-    ran = ap (λ (w : Work). w.ran.items) rest;
+    ran = ap (λ (w : Work). w.ran) rest;
     retries = ap (λ (w : Work). w.retries) rest;
     round = ap (λ (w : Work). w.round) rest;
     experts = ap (λ (w : Work). w.experts) rest;
@@ -297,7 +302,10 @@ module _ (old new : Work) (most : KeepsMost old new) where
       lists = λ n r f v ns row is. subst (λ (xs : List NodeId). FoldTakes arena r.ty xs f.sig.takes) (sym (most.experts.kids n)) (k.lists n r f v ns row is);
       tops = k.tops;
       frozen = λ n w e on. let b = most.rows (main n) w e in fired_still arena n b.row w (k.frozen n b.row b.was (sym b.frozen ∙ on)) b.last;
-      rooms = record { calls = λ n r w row e. let b = most.rows (main n) w e in let x = k.rooms.calls n r b.row row b.was in let y = b.room in omega (arith, x, y) };
+      rooms = record {
+        calls = λ n r w row e. let b = most.rows (main n) w e in let x = k.rooms.calls n r b.row row b.was in let y = b.room in omega (arith, x, y);
+        ran = subst (λ (v : Vec NodeId Global). live arena ≤ vec_capacity v) (sym most.ran) k.rooms.ran;
+      };
     }
 
     -- so it is where the same points are there, who reads another did, and who was needed is
@@ -315,9 +323,9 @@ module _ (old new : Work) (most : KeepsMost old new) where
 
   -- a state stands that is another in no more than what the work shows of links
   pub most_stands : {N N' : Point → Type 0} {counts : Counts} {held held' : Option PointInHand} (arena : Arena) (s t : State)
-      → new.ran.items ≡ old.ran.items → StandsWith N arena old counts held s → IsBeside s t → ShowsLinks N' new held' t
+      → StandsWith N arena old counts held s → IsBeside s t → ShowsLinks N' new held' t
       → StandsWith N' arena new counts held' t
-  most_stands arena s t ran st same shows = record {
+  most_stands arena s t st same shows = record {
     graph = ap (λ (x : State). x.graph) same ∙ (st.graph ∙ sym (most_graph arena));
     out = λ a k e. let b = most.rows a k e in ap (λ (x : State). x.out a) same ∙ (st.out a b.row b.was ∙ sym b.outcome);
     last = λ n k e. let b = most.rows (main n) k e in ap (λ (x : State). x.last n) same ∙ (st.last n b.row b.was ∙ sym b.last);
@@ -334,7 +342,7 @@ module _ (old new : Work) (most : KeepsMost old new) where
     todo = shows.todo;
     retries = shows.retries;
     died = λ n. ap (λ (x : State). x.died n) same ∙ (st.died n ∙ sym (died_same old new most.deaths n));
-    ran = ap (λ (x : State). x.ran) same ∙ (st.ran ∙ ap reverse (sym ran));
+    ran = ap (λ (x : State). x.ran) same ∙ (st.ran ∙ ap (λ (v : Vec NodeId Global). reverse v.items) (sym most.ran));
     counts = ap counts_of same ∙ st.counts;
     given = ap (λ (x : State). x.given) same ∙ st.given;
   }
@@ -359,7 +367,7 @@ pub shown_stands : (s : State) (arena : Arena) (old new : Work) (counts : Counts
     → ((a : Point) → Needed new.graph a → height' a ≡ level new.graph.heights a) → ((a : Point) → heap' a ≡ is_some (at new.graph.heap a))
     → MatchesState arena old counts held s → MatchesState arena new counts held (record s { height = height'; heap = heap' })
 shown_stands s arena old new counts held height' heap' rows lists round links roots todo height heap st =
-    most_stands old new (most_still old new rows lists round) arena s (record s { height = height'; heap = heap' }) round.ran st refl (record {
+    most_stands old new (most_still old new rows lists round) arena s (record s { height = height'; heap = heap' }) st refl (record {
       links = λ a b. st.links a b ∙ sym (links a b);
       root = λ a. st.root a ∙ sym (roots a);
       needed = λ a. (
@@ -381,7 +389,7 @@ pub hand_stands : (s : State) (arena : Arena) (work : Work) (counts : Counts) (h
     → ((a : Point) → todo' a ≡ true → Among a todo.items ⊎ IsInHand held' a)
     → MatchesState arena (record work { todo = todo }) counts held' (record s { owed = owed'; todo = todo' })
 hand_stands s arena work counts held held' todo owed' todo' st owed listed =
-    most_stands work (record work { todo = todo }) (most_same work work.graph todo work.retries) arena s (record s { owed = owed'; todo = todo' }) refl st refl
+    most_stands work (record work { todo = todo }) (most_same work work.graph todo work.retries) arena s (record s { owed = owed'; todo = todo' }) st refl
     (record {
       links = st.links;
       root = st.root;

@@ -217,7 +217,7 @@ module _ (arena : Arena) (old last : Work) (left : ℕ) (taken : TakesOne arena 
   spending = record last { retries = left }
 
   spent_stands : (counts : Counts) (held : Option PointInHand) (t : State) → MatchesState arena last counts held t → MatchesState arena spending counts held (spent t left)
-  spent_stands counts held t k = most_stands last spending (most_same last last.graph last.todo left) arena t (spent t left) refl k refl (record {
+  spent_stands counts held t k = most_stands last spending (most_same last last.graph last.todo left) arena t (spent t left) k refl (record {
     links = k.links;
     root = k.root;
     needed = k.needed;

@@ -247,7 +247,7 @@ module _ (F : Functions) (z : Start) (s : State) (arena : Arena) (old new : Work
       ∙ ap (λ (x : Option ℕ). or_zero x) (sym (height_same arena old new p waited to links l a n))
 
   pub stands_off : MatchesState arena new counts (hand_now old new held) last
-  stands_off = most_stands old new (lowered_most arena old new p waited to links l) arena s last (ap (λ (w : Work). w.ran.items) l.rest) st refl (record {
+  stands_off = most_stands old new (lowered_most arena old new p waited to links l) arena s last st refl (record {
     links = λ a b. refl;
     root = λ a. st.root a ∙ sym (same_roots arena old new p waited to links l a);
     needed = decided;

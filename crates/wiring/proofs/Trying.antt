@@ -115,7 +115,7 @@ module _ (old mid closed : Work) (g : NecessaryPart) (q : Point) (opened : Bool)
     round = record {
       roots = ap (λ (x : Work). x.roots) rest ∙ looks.round.roots;
       deaths = ap (λ (x : Work). x.deaths) rest ∙ looks.round.deaths;
-      ran = ap (λ (x : Work). x.ran.items) rest ∙ looks.round.ran;
+      ran = ap (λ (x : Work). x.ran) rest ∙ looks.round.ran;
       retries = ap (λ (x : Work). x.retries) rest ∙ looks.round.retries;
       round = ap (λ (x : Work). x.round) rest ∙ looks.round.round;
       experts = ap (λ (x : Work). x.experts) rest ∙ looks.round.experts;

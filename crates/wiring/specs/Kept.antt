@@ -1,5 +1,5 @@
 -- What the parts of a stabilizer keep between any two calls.
-use Rattle.std.specs.Prelude.{◌≡◌, ◌⊎◌, ◌≤◌, ◌<◌, true, List, length, None, Some, IsSome, is_some}
+use Rattle.std.specs.Prelude.{◌≡◌, ◌⊎◌, ◌≤◌, ◌<◌, true, List, length, None, Some, IsSome, is_some, vec_capacity}
 use Rattle.inc_value.specs.Choice.{Among, Every}
 use Rattle.inc_value.specs.declared.function.FnRef.{FnRef}
 use Rattle.inc_value.specs.declared.node.NodeId.{NodeId}
@@ -14,7 +14,7 @@ use Rattle.inc_terms.specs.Within.{Given}
 use Rattle.point_map.specs.Rows.{at, Holds}
 use Rattle.link_table.specs.Links.{Reads}
 use Rattle.necessary_graph.specs.Part.{IsInStep, Needed}
-use Rattle.node_arena.specs.Arena.{Arena, row_at}
+use Rattle.node_arena.specs.Arena.{Arena, live, row_at}
 use Rattle.node_arena.specs.Sound.{IsSoundArena}
 use Rattle.node_arena.specs.Typing.{Fits, FoldTakes}
 use Rattle.stabilize_round.specs.Freezing.{found}
@@ -62,9 +62,10 @@ pub record HasFired (arena : Arena) (n : NodeId) (k : Progress) : Type 0 where
 abbrev pub FitsRoom : Row → Progress → Type 0
 FitsRoom r k = length (kids r.def) ≤ k.room
 
--- there is room where functions are called: so it is of each live node
+-- there is room where functions are called: so it is of each live node, and all of them can be listed as those that ran
 pub record HasRooms (arena : Arena) (work : Work) : Type 0 where
   pub calls : (n : NodeId) (r : Row) (k : Progress) → row_at arena n ≡ Some r → at work.rows (main n) ≡ Some k → FitsRoom r k
+  pub ran : live arena ≤ vec_capacity work.ran
 
 -- the definition is a bind's
 abbrev pub IsBind : Def → Type 0

@@ -41,7 +41,7 @@ use Rattle.wiring.specs.declared.work.Work.{Work}
 pub record KeepsRound (old new : Work) : Type 0 where
   pub roots : new.roots ≡ old.roots
   pub deaths : new.deaths ≡ old.deaths
-  pub ran : new.ran.items ≡ old.ran.items
+  pub ran : new.ran ≡ old.ran
   pub retries : new.retries ≡ old.retries
   pub round : new.round ≡ old.round
   pub experts : new.experts ≡ old.experts

@@ -15,12 +15,12 @@ use inc_value::{NodeId, Point};
 use necessary_graph::Skip;
 use node_lists::Deaths;
 use node_outcomes::{Progress, was_settled};
-use point_map::PointMap;
+use slot_map::SlotMap;
 
 /// The points that aren't told of a death: those that were settled in the round, and those of nodes that die too.
 #[derive(Drop)]
 pub(crate) struct Untold<'a> {
-    pub rows: &'a PointMap<Progress>,
+    pub rows: &'a SlotMap<Progress>,
     pub deaths: &'a Deaths,
     pub round: u64,
 }
@@ -110,7 +110,7 @@ impl Work {
         }
     }
 
-    /// Takes the link of a point to its gate off, if it has one.
+    /// Takes the link of a point to its gate off, if it has one. One that isn't there has none: it is looked up once.
     fn release(&mut self, p: Point, gate: Point)
         requires step { IsInStep self.old.graph }
         ensures off { IsUnlinked (rowless self.old) self.old.graph self.new.graph p gate
@@ -118,7 +118,7 @@ impl Work {
         ensures step { IsInStep self.new.graph }
         ensures rest { self.new ≡ record self.old { graph = self.new.graph } }
     {
-        if self.graph.reads(p, gate) {
+        if self.graph.is_there(p) && self.graph.reads(p, gate) {
             self.unlink(p, gate);
         }
     }

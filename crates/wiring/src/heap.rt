@@ -8,12 +8,12 @@ use crate::work::Work;
 use inc_value::Point;
 use necessary_graph::Skip;
 use node_outcomes::{Progress, was_settled};
-use point_map::PointMap;
+use slot_map::SlotMap;
 
 /// The points that were settled in a round.
 #[derive(Drop)]
 pub(crate) struct Settled<'a> {
-    pub rows: &'a PointMap<Progress>,
+    pub rows: &'a SlotMap<Progress>,
     pub round: u64,
 }
 

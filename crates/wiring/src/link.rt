@@ -19,13 +19,13 @@ use inc_value::Point;
 use necessary_graph::{Leaves, LinkFault};
 use node_arena::Arena;
 use node_outcomes::{Progress, Stage, is_gated};
-use point_map::PointMap;
+use slot_map::SlotMap;
 use std::alloc::AllocError;
 
 /// The points without a row, which are those of dead nodes: they are there only while they are needed.
 #[derive(Drop)]
 pub(crate) struct Rowless<'a> {
-    pub rows: &'a PointMap<Progress>,
+    pub rows: &'a SlotMap<Progress>,
 }
 
 impl<'a> Leaves for Rowless<'a> {

@@ -39,19 +39,16 @@ impl Work {
         ensures stays { GraphStays self.old self.new }
         ensures rest { self.new ≡ record self.old { graph = self.new.graph; rows = self.new.rows } }
     {
-        let Ok(()) = self.rows.reserve(1) else {
-            return Err(AllocError);
-        };
         let Ok(row) = unsettled(*self.todo.allocator(), def) else {
             return Err(AllocError);
         };
+        let Ok(()) = self.rows.add(p, row) else {
+            return Err(AllocError);
+        };
         match self.graph.add(p, height) {
-            Ok(()) => {
-                self.rows.insert(p, row);
-                Ok(())
-            }
+            Ok(()) => Ok(()),
             Err(AllocError) => {
-                drop(row);
+                drop(self.rows.remove(p));
                 Err(AllocError)
             }
         }

@@ -20,7 +20,7 @@ use crate::work::Work;
 use inc_value::{NodeId, Point};
 use node_arena::Arena;
 use node_outcomes::{Progress, Stage, is_full, is_static, right_side, set_stage, was_settled};
-use point_map::PointMap;
+use slot_map::SlotMap;
 
 impl Work {
     /// Takes off links that weren't confirmed in this round, and lets fewer links be tried again: those of these points'
@@ -179,7 +179,7 @@ impl Work {
 }
 
 /// Whether a point of a live node has links beside that to its gate.
-fn has_more_than_gate(rows: &PointMap<Progress>, p: Point) -> bool
+fn has_more_than_gate(rows: &SlotMap<Progress>, p: Point) -> bool
     ensures { IsTrue result ↔ ((stage_in (at rows.now p) ≡ Some Stage.Static) ⊎ (stage_in (at rows.now p) ≡ Some Stage.Full)) }
 {
     is_static(rows, p) || is_full(rows, p)

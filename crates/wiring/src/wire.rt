@@ -33,7 +33,7 @@ use node_arena::Arena;
 use node_outcomes::{
     Progress, Stage, is_bare, is_frozen, is_full, is_gated, set_stage, was_settled,
 };
-use point_map::PointMap;
+use slot_map::SlotMap;
 use std::alloc::AllocError;
 
 impl Work {
@@ -407,7 +407,7 @@ impl Work {
 /// Puts the points that read the gate and have its link alone behind the list.
 fn gather_gated(
     graph: &NecessaryGraph,
-    rows: &PointMap<Progress>,
+    rows: &SlotMap<Progress>,
     gate: Point,
     todo: &mut Vec<Point>,
 ) -> Result<(), AllocError>
@@ -426,7 +426,7 @@ fn gather_gated(
 }
 
 /// Whether a point of a live node has its gate's link alone, or none.
-pub(crate) fn lacks_links(rows: &PointMap<Progress>, p: Point) -> bool
+pub(crate) fn lacks_links(rows: &SlotMap<Progress>, p: Point) -> bool
     ensures { IsTrue result ↔ ((stage_in (at rows.now p) ≡ Some Stage.Bare) ⊎ (stage_in (at rows.now p) ≡ Some Stage.Gated)) }
 {
     is_bare(rows, p) || is_gated(rows, p)

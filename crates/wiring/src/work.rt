@@ -1,5 +1,5 @@
 //! What a stabilize works on beside the nodes: who is needed, how far each point has come, and what is to be done.
-ghost use Rattle.std.specs.Prelude.{◌≡◌, ◌<◌, [], None};
+ghost use Rattle.std.specs.Prelude.{◌≡◌, ◌<◌, [], None, vec_capacity};
 ghost use Rattle.inc_value.specs.declared.node.NodeId.{NodeId as ANode};
 ghost use Rattle.inc_value.specs.declared.node.Point.{Point};
 ghost use Rattle.stabilize_round.specs.State.{all_retries};
@@ -17,6 +17,7 @@ use necessary_graph::NecessaryGraph;
 use node_lists::{Deaths, Listed};
 use node_outcomes::Progress;
 use point_map::PointMap;
+use slot_map::SlotMap;
 use std::alloc::Global;
 
 /// How often refused links may be tried again in a round.
@@ -27,7 +28,7 @@ pub struct Work {
     /// Need, heights, and what is to be recomputed.
     pub graph: NecessaryGraph,
     /// A row for each point of a live node.
-    pub rows: PointMap<Progress>,
+    pub rows: SlotMap<Progress>,
     /// The root of each bind that is built for a value, at its change, whose outcome is what the bind is built for.
     pub roots: PointMap<NodeId>,
     /// The lists of experts, and which experts were made stale.
@@ -41,7 +42,8 @@ pub struct Work {
     /// Points that are newly needed and have no links yet, or waited for a change that ran, and mains of experts whose lists
     /// gained nodes.
     pub todo: Vec<Point>,
-    /// The nodes whose functions were called in this round, each once. A fold of no nodes takes no call.
+    /// The nodes whose functions were called in this round, each once. A fold of no nodes takes no call. There is room for all
+    /// live nodes.
     pub ran: Vec<NodeId>,
     /// How often refused links may still be tried again in this round. At 0 all that wasn't confirmed is off, and refusals
     /// are final.
@@ -100,7 +102,7 @@ impl Work {
     {
         Work {
             graph: NecessaryGraph::new(alloc),
-            rows: PointMap::new(alloc),
+            rows: SlotMap::new(alloc),
             roots: PointMap::new(alloc),
             experts: Experts::new(alloc),
             pairs: Listed::new(alloc),
@@ -118,6 +120,7 @@ impl Work {
     pub fn end_round(&mut self, next: u64)
         requires step { IsInStep self.old.graph }
         ensures ran { self.new.ran.items ≡ [] }
+        ensures room { vec_capacity self.new.ran ≡ vec_capacity self.old.ran }
         ensures retries { self.new.retries ≡ all_retries }
         ensures round { self.new.round ≡ next }
         ensures released { IsReleased self.old self.new }

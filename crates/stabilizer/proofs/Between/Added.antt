@@ -1,5 +1,6 @@
 -- What is said of a node that was to be added, by what came of it.
-use Rattle.std.proofs.Common.{◌≡◌, None, Ok, Err, ap, ℕ}
+use Rattle.std.proofs.Common.{◌≡◌, ◌≤◌, None, Ok, Err, ap, ℕ, arith}
+use Rattle.std.specs.Prelude.{vec_capacity}
 use Rattle.inc_value.specs.declared.node.NodeId.{NodeId}
 use Rattle.inc_value.specs.declared.ty.Ty.{Ty}
 use Rattle.inc_terms.specs.Depend.{main}
@@ -34,4 +35,6 @@ says_nothing old new e def ty h =
 
 -- as where it wasn't tried
 pub nothing_tried : (parts : Parts) → PartsKept parts → AddsNothing parts parts
-nothing_tried parts kept = assumption (kept)
+nothing_tried parts kept =
+    let room : vec_capacity parts.work.ran ≤ vec_capacity parts.work.ran = omega arith in
+    assumption (kept, room)

@@ -1,6 +1,6 @@
 -- A node is added, or its points added and dropped again.
-use Rattle.std.proofs.Common.{◌≡◌, ◌≢◌, ◌⊎◌, inl, inr, ℕ, ℤ, ◌+◌, ◌≤◌, true, false, List, [], ◌∷◌, Option, None, Some, refl, sym, ap, subst, ◌∙◌, arith}
-use Rattle.std.specs.Prelude.{is_some}
+use Rattle.std.proofs.Common.{◌≡◌, ◌≢◌, ◌⊎◌, inl, inr, ℕ, ℤ, ◌+◌, ◌≤◌, true, false, List, [], ◌∷◌, Option, None, Some, refl, sym, ap, subst, ◌∙◌, arith, Vec, Global}
+use Rattle.std.specs.Prelude.{is_some, vec_capacity}
 use Rattle.std.proofs.lemmas.Option.{none-some}
 use Rattle.inc_value.specs.declared.node.NodeId.{NodeId}
 use Rattle.inc_value.specs.declared.node.Part.{Part}
@@ -19,7 +19,7 @@ use Rattle.link_table.specs.Links.{Links, times, Reads}
 use Rattle.necessary_graph.specs.Part.{Needed, IsInStep}
 use Rattle.node_lists.specs.Listed.{Listed}
 use Rattle.node_arena.specs.Arena as nodes
-use Rattle.node_arena.specs.Arena.{Arena, row_at}
+use Rattle.node_arena.specs.Arena.{Arena, live, row_at}
 use Rattle.node_arena.specs.Typing.{FoldTakes, Makes}
 use Rattle.node_outcomes.specs.Computing.{has_part, is_expert, is_expert_def}
 use Rattle.stabilize_round.proofs.Points.{node_or_other}
@@ -146,7 +146,7 @@ module _ (before arena : Arena) (old work : Work) (id : NodeId) (row : Row) (hei
     (scoped : work.scoped ≡ old.scoped)
     (links : work.graph.links ≡ old.graph.links) (roots : work.graph.roots ≡ old.graph.roots)
     (heap : (p : Point) → at work.graph.heap p ≡ at old.graph.heap p) (step : IsInStep work.graph)
-    (round : KeepsRound (record old { experts = work.experts }) work) (experts : ExpertIsAdded row.def old.experts work.experts id)
+    (round : KeepsRound (record old { experts = work.experts; ran = work.ran }) work) (experts : ExpertIsAdded row.def old.experts work.experts id)
     (todo : work.todo.items ≡ old.todo.items) where
   expert : AddsExpert row.def old.experts work.experts id
   expert = adds_expert row.def old.experts work.experts id (no_expert before old id kept gen) experts
@@ -219,8 +219,8 @@ module _ (before arena : Arena) (old work : Work) (id : NodeId) (row : Row) (hei
   shows_other : (p : Point) (o : Outcome) → outcome_in (at old.rows p) ≡ Some o → p.node ≢ id
   shows_other p o shows is = none-some o (sym (ap outcome_in (no_row before old id kept gen p is)) ∙ shows)
 
-  pub added_kept : IsKept arena work
-  added_kept = record {
+  pub added_kept : live arena ≤ vec_capacity work.ran → IsKept arena work
+  added_kept room = record {
     step = step;
     rows = λ p. elim (node_or_other p.node id) [
       | inl is ↦ row_made p is ∙ sym (ap (λ (x : Option Row). has_part x p.part) (ap (row_at arena) is ∙ added.changed))
@@ -315,6 +315,7 @@ module _ (before arena : Arena) (old work : Work) (id : NodeId) (row : Row) (hei
         | inl same ↦ subst (λ (x : Row). FitsRoom x k) (row_is n r same e) (subst (FitsRoom row) (is_unsettled (main n) k same is) (omega arith))
         | inr ne ↦ kept.rooms.calls n r k (row_was n r ne e) (sym (rows.others (main n) ne) ∙ is)
       ];
+      ran = room;
     };
   }
 
@@ -324,8 +325,8 @@ module _ (before arena : Arena) (old work : Work) (id : NodeId) (row : Row) (hei
   needed_other : (p : Point) → Needed work.graph p → p.node ≢ id
   needed_other p n = other_node before old id kept gen p (kept.step.there p (need_before p n))
 
-  pub added_stays : Stays before arena old work
-  added_stays = record {
+  pub added_stays : work.ran.items ≡ old.ran.items → Stays before arena old work
+  added_stays ran = record {
     needed = need_before;
     clock = λ p r need row. inr (ap (λ (t : ℤ). clock_value t r.def) added.time);
     lists = λ p n. inl (record {
@@ -353,7 +354,7 @@ module _ (before arena : Arena) (old work : Work) (id : NodeId) (row : Row) (hei
     scoped = λ n b r e scope. record { row = r; is_row = row_now n r e; scope = scope; same = inl refl };
     entered = λ n b r e scope. (r, scoped_was n b r e scope, scope);
     deaths = round.deaths;
-    ran = round.ran;
+    ran = ran;
     retries = round.retries;
     round = round.round;
   }
@@ -380,6 +381,7 @@ module _ (arena : Arena) (old work : Work) (kept : IsKept arena old) (same : Kee
     pairs = λ n r e a. pairs n (ap is_some e) a;
     scoped = λ n r e a. scoped n (ap is_some e) a;
     experts = read_kept old.experts work.experts same.experts;
+    ran = same.room;
   })
 
 pub back_stays : (arena : Arena) (old work : Work) → KeepsWork old work → Stays arena arena old work
@@ -402,7 +404,7 @@ back_stays arena old work same = record {
   scoped = λ n b r e scope. record { row = r; is_row = e; scope = scope; same = inl refl };
   entered = λ n b r e scope. (r, e, scope);
   deaths = same.round.deaths;
-  ran = same.round.ran;
+  ran = same.ran;
   retries = same.round.retries;
   round = same.round.round;
 }
@@ -412,7 +414,8 @@ back_stays arena old work same = record {
 module _ (arena : Arena) (old mid : Work) (id : NodeId) (rows : Part → Option Progress) (heights : Part → Option ℕ) (kept : IsKept arena old)
     (gen : id.gen_ ≡ arena.given) (added : ChangesNode old.rows mid.rows id rows) (points : ChangesNode old.graph.heights mid.graph.heights id heights)
     (links : mid.graph.links ≡ old.graph.links) (roots : mid.graph.roots ≡ old.graph.roots)
-    (heap : (p : Point) → at mid.graph.heap p ≡ at old.graph.heap p) (round : KeepsRound (record old { experts = mid.experts }) mid)
+    (heap : (p : Point) → at mid.graph.heap p ≡ at old.graph.heap p) (round : KeepsRound (record old { experts = mid.experts; ran = mid.ran }) mid)
+    (ran : mid.ran.items ≡ old.ran.items) (room : vec_capacity old.ran ≤ vec_capacity mid.ran)
     (experts : (n : NodeId) → n ≢ id → expert_at mid.experts n ≡ expert_at old.experts n) (todo : mid.todo.items ≡ old.todo.items) where
   pub dropped_again : (work : Work) → ChangesNode mid.rows work.rows id (λ part. None)
       → ChangesNode mid.graph.heights work.graph.heights id (λ part. None)
@@ -429,11 +432,13 @@ module _ (arena : Arena) (old mid : Work) (id : NodeId) (rows : Part → Option 
     round = record {
       roots = round'.roots ∙ round.roots;
       deaths = round'.deaths ∙ round.deaths;
-      ran = round'.ran ∙ round.ran;
+      ran = refl;
       retries = round'.retries ∙ round.retries;
       round = round'.round ∙ round.round;
       experts = refl;
     };
+    ran = ap (λ (l : Vec NodeId Global). l.items) round'.ran ∙ ran;
+    room = subst (λ (l : Vec NodeId Global). vec_capacity old.ran ≤ vec_capacity l) (sym round'.ran) room;
     experts = λ n. elim (node_or_other n id) [
       | inl is ↦ subst (λ (x : NodeId). expert_at work.experts x ≡ expert_at old.experts x) (sym is)
           (experts'.changed ∙ sym (no_expert arena old id kept gen))
@@ -447,15 +452,16 @@ module _ (arena : Arena) (old mid : Work) (id : NodeId) (rows : Part → Option 
 module _ (old new : Parts) (kept : PartsKept old) (same : KeepsWork old.work new.work) (step : IsInStep new.work.graph)
     (pairs : (n : NodeId) → IsLive old.arena n → Among n old.work.pairs.nodes → Among n new.work.pairs.nodes)
     (scoped : (n : NodeId) → IsLive old.arena n → Among n old.work.scoped.nodes → Among n new.work.scoped.nodes)
-    (rest : new ≡ record old { work = new.work }) where
+    (room : vec_capacity old.ran ≤ vec_capacity new.ran) (rest : new ≡ record old { work = new.work; ran = new.ran }) where
   abbrev parts : Parts
-  parts = record old { work = new.work }
+  parts = record old { work = new.work; ran = new.ran }
 
   stays : Stays old.arena old.arena old.work new.work
   stays = back_stays old.arena old.work new.work same
 
   parts_kept : PartsKept parts
   parts_kept = parts_stay old parts kept (back_kept old.arena old.work new.work kept.work same step pairs scoped) stays refl refl kept.clock
+      (let enough = kept.listing in omega (arith, enough, room))
 
   pub back_parts : PartsKept new
   back_parts = subst PartsKept (sym rest) parts_kept
@@ -473,19 +479,20 @@ module _ (old new : Parts) (id : NodeId) (row : Row) (heights : Part → ℕ) (k
     (scoped : new.work.scoped ≡ old.work.scoped)
     (links : new.work.graph.links ≡ old.work.graph.links) (roots : new.work.graph.roots ≡ old.work.graph.roots)
     (heap : (p : Point) → at new.work.graph.heap p ≡ at old.work.graph.heap p) (step : IsInStep new.work.graph)
-    (round : KeepsRound (record old.work { experts = new.work.experts }) new.work)
+    (round : KeepsRound (record old.work { experts = new.work.experts; ran = new.work.ran }) new.work)
     (experts : ExpertIsAdded row.def old.work.experts new.work.experts id)
     (todo : new.work.todo.items ≡ old.work.todo.items) (scopes : new.scopes ≡ old.scopes) (dying : new.dying.items ≡ old.dying.items)
-    (timed : new.timed ≡ old.timed) where
+    (timed : new.timed ≡ old.timed) (ran : new.work.ran.items ≡ old.work.ran.items) (called : live new.arena ≤ vec_capacity new.work.ran)
+    (listed : live new.arena ≤ vec_capacity new.ran) where
   node_stays : Stays old.arena new.arena old.work new.work
   node_stays = added_stays old.arena new.arena old.work new.work id row heights kept.work gen added top sound given rows points pairs scoped links roots
-      heap step round experts todo
+      heap step round experts todo ran
 
   pub added_parts : PartsKept new
   added_parts = parts_stay old new kept (added_kept old.arena new.arena old.work new.work id row heights kept.work gen added top sound given rows points
-      pairs scoped links roots heap step round experts todo) node_stays scopes dying
+      pairs scoped links roots heap step round experts todo called) node_stays scopes dying
       (subst (KeepsClock new.arena) (sym timed) (clock_grown old.arena new.arena old.timed kept.clock (omega (arith, given)) added.time
-      (λ n g. added.others n (λ is. let e = ap (λ (m : NodeId). m.gen_) is in absurd (omega (arith, e, gen, g))))))
+      (λ n g. added.others n (λ is. let e = ap (λ (m : NodeId). m.gen_) is in absurd (omega (arith, e, gen, g)))))) listed
 
   pub added_ready : (M : Meaning) → CallsFit old.arena.given M.known M.ids row.def → IsReady M old → IsReady M new
   added_ready M calls ready = ready_stays M old new ready (added_fit M old.arena new.arena id ready.fit row added given calls) added_parts node_stays

@@ -249,7 +249,10 @@ module _ (before arena : Arena) (old : Work) (g : NecessaryPart) (to : ℤ) (sta
     tops = λ n r row top. kept.tops n r (was n r row) top;
     frozen = λ n k e on. let h = kept.frozen n k e on in
         record { row = h.row; is_row = now n h.row h.is_row; is_freeze = h.is_freeze; value = h.value; last = h.last };
-    rooms = record { calls = λ n r k row e. kept.rooms.calls n r k (was n r row) e };
+    rooms = record {
+      calls = λ n r k row e. kept.rooms.calls n r k (was n r row) e;
+      ran = let room = kept.rooms.ran in let same = moved.live in omega (arith, room, same);
+    };
   }
 
   -- a change is of a node that doesn't read the clock
@@ -307,6 +310,7 @@ module _ (old new : Parts) (to : ℤ) (stale : List NodeId) (kept : PartsKept ol
   parts_kept : PartsKept parts
   parts_kept = parts_stay old parts kept
       (moved_kept old.arena new.arena old.work new.work.graph to stale kept.work moved sound marked step shows lives) stays refl refl clock
+      (let room = kept.listing in let same = moved.live in omega (arith, room, same))
 
   pub moved_parts : PartsKept new
   moved_parts = subst PartsKept (sym rest) parts_kept
@@ -323,7 +327,7 @@ module _ (old : Parts) (timed : Timed) (kept : PartsKept old) (clock : KeepsCloc
   others = record old { timed = timed }
 
   others_kept : PartsKept others
-  others_kept = record { work = kept.work; scopes = kept.scopes; dying = kept.dying; clock = clock }
+  others_kept = record { work = kept.work; scopes = kept.scopes; dying = kept.dying; clock = clock; listing = kept.listing }
 
   others_ready : (M : Meaning) → IsReady M old → IsReady M others
   others_ready M ready = record {

@@ -26,7 +26,7 @@ use Rattle.necessity.specs.Need.{root_times}
 use Rattle.height_order.specs.Levels.{level}
 use Rattle.necessary_graph.specs.Part.{Needed, IsInStep}
 use Rattle.necessary_graph.proofs.Reaching.{root_needed, read_needed}
-use Rattle.node_arena.specs.Arena.{Arena, row_at}
+use Rattle.node_arena.specs.Arena.{Arena, live, row_at}
 use Rattle.node_arena.specs.Graph.{AllCallFit}
 use Rattle.node_outcomes.specs.Meaning.{Meaning}
 use Rattle.node_outcomes.specs.Computing.{has_part, is_expert, is_expert_def}
@@ -545,7 +545,8 @@ same_todo old new e = rw e refl
 module _ (arena : Arena) (work : Work) (sound : IsSoundArena arena) (step : IsInStep work.graph) (nodes : (n : NodeId) → row_at arena n ≡ None)
     (rows : (p : Point) → at work.rows p ≡ None) (points : (p : Point) → at work.graph.heights p ≡ None)
     (links : (p q : Point) → times work.graph.links p q ≡ 0) (heap : (p : Point) → at work.graph.heap p ≡ None)
-    (rights : (p : Point) → at work.roots p ≡ None) (unlisted : work.experts ≡ []) (undied : (n : NodeId) → died_at work n ≡ None) where
+    (rights : (p : Point) → at work.roots p ≡ None) (unlisted : work.experts ≡ []) (undied : (n : NodeId) → died_at work n ≡ None)
+    (bare : live arena ≡ 0) where
   holds_none : {R : Type 0} {P : Type 0} (m : Rows R) (p : Point) → at m p ≡ None → Holds m p → P
   holds_none m p none h = absurd (let e = sym h ∙ ap is_some none in cc)
 
@@ -578,7 +579,7 @@ module _ (arena : Arena) (work : Work) (sound : IsSoundArena arena) (step : IsIn
     lists = λ n r f v ns e is. absurd (none-some r (sym (nodes n) ∙ e));
     tops = λ n r e top. absurd (none-some r (sym (nodes n) ∙ e));
     frozen = λ n k e on. absurd (none-some k (sym (rows (main n)) ∙ e));
-    rooms = record { calls = λ n r k e is. absurd (none-some r (sym (nodes n) ∙ e)) };
+    rooms = record { calls = λ n r k e is. absurd (none-some r (sym (nodes n) ∙ e)); ran = omega (arith, bare) };
   }
 
   module _ (ran : work.ran.items ≡ []) (retries : work.retries ≡ all_retries) (round : work.round ≡ 1) where

@@ -116,7 +116,13 @@ module _ (old new : Parts) (id : NodeId) (c : Cutoff) (kept : PartsKept old) (w 
   parts = record old { work = work }
 
   parts_kept : PartsKept parts
-  parts_kept = record { work = cut_kept arena old.work new.work.rows id c kept.work w; scopes = kept.scopes; dying = kept.dying; clock = kept.clock }
+  parts_kept = record {
+    work = cut_kept arena old.work new.work.rows id c kept.work w;
+    scopes = kept.scopes;
+    dying = kept.dying;
+    clock = kept.clock;
+    listing = kept.listing;
+  }
 
   pub cut_parts : PartsKept new
   cut_parts = subst PartsKept (sym rest) parts_kept

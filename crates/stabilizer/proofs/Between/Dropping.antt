@@ -1,6 +1,6 @@
 -- A node that isn't needed is dropped.
-use Rattle.std.proofs.Common.{◌≡◌, ◌≢◌, ◌⊎◌, inl, inr, ℕ, ℤ, ◌+◌, ◌^◌, ◌<◌, ◌≤◌, Option, None, Some, IsSome, refl, sym, ap, subst, ◌∙◌, arith}
-use Rattle.std.specs.Prelude.{is_some}
+use Rattle.std.proofs.Common.{◌≡◌, ◌≢◌, ◌⊎◌, inl, inr, ℕ, ℤ, ◌+◌, ◌^◌, ◌<◌, ◌≤◌, Option, None, Some, IsSome, refl, sym, ap, subst, ◌∙◌, arith, Vec, Global}
+use Rattle.std.specs.Prelude.{is_some, vec_capacity}
 use Rattle.std.proofs.lemmas.Bool.{cases_lt}
 use Rattle.std.proofs.lemmas.Option.{none-some}
 use Rattle.inc_value.specs.declared.node.NodeId.{NodeId}
@@ -16,7 +16,7 @@ use Rattle.point_map.specs.Rows.{Rows, at, Holds}
 use Rattle.link_table.specs.Links.{Links, times, Reads}
 use Rattle.necessary_graph.specs.Part.{Needed, IsInStep}
 use Rattle.node_arena.specs.Arena as nodes
-use Rattle.node_arena.specs.Arena.{Arena, row_at, IsLive}
+use Rattle.node_arena.specs.Arena.{Arena, live, row_at, IsLive}
 use Rattle.node_arena.specs.Typing.{FoldTakes}
 use Rattle.node_outcomes.specs.Computing.{has_part, is_expert}
 use Rattle.node_outcomes.specs.Row.{cutoff_in, outcome_in}
@@ -40,6 +40,7 @@ use Rattle.stabilizer.proofs.Between.Fitting.{dropped_fit}
 use Rattle.timed_nodes.specs.Timed.{KeepsClock}
 use Rattle.stabilizer.proofs.Between.Keeping.{carried, fit_still, parts_stay}
 use Rattle.wiring.proofs.Deciding.{need_same}
+use Rattle.stabilizer.proofs.Round.Alive.{fewer_live}
 use Rattle.wiring.proofs.Linking.{some_or_none}
 use Rattle.wiring.proofs.Placing.{at_node}
 use Rattle.stabilizer.proofs.Between.Typing.{KeepsTypes, call_still, folds_still, listed_still, typed_still, right_still}
@@ -133,6 +134,10 @@ module _ (before arena : Arena) (old work : Work) (id : NodeId) (kept : IsKept b
       ∙ (ap (λ (x : Option Progress). built_in (row_at before n) (outcome_in x) (at work.roots (change n))) (rows.others (change n) ne)
       ∙ ap (built_in (row_at before n) (outcome_in (at old.rows (change n)))) (rights.others (change n) ne))
 
+  -- no more nodes live
+  pub no_more_live : live arena ≤ live before
+  no_more_live = fewer_live before arena (λ n r e. ap is_some (was_row n r e))
+
   pub dropped_kept : IsKept arena work
   dropped_kept = record {
     step = step;
@@ -192,7 +197,11 @@ module _ (before arena : Arena) (old work : Work) (id : NodeId) (kept : IsKept b
         let ne = row_left (main n) (ap is_some e) in
         let h = kept.frozen n k (was_kept (main n) k ne e) on in
         record { row = h.row; is_row = row_now n h.row ne h.is_row; is_freeze = h.is_freeze; value = h.value; last = h.last };
-    rooms = record { calls = λ n r k e is. kept.rooms.calls n r k (was_row n r e) (was_kept (main n) k (node_left n r e) is) };
+    rooms = record {
+      calls = λ n r k e is. kept.rooms.calls n r k (was_row n r e) (was_kept (main n) k (node_left n r e) is);
+      ran = subst (λ (l : Vec NodeId Global). live arena ≤ vec_capacity l) (sym (ap (λ (x : Work). x.ran) rest))
+          (let room = kept.rooms.ran in let few = no_more_live in omega (arith, room, few));
+    };
   }
     where
       more : before.given ≤ arena.given
@@ -234,7 +243,7 @@ module _ (old new : Parts) (id : NodeId) (kept : PartsKept old) (unneeded : (p :
     (heap : new.work.graph.heap ≡ old.work.graph.heap) (step : IsInStep new.work.graph) (sound : IsSoundArena new.arena)
     (experts : ExpertChanges old.work.experts new.work.experts id None)
     (rest : new.work ≡ record old.work { graph = new.work.graph; rows = new.work.rows; roots = new.work.roots; experts = new.work.experts })
-    (scopes : new.scopes ≡ old.scopes) (dying : new.dying.items ≡ old.dying.items) (clock : KeepsClock new.arena new.timed) where
+    (scopes : new.scopes ≡ old.scopes) (dying : new.dying.items ≡ old.dying.items) (clock : KeepsClock new.arena new.timed) (ran : new.ran ≡ old.ran) where
   stays : Stays old.arena new.arena old.work new.work
   stays = dropped_stays old.arena new.arena old.work new.work id kept.work unneeded unscoped dropped given rows points rights links roots heap step
       sound experts rest
@@ -242,7 +251,11 @@ module _ (old new : Parts) (id : NodeId) (kept : PartsKept old) (unneeded : (p :
   pub dropped_parts : PartsKept new
   dropped_parts = parts_stay old new kept
       (dropped_kept old.arena new.arena old.work new.work id kept.work unneeded unscoped dropped given rows points rights links roots heap step
-      sound experts rest) stays scopes dying clock
+      sound experts rest) stays scopes dying clock (subst (λ (l : Vec NodeId Global). live new.arena ≤ vec_capacity l) (sym ran)
+      (let room = kept.listing in
+      let few = no_more_live old.arena new.arena old.work new.work id kept.work unneeded unscoped dropped given rows points rights links roots heap step
+      sound experts rest in
+      omega (arith, room, few)))
 
   pub dropped_ready : (M : Meaning) → IsReady M old → IsReady M new
   dropped_ready M ready = ready_stays M old new ready (dropped_fit M old.arena new.arena id ready.fit dropped given) dropped_parts stays
@@ -361,6 +374,7 @@ module _ (old left : Parts) (count : ℕ) (so : HasDropped old left count) (ran 
     pairs = pairs;
     scoped = scoped;
     experts = read_still left.work.experts;
+    ran = omega arith;
   })
 
   forgotten_stays : Stays left.arena left.arena left.work work
@@ -385,7 +399,7 @@ module _ (old left : Parts) (count : ℕ) (so : HasDropped old left count) (ran 
   }
 
   parts_kept : PartsKept parts
-  parts_kept = parts_stay left parts so.kept forgotten_kept forgotten_stays refl refl so.kept.clock
+  parts_kept = parts_stay left parts so.kept forgotten_kept forgotten_stays refl refl so.kept.clock so.kept.listing
 
   pub taken_back : IsTakenBack old parts count
   taken_back =

@@ -1,6 +1,6 @@
 -- What the parts keep between calls, carried over calls that leave the nodes.
-use Rattle.std.proofs.Common.{◌≡◌, ◌⊎◌, inl, inr, ℕ, ◌≤◌, true, List, Option, None, Some, refl, sym, ap, subst, ◌∙◌}
-use Rattle.std.specs.Prelude.{is_some, option_map}
+use Rattle.std.proofs.Common.{◌≡◌, ◌⊎◌, inl, inr, ℕ, ◌≤◌, true, List, Option, None, Some, refl, sym, ap, subst, ◌∙◌, arith, Vec, Global}
+use Rattle.std.specs.Prelude.{is_some, option_map, vec_capacity}
 use Rattle.std.proofs.lemmas.Option.{none-some}
 use Rattle.inc_value.specs.Choice.{Among, Every}
 use Rattle.inc_value.specs.declared.node.NodeId.{NodeId}
@@ -17,7 +17,7 @@ use Rattle.expert_nodes.specs.Experts.{kids_at}
 use Rattle.point_map.specs.Rows.{Rows, at, Holds}
 use Rattle.link_table.specs.Links.{Links, Reads}
 use Rattle.necessary_graph.specs.Part.{NecessaryPart, Needed, IsInStep}
-use Rattle.node_arena.specs.Arena.{Arena, row_at}
+use Rattle.node_arena.specs.Arena.{Arena, live, row_at}
 use Rattle.node_arena.specs.Graph.{Holdings, graph_of}
 use Rattle.node_arena.specs.Typing.{Fits, FoldTakes}
 use Rattle.node_outcomes.specs.Computing.{CallFits, IsOfType}
@@ -111,7 +111,8 @@ rewritten_out old new p f w keeps q = elim (same_or_other p q) [
 
 -- what is to be shown of a call that leaves the nodes: rows stay where they are, and their points; no other point is there that wasn't, and
 -- each without a row that is there is needed; links come off alone; what is in the heap had a row; rows fit, as much is held, and what has a root keeps its
--- outcome; no root, death or node of a list of live ones goes; and experts read what they read
+-- outcome; no root, death or node of a list of live ones goes; experts read what they read; and for those that ran there is as much room as there was at
+-- least
 pub record Carries (arena : Arena) (old new : Work) : Type 0 where
   pub step : IsInStep new.graph
   pub same : (p : Point) → is_some (at new.rows p) ≡ is_some (at old.rows p)
@@ -128,6 +129,7 @@ pub record Carries (arena : Arena) (old new : Work) : Type 0 where
   pub pairs : (n : NodeId) (r : Row) → row_at arena n ≡ Some r → Among n old.pairs.nodes → Among n new.pairs.nodes
   pub scoped : (n : NodeId) (r : Row) → row_at arena n ≡ Some r → Among n old.scoped.nodes → Among n new.scoped.nodes
   pub experts : ReadSame old.experts new.experts
+  pub ran : vec_capacity old.ran ≤ vec_capacity new.ran
 
 holds_or_none : {A : Type 0} (x : Option A) → (is_some x ≡ true) ⊎ (x ≡ None)
 holds_or_none None = inr refl
@@ -174,7 +176,10 @@ module _ (arena : Arena) (old new : Work) (kept : IsKept arena old) (c : Carries
         (kept.lists n r f v ns row is);
     tops = kept.tops;
     frozen = λ n k e on. (c.fit (main n) k e).fired refl on;
-    rooms = record { calls = λ n r k row e. (c.fit (main n) k e).room r refl row };
+    rooms = record {
+      calls = λ n r k row e. (c.fit (main n) k e).room r refl row;
+      ran = let room = kept.rooms.ran in let more = c.ran in omega (arith, room, more);
+    };
   }
 
 -- ---- links, roots and heights stay
@@ -183,7 +188,8 @@ module _ (arena : Arena) (old new : Work) (kept : IsKept arena old) (graph : Kee
     (heap : (p : Point) → Holds new.graph.heap p → Holds old.rows p) (same : (p : Point) → is_some (at new.rows p) ≡ is_some (at old.rows p))
     (fit : AllFit arena (held_at arena old) new) (held : held_at arena new ≡ held_at arena old)
     (chosen : (n : NodeId) → Holds old.roots (change n) → outcome_in (at new.rows (change n)) ≡ outcome_in (at old.rows (change n)))
-    (roots : new.roots ≡ old.roots) (deaths : new.deaths ≡ old.deaths) (lists : KeepsLists old new) (experts : ReadSame old.experts new.experts) where
+    (roots : new.roots ≡ old.roots) (deaths : new.deaths ≡ old.deaths) (lists : KeepsLists old new) (experts : ReadSame old.experts new.experts)
+    (ran : new.ran ≡ old.ran) where
   pub kept_in_graph : IsKept arena new
   kept_in_graph = carried arena old new kept (record {
     step = step;
@@ -201,6 +207,7 @@ module _ (arena : Arena) (old new : Work) (kept : IsKept arena old) (graph : Kee
     pairs = λ n r row a. pairs_same old new lists n a;
     scoped = λ n r row a. scoped_same old new lists n a;
     experts = experts;
+    ran = subst (λ (v : Vec NodeId Global). vec_capacity old.ran ≤ vec_capacity v) (sym ran) (omega arith);
   })
 
 -- a row is rewritten, which keeps its outcome and what a freeze keeps, and all else stays
@@ -225,6 +232,7 @@ kept_rewritten arena old new p f kept w keeps still rest changed = kept_in_graph
     (ap (λ (x : Work). x.deaths) rest)
     (record { pairs = ap (λ (x : Work). x.pairs) rest; scoped = ap (λ (x : Work). x.scoped) rest })
     (read_as old.experts new.experts (ap (λ (x : Work). x.experts) rest))
+    (ap (λ (x : Work). x.ran) rest)
 
 -- ---- scopes
 
@@ -241,10 +249,11 @@ scopes_stay before arena old work scopes stays kept = record {
 
 -- so parts are kept whose nodes and work are
 pub parts_stay : (old new : Parts) → PartsKept old → IsKept new.arena new.work → Stays old.arena new.arena old.work new.work → new.scopes ≡ old.scopes
-    → new.dying.items ≡ old.dying.items → KeepsClock new.arena new.timed → PartsKept new
-parts_stay old new kept work stays scopes dying clock = record {
+    → new.dying.items ≡ old.dying.items → KeepsClock new.arena new.timed → live new.arena ≤ vec_capacity new.ran → PartsKept new
+parts_stay old new kept work stays scopes dying clock listing = record {
   work = work;
   scopes = subst (KeepsScopes new.arena) (sym scopes) (scopes_stay old.arena new.arena old.work new.work old.scopes stays kept.scopes);
   dying = dying ∙ kept.dying;
   clock = clock;
+  listing = listing;
 }

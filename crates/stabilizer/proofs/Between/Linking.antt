@@ -135,6 +135,8 @@ module _ (old new : Parts) (kept : PartsKept old) (experts : KeepsExperts old.wo
     heap = λ p. refl;
     todo = todo;
     round = record { roots = refl; deaths = refl; ran = refl; retries = refl; round = refl; experts = refl };
+    ran = refl;
+    room = omega arith;
     experts = experts;
   }
 
@@ -143,7 +145,7 @@ module _ (old new : Parts) (kept : PartsKept old) (experts : KeepsExperts old.wo
     experts = experts;
     todo = todo;
     rest = rest;
-    kept = subst PartsKept (sym rest) (back_parts old unlinked kept same kept.work.step (λ n live a. a) (λ n live a. a) refl);
+    kept = subst PartsKept (sym rest) (back_parts old unlinked kept same kept.work.step (λ n live a. a) (λ n live a. a) (omega arith) refl);
     ready = λ M ready. subst (IsReady M) (sym rest)
-        (back_ready old unlinked kept same kept.work.step (λ n live a. a) (λ n live a. a) refl M ready);
+        (back_ready old unlinked kept same kept.work.step (λ n live a. a) (λ n live a. a) (omega arith) refl M ready);
   }

@@ -17,7 +17,6 @@ use Rattle.node_outcomes.specs.Row.{kept_in}
 use Rattle.stabilize_round.specs.State.{count}
 use Rattle.stabilize_round.proofs.Points.{count_append, one_same, one_other}
 use Rattle.stabilizer.specs.Look.{freeze_roots, is_main, is_unfrozen}
-use Rattle.stabilizer.specs.Round.{AreNewFreezes}
 use Rattle.stabilizer.proofs.Between.Alone.{main_is}
 use Rattle.wiring.specs.Graph.{graph_at}
 use Rattle.wiring.specs.declared.work.Work.{Work}
@@ -61,9 +60,6 @@ test_root G since n b before is = rw (lt-ltb n.gen_ since before, is) refl
 pub record AreListed (arena : Arena) (work : Work) (from next : ℕ) (done : List NodeId) : Type 0 where
   pub low : from ≤ next
   pub all : (p : Point) → count p (map main done) + freeze_roots (graph_at arena work) from p ≡ freeze_roots (graph_at arena work) next p
-
-pub list_begins : (arena : Arena) (work : Work) (from : ℕ) → AreListed arena work from from []
-list_begins arena work from = record { low = omega arith; all = λ p. omega arith }
 
 module _ (arena : Arena) (work : Work) (from next : ℕ) (done : List NodeId) (so : AreListed arena work from next done) (sound : IsSoundArena arena) where
   abbrev G : Graph
@@ -131,14 +127,3 @@ module _ (arena : Arena) (work : Work) (from next : ℕ) (done : List NodeId) (s
             omega (arith, m, a, e, o)
       ];
     }
-
-    -- the walk ends
-    pub walk_nears : (arena.given - (id.gen_ + 1) < arena.given - next)
-    walk_nears = let s = first.since in let g = sound.given id first.live in omega (arith, s, g)
-
-  -- where none is left since the next
-  pub all_listed : ((n : NodeId) → IsLive arena n → n.gen_ < next) → AreNewFreezes arena work from done
-  all_listed none p = so.all p ∙ elim (some_or_none (row_at arena p.node)) [
-    | inr gone ↦ dead_root G next p gone ∙ sym (dead_root G arena.given p gone)
-    | inl r ↦ let live : IsLive arena p.node = ap is_some r.1 in both_before G next arena.given p (none p.node live) (sound.given p.node live)
-  ]

@@ -134,7 +134,7 @@ module _ (arena : Arena) (old new : Work) (e : NodeId) (x : Expert) (kept : IsKe
     ];
     tops = kept.tops;
     frozen = kept.frozen;
-    rooms = record { calls = kept.rooms.calls };
+    rooms = record { calls = kept.rooms.calls; ran = kept.rooms.ran };
   }
 
 -- a point with a row is in the heap
@@ -142,7 +142,7 @@ module _ (arena : Arena) (old : Work) (g : NecessaryPart) (e : NodeId) (kept : I
     (marked : IsMarked old.graph g (main e)) (step : IsInStep g) where
   pub marked_kept : IsKept arena (record old { graph = g })
   marked_kept = kept_in_graph arena old (record old { graph = g }) kept marked.graph step in_heap (λ p. refl) (fit_still arena old (record old { graph = g }) kept
-      (λ p. refl) refl) refl (λ n h. refl) refl refl (record { pairs = refl; scoped = refl }) (read_still old.experts)
+      (λ p. refl) refl) refl (λ n h. refl) refl refl (record { pairs = refl; scoped = refl }) (read_still old.experts) refl
     where
       in_heap : (p : Point) → Holds g.heap p → Holds old.rows p
       in_heap p h = elim (point_cases p (main e)) [
@@ -289,7 +289,7 @@ module _ (old new : Parts) (e : NodeId) (created : IsCreated old.work.experts e)
     parts = record old { work = record old.work { experts = new.work.experts; graph = new.work.graph; todo = new.work.todo } }
 
     parts_kept : PartsKept parts
-    parts_kept = record { work = work; scopes = kept.scopes; dying = kept.dying; clock = kept.clock }
+    parts_kept = record { work = work; scopes = kept.scopes; dying = kept.dying; clock = kept.clock; listing = kept.listing }
 
     pub relisted_parts : PartsKept new
     relisted_parts = subst PartsKept (sym rest) parts_kept

@@ -1,6 +1,6 @@
 -- A variable is set to another value.
-use Rattle.std.proofs.Common.{ℤ, ◌≡◌, ◌⊎◌, inl, inr, ◌≤◌, false, List, Option, Some, refl, sym, ap, subst, ◌∙◌, arith, None}
-use Rattle.std.specs.Prelude.{is_some, IsSome}
+use Rattle.std.proofs.Common.{ℤ, ◌≡◌, ◌⊎◌, inl, inr, ◌≤◌, false, List, Option, Some, refl, sym, ap, subst, ◌∙◌, arith, None, Vec, Global}
+use Rattle.std.specs.Prelude.{is_some, IsSome, vec_capacity}
 use Rattle.std.proofs.lemmas.Option.{none-some}
 use Rattle.inc_value.specs.Choice.{Among, Every}
 use Rattle.expert_nodes.specs.Experts.{ExpertPlace, expert_at, kids_at}
@@ -24,7 +24,7 @@ use Rattle.point_map.specs.Rows.{Rows, at, Holds}
 use Rattle.point_map.proofs.Places.{point_cases}
 use Rattle.link_table.specs.Links.{Links, times, Reads}
 use Rattle.necessary_graph.specs.Part.{Needed, IsInStep}
-use Rattle.node_arena.specs.Arena.{Arena, row_at, IsSet, IsVariable, with_value}
+use Rattle.node_arena.specs.Arena.{Arena, live, row_at, IsSet, IsVariable, with_value}
 use Rattle.node_arena.specs.Sound.{IsSoundArena}
 use Rattle.node_arena.specs.Typing.{Fits, FoldTakes}
 use Rattle.node_outcomes.specs.Computing.{CallFits, has_part, is_expert, is_expert_def, IsOfType}
@@ -49,6 +49,7 @@ use Rattle.stabilizer.proofs.Between.Keeping.{parts_stay}
 use Rattle.timed_nodes.proofs.Watching.{clock_set}
 use Rattle.node_outcomes.specs.Meaning.{Meaning}
 use Rattle.wiring.proofs.Deciding.{need_same}
+use Rattle.stabilizer.proofs.Round.Alive.{fewer_live}
 use Rattle.stabilizer.proofs.Between.Typing.{KeepsTypes, call_still, folds_still, listed_still, typed_still, right_still}
 use Rattle.wiring.proofs.Holding.{built_same, right_as, died_same, links_same, root_same, pairs_same, scoped_same}
 use Rattle.wiring.specs.Graph.{held_at, graph_at}
@@ -211,6 +212,10 @@ module _ (before arena : Arena) (old work : Work) (id : NodeId) (v : Value) (kep
   same_heights : (p : Point) → at work.graph.heights p ≡ at old.graph.heights p
   same_heights p = ap (λ (m : Rows _). at m p) marked.graph.heights
 
+  -- no more nodes live
+  pub no_more_live : live arena ≤ live before
+  no_more_live = fewer_live before arena (λ n r e. ap is_some (row_was n r e).is_was)
+
   pub set_kept : IsKept arena work
   set_kept = record {
     step = step;
@@ -270,6 +275,7 @@ module _ (before arena : Arena) (old work : Work) (id : NodeId) (v : Value) (kep
         | inl same ↦ subst (λ (x : Row). FitsRoom x k) same (kept.rooms.calls n w.was k w.is_was (sym (same_rows (main n)) ∙ is))
         | inr h ↦ subst (λ (x : Row). FitsRoom x k) (sym h.is_now) (omega arith)
       ];
+      ran = subst (λ (l : Vec NodeId Global). live arena ≤ vec_capacity l) (sym round.ran) (let room = kept.rooms.ran in let few = no_more_live in omega (arith, room, few));
     };
   }
 
@@ -338,7 +344,7 @@ module _ (before arena : Arena) (old work : Work) (id : NodeId) (v : Value) (kep
     scoped = stands_still;
     entered = λ n b r row scope. let w = row_was n r row in (w.was, w.is_was, w.scope ∙ scope);
     deaths = round.deaths;
-    ran = round.ran;
+    ran = ap (λ (l : Vec NodeId Global). l.items) round.ran;
     retries = round.retries;
     round = round.round;
   }
@@ -368,6 +374,9 @@ module _ (old new : Parts) (id : NodeId) (v : Value) (kept : PartsKept old) (set
       (set_kept old.arena new.arena old.work work id v kept.work set not_other given refl marked step round_stays refl lists_stay sound)
       stays refl refl
       (clock_set old.arena new.arena old.timed id v kept.clock set (is_variable old.arena id set.row set.there not_other) given)
+      (let room = kept.listing in
+      let few = no_more_live old.arena new.arena old.work work id v kept.work set not_other given refl marked step round_stays refl lists_stay sound in
+      omega (arith, room, few))
 
   pub set_parts : PartsKept new
   set_parts = subst PartsKept (sym rest) parts_kept

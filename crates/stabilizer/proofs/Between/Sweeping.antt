@@ -73,4 +73,5 @@ module _ (old : Work) (before g : NecessaryPart) (sweep : Sweep before g) (drops
     pairs = λ n r row a. a;
     scoped = λ n r row a. a;
     experts = read_still old.experts;
+    ran = omega arith;
   })

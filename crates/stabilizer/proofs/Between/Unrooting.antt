@@ -93,7 +93,7 @@ module _ (old new : Parts) (id : NodeId) (off : IsUnrooted (rowless old.work) ol
 
   parts_kept : PartsKept parts
   parts_kept = parts_stay old parts kept (unrooted_kept old.work new.work.graph id off old.arena kept.work step)
-      (unrooted_stays old.work new.work.graph id off old.arena kept.work step) refl refl kept.clock
+      (unrooted_stays old.work new.work.graph id off old.arena kept.work step) refl refl kept.clock kept.listing
 
   pub unrooted_parts : PartsKept new
   unrooted_parts = subst PartsKept (sym rest) parts_kept

@@ -1,6 +1,6 @@
 -- Nodes that were added to a bind's scope get their points, and enter it.
-use Rattle.std.proofs.Common.{◌≡◌, ◌≢◌, ◌⊎◌, inl, inr, ℕ, ◌<◌, ◌≤◌, ◌+◌, false, List, Option, None, Some, refl, sym, ap, subst, ◌∙◌, arith}
-use Rattle.std.specs.Prelude.{is_some, IsSome}
+use Rattle.std.proofs.Common.{◌≡◌, ◌≢◌, ◌⊎◌, inl, inr, ℕ, ◌<◌, ◌≤◌, ◌+◌, false, List, Option, None, Some, refl, sym, ap, subst, ◌∙◌, arith, Vec, Global}
+use Rattle.std.specs.Prelude.{is_some, IsSome, vec_capacity}
 use Rattle.std.proofs.lemmas.Bool.{cases_lt}
 use Rattle.std.proofs.lemmas.Option.{none-some, same_Some}
 use Rattle.inc_value.specs.Choice.{Among}
@@ -46,14 +46,27 @@ round_same work = record { roots = refl; deaths = refl; ran = refl; retries = re
 pub round_whole : (old new : Work) → KeepsRound (record old { experts = new.experts }) new → new.experts ≡ old.experts → KeepsRound old new
 round_whole old new s same = record { roots = s.roots; deaths = s.deaths; ran = s.ran; retries = s.retries; round = s.round; experts = same }
 
+-- so it is where there was more room to list those that ran before the second
+pub rounds_roomy : (old mid new : Work) → KeepsRound (record old { ran = mid.ran }) mid → KeepsRound mid new → KeepsRound (record old { ran = new.ran }) new
+rounds_roomy old mid new s t = record {
+  roots = t.roots ∙ s.roots;
+  deaths = t.deaths ∙ s.deaths;
+  ran = refl;
+  retries = t.retries ∙ s.retries;
+  round = t.round ∙ s.round;
+  experts = t.experts ∙ s.experts;
+}
+
 -- none is new before the count
 none_new : (a : Arena) (count : ℕ) (n : NodeId) → IsNewBefore a count count n → ⊥
 none_new a count n t = let s = t.since in let b = t.before in absurd (omega (arith, s, b))
 
 -- ---- before the first
 
-module _ (parts : Parts) (b : NodeId) (count : ℕ) (may : MayAdopt parts count) where
-  pub adopts_none : AdoptsBefore parts parts b count count
+module _ (parts : Parts) (called listed : Vec NodeId Global) (b : NodeId) (count : ℕ) (may : MayAdopt parts count)
+    (same_called : called.items ≡ parts.work.ran.items) (more_called : vec_capacity parts.work.ran ≤ vec_capacity called)
+    (same_listed : listed.items ≡ parts.ran.items) (more_listed : vec_capacity parts.ran ≤ vec_capacity listed) where
+  pub adopts_none : AdoptsBefore parts (record parts { work = record parts.work { ran = called }; ran = listed }) b count count
   adopts_none = record {
     work = record {
       step = may.step;
@@ -64,8 +77,10 @@ module _ (parts : Parts) (b : NodeId) (count : ℕ) (may : MayAdopt parts count)
         roots = refl;
         heap = λ p. refl;
         todo = refl;
-        round = round_same parts.work;
+        round = record { roots = refl; deaths = refl; ran = refl; retries = refl; round = refl; experts = refl };
       };
+      ran = same_called;
+      room = more_called;
       lists = record { pairs = λ n h live a. a; scoped = λ n h live a. a };
       points = record {
         parts = λ p t. absurd (none_new parts.arena count p.node t);
@@ -85,7 +100,8 @@ module _ (parts : Parts) (b : NodeId) (count : ℕ) (may : MayAdopt parts count)
     arena = refl;
     timed = refl;
     dying = refl;
-    ran = refl;
+    ran = same_listed;
+    room = more_listed;
   }
 
 -- ---- a node that is next
@@ -157,8 +173,10 @@ module _ (a : Arena) (node : NodeId) (count next : ℕ) (sound : IsSoundArena a)
           roots = rest.roots ∙ so.older.roots;
           heap = λ p. rest.heap p ∙ so.older.heap p;
           todo = rest.todo ∙ so.older.todo;
-          round = rounds_kept old mid new so.older.round rest.round;
+          round = rounds_roomy old mid new so.older.round rest.round;
         };
+        ran = ap (λ (l : Vec NodeId Global). l.items) rest.round.ran ∙ so.ran;
+        room = subst (λ (l : Vec NodeId Global). vec_capacity old.ran ≤ vec_capacity l) (sym rest.round.ran) so.room;
         lists = record {
           pairs = λ n h live x. rest.pairs n live (so.lists.pairs n h live x);
           scoped = λ n h live x. rest.scoped n live (so.lists.scoped n h live x);
@@ -234,8 +252,10 @@ adopted_same a count These old mid new so rows points rest = record {
     roots = rest.roots ∙ so.older.roots;
     heap = λ p. rest.heap p ∙ so.older.heap p;
     todo = rest.todo ∙ so.older.todo;
-    round = rounds_kept old mid new so.older.round rest.round;
+    round = rounds_roomy old mid new so.older.round rest.round;
   };
+  ran = ap (λ (l : Vec NodeId Global). l.items) rest.round.ran ∙ so.ran;
+  room = subst (λ (l : Vec NodeId Global). vec_capacity old.ran ≤ vec_capacity l) (sym rest.round.ran) so.room;
   lists = record {
     pairs = λ n h live x. rest.pairs n live (so.lists.pairs n h live x);
     scoped = λ n h live x. rest.scoped n live (so.lists.scoped n h live x);
@@ -290,7 +310,8 @@ module _ (old mid : Parts) (b node : NodeId) (count next : ℕ) (may : MayAdopt 
       arena = arena ∙ so.arena;
       timed = timed ∙ so.timed;
       dying = dying ∙ so.dying;
-      ran = ran ∙ so.ran;
+      ran = ap (λ (l : Vec NodeId Global). l.items) ran ∙ so.ran;
+      room = subst (λ (l : Vec NodeId Global). vec_capacity old.ran ≤ vec_capacity l) (sym ran) so.room;
     }
 
     pub adopts_same : KeepsRows mid.work.rows new.work.rows → KeepsRows mid.work.graph.heights new.work.graph.heights → new.scopes ≡ mid.scopes
@@ -301,7 +322,8 @@ module _ (old mid : Parts) (b node : NodeId) (count next : ℕ) (may : MayAdopt 
       arena = arena ∙ so.arena;
       timed = timed ∙ so.timed;
       dying = dying ∙ so.dying;
-      ran = ran ∙ so.ran;
+      ran = ap (λ (l : Vec NodeId Global). l.items) ran ∙ so.ran;
+      room = subst (λ (l : Vec NodeId Global). vec_capacity old.ran ≤ vec_capacity l) (sym ran) so.room;
     }
 
 -- ---- one node

@@ -60,7 +60,7 @@ pub record IsRebuilt (old new : Work) (n : NodeId) (now : Outcome) (root : Optio
   pub roots : Changes old.roots new.roots (change n) root
   pub todo : new.todo.items ≡ old.todo.items
   pub deaths : new.deaths ≡ old.deaths
-  pub ran : new.ran.items ≡ old.ran.items
+  pub ran : new.ran ≡ old.ran
   pub retries : new.retries ≡ old.retries
   pub round : new.round ≡ old.round
   pub experts : new.experts ≡ old.experts

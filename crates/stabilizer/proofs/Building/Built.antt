@@ -1,7 +1,7 @@
 -- A bind's right side is built, or all that was added for it is dropped again.
 use Rattle.std.proofs.Math.Path.{fun_ext}
-use Rattle.std.proofs.Common.{◌≡◌, ◌⊎◌, inl, inr, ℕ, ◌<◌, ◌≤◌, ◌+◌, ◌-◌, Bool, false, List, Option, None, Some, refl, sym, ap, subst, ◌∙◌, arith}
-use Rattle.std.specs.Prelude.{is_some, IsTrue, ◌↔◌}
+use Rattle.std.proofs.Common.{◌≡◌, ◌⊎◌, inl, inr, ℕ, ◌<◌, ◌≤◌, ◌+◌, ◌-◌, Bool, false, List, Option, None, Some, refl, sym, ap, subst, ◌∙◌, arith, Vec, Global}
+use Rattle.std.specs.Prelude.{is_some, IsTrue, ◌↔◌, vec_capacity}
 use Rattle.std.proofs.lemmas.Bool.{cases_lt}
 use Rattle.std.proofs.lemmas.Option.{none-some}
 use Rattle.inc_value.specs.Choice.{Among}
@@ -16,6 +16,7 @@ use Rattle.inc_value.specs.declared.function.FnKind.TheVariants.{Rhs}
 use Rattle.inc_terms.specs.Within.{Given, KnownAs}
 use Rattle.necessary_graph.specs.Part.{IsInStep}
 use Rattle.node_arena.specs.Arena.{Arena, row_at, live, IsLive, IsFull}
+use Rattle.stabilizer.proofs.Round.Alive.{fewer_live}
 use Rattle.node_arena.specs.Building.{building_in, Grows, Use, Weighs}
 use Rattle.node_arena.specs.Meanings.{SameKnown}
 use Rattle.node_arena.specs.RightSide.{RightSide, IsEmpty, SidesHold, SameMeaning, SameSides, AreFit, Tally, one_built}
@@ -47,7 +48,7 @@ use Rattle.timed_nodes.specs.Timed.{Timed}
 use Rattle.timed_nodes.proofs.Watching.{clock_grown}
 use Rattle.stabilizer.proofs.Step.Giving.{built_gives}
 use Rattle.stabilizer.proofs.Step.Experts.{no_expert, not_created}
-use Rattle.stabilizer.proofs.Building.Adopting.{rounds_kept, adopts_none}
+use Rattle.stabilizer.proofs.Building.Adopting.{rounds_roomy, adopts_none}
 use Rattle.stabilizer.proofs.Building.Weighing.{sides_last, scopes_built}
 use Rattle.stabilizer.proofs.Building.Growing.{holds_none, none_holds, grown_kept, grown_scopes}
 
@@ -167,13 +168,13 @@ module _ (old mid : Parts) (b : NodeId) (side : RightSide) (kept : PartsKept old
 
     -- ---- all nodes have their points
 
-    module _ (all : NoneSince mid.arena next) where
+    module _ (all : NoneSince mid.arena next) (called : live mid.arena ≤ vec_capacity new.work.ran) (listed : live mid.arena ≤ vec_capacity new.ran) where
       is_new : (n : NodeId) → old.arena.given ≤ n.gen_ → IsLive mid.arena n → These n
       is_new n since alive = record { live = alive; since = since; before = all n alive }
 
       work_kept : IsKept mid.arena new.work
       work_kept = grown_kept old.arena mid.arena old.work new.work b These kept.work bind grows.later sound (λ n g. grows.keeps n g)
-          (λ n r e s. (new_scope n r e s).0) adopted is_new (λ n t. t.live) (λ n t. t.since) new_plain
+          (λ n r e s. (new_scope n r e s).0) adopted is_new (λ n t. t.live) (λ n t. t.since) new_plain called
 
       scopes_kept : KeepsScopes mid.arena new.scopes
       scopes_kept = grown_scopes old.arena mid.arena old.work new.work b These kept.work bind grows.later sound (λ n g. grows.keeps n g)
@@ -187,6 +188,7 @@ module _ (old mid : Parts) (b : NodeId) (side : RightSide) (kept : PartsKept old
         clock = subst (λ (x : Timed). KeepsClock new.arena x) (sym (so.timed ∙ timed))
             (subst (λ (x : Arena). KeepsClock x old.timed) (sym so.arena)
             (clock_grown old.arena mid.arena old.timed kept.clock grows.later grows.time (λ n g. grows.keeps n g)));
+        listing = subst (λ (x : Arena). live x ≤ vec_capacity new.ran) (sym so.arena) listed;
       }
 
       pub has_grown : HasGrown old new b
@@ -205,7 +207,8 @@ module _ (old mid : Parts) (b : NodeId) (side : RightSide) (kept : PartsKept old
         heap = adopted.older.heap;
         todo = adopted.older.todo;
         round = adopted.older.round;
-        ran = so.ran ∙ ran;
+        called = adopted.ran;
+        ran = so.ran ∙ ap (λ (l : Vec NodeId Global). l.items) ran;
       }
 
     -- ---- they can be dropped
@@ -271,8 +274,10 @@ module _ (old mid : Parts) (b : NodeId) (side : RightSide) (kept : PartsKept old
           roots = dis.older.roots ∙ adopted.older.roots;
           heap = λ p. dis.older.heap p ∙ adopted.older.heap p;
           todo = dis.older.todo ∙ adopted.older.todo;
-          round = rounds_kept old.work new.work last.work adopted.older.round dis.older.round;
+          round = rounds_roomy old.work new.work last.work adopted.older.round dis.older.round;
         };
+        ran = ap (λ (l : Vec NodeId Global). l.items) dis.older.round.ran ∙ adopted.ran;
+        room = subst (λ (l : Vec NodeId Global). vec_capacity old.work.ran ≤ vec_capacity l) (sym dis.older.round.ran) adopted.room;
         lists = record {
           pairs = λ n g h x. dis.lists.pairs n g (alive_new n g h) (adopted.lists.pairs n g (alive_mid n g h) x);
           scoped = λ n g h x. dis.lists.scoped n g (alive_new n g h) (adopted.lists.scoped n g (alive_mid n g h) x);
@@ -308,15 +313,30 @@ module _ (old mid : Parts) (b : NodeId) (side : RightSide) (kept : PartsKept old
       none_top : (n : NodeId) (r : Row) → row_at last.arena n ≡ Some r → old.arena.given ≤ n.gen_ → IsTop r.def → ⊥
       none_top n r e s top = none-some r (sym (dis.arena.gone n s) ∙ e)
 
+      -- no more nodes live than before
+      no_more_live : live last.arena ≤ live old.arena
+      no_more_live = fewer_live old.arena last.arena (λ n r e. elim (cases_lt n.gen_ old.arena.given) [
+        | inl g ↦ sym (ap is_some (nodes_old n g)) ∙ ap is_some e
+        | inr s ↦ absurd (none_alive n s (ap is_some e))
+      ])
+
       pub unbuilt_kept : PartsKept last
       unbuilt_kept = record {
         work = grown_kept old.arena last.arena old.work last.work b (λ n. ⊥) kept.work bind later_last dis.arena.sound nodes_old no_scope adopted_none
-            none_alive (λ n t. absurd t) (λ n t. absurd t) none_top;
+            none_alive (λ n t. absurd t) (λ n t. absurd t) none_top
+            (let room = kept.work.rooms.ran in let few = no_more_live in let more = adopted_none.room in omega (arith, room, few, more));
         scopes = grown_scopes old.arena last.arena old.work last.work b (λ n. ⊥) kept.work bind later_last dis.arena.sound nodes_old no_scope
             adopted_none none_alive (λ n t. absurd t) (λ n t. absurd t) none_top old.scopes last.scopes kept.scopes entered_none;
         dying = dis.dying ∙ (so.dying ∙ (dying ∙ kept.dying));
         clock = subst (λ (x : Timed). KeepsClock last.arena x) (sym (dis.timed ∙ (so.timed ∙ timed)))
             (clock_grown old.arena last.arena old.timed kept.clock later_last time_last nodes_old);
+        listing =
+            let room = kept.listing in
+            let few = no_more_live in
+            let same = ap (λ (l : Vec NodeId Global). vec_capacity l) ran in
+            let more = so.room in
+            let still = ap (λ (l : Vec NodeId Global). vec_capacity l) dis.ran in
+            omega (arith, room, few, same, more, still);
       }
 
       pub is_unbuilt : IsUnbuilt old last b
@@ -335,7 +355,8 @@ module _ (old mid : Parts) (b : NodeId) (side : RightSide) (kept : PartsKept old
           heap = adopted_none.older.heap;
           todo = adopted_none.older.todo;
           round = adopted_none.older.round;
-          ran = dis.ran ∙ (so.ran ∙ ran);
+          called = adopted_none.ran;
+          ran = ap (λ (l : Vec NodeId Global). l.items) dis.ran ∙ (so.ran ∙ ap (λ (l : Vec NodeId Global). l.items) ran);
         };
         none = λ n s. dis.arena.gone n s;
       }
@@ -395,7 +416,7 @@ module _ {K More : Type 0} {keeper : Ghosts K More} {fs fs' : K} {old mid : Part
 
   -- before any is adopted
   pub none_adopted : (next : ℕ) × AdoptsBefore mid mid b count next
-  none_adopted = (count, adopts_none mid b count can_adopt)
+  none_adopted = (count, adopts_none mid mid.work.ran mid.ran b count can_adopt refl (omega arith) refl (omega arith))
 
   fit_mid : SidesFit (keeper.known fs') (keeper.right fs') mid.arena
   fit_mid = fit_built (keeper.known fs) (keeper.known fs') (keeper.right fs) (keeper.right fs') b old.arena mid.arena f h.holds h.may.known h.same.known
@@ -430,7 +451,8 @@ module _ {K More : Type 0} {keeper : Ghosts K More} {fs fs' : K} {old mid : Part
         (may_disown old mid b side h.may.kept h.may.bind h.may.ready.empty h.arena h.grows work scopes timed dying ran new some.0 (adopts_so some.0 some.1))
 
     -- all nodes have their points
-    module _ (all : (next : ℕ) × AdoptsBefore mid new b count next × NoneSince mid.arena next) where
+    module _ (all : (next : ℕ) × AdoptsBefore mid new b count next × NoneSince mid.arena next) (called : live mid.arena ≤ vec_capacity new.work.ran)
+        (listed : live mid.arena ≤ vec_capacity new.ran) where
       so_all : AdoptsBefore mid new b old.arena.given all.0
       so_all = adopts_so all.0 all.1
 
@@ -439,8 +461,10 @@ module _ {K More : Type 0} {keeper : Ghosts K More} {fs fs' : K} {old mid : Part
 
       pub all_built : WasBuilt keeper fs fs' old new b
       all_built = was_built new
-          (has_grown old mid b side h.may.kept h.may.bind h.may.ready.empty h.arena h.grows work scopes timed dying ran new all.0 so_all all.2)
-          (built_kept old mid b side h.may.kept h.may.bind h.may.ready.empty h.arena h.grows work scopes timed dying ran new all.0 so_all all.2)
+          (has_grown old mid b side h.may.kept h.may.bind h.may.ready.empty h.arena h.grows work scopes timed dying ran new all.0 so_all all.2 called
+          listed)
+          (built_kept old mid b side h.may.kept h.may.bind h.may.ready.empty h.arena h.grows work scopes timed dying ran new all.0 so_all all.2 called
+          listed)
           (subst (λ (x : Arena). SidesFit (keeper.known fs') (keeper.right fs') x) (sym all.1.arena) fit_mid) given_all
 
       pub all_gives : GivesLive old.arena.given 0 new.arena

@@ -88,7 +88,7 @@ settled_rebuilt old new roots n given root put rows graph heap rest = record {
   roots = subst (λ (m : Rows NodeId). Changes old.roots m (change n) root) (sym (ap (λ (w : Work). w.roots) rest)) put;
   todo = ap (λ (w : Work). w.todo.items) rest;
   deaths = ap (λ (w : Work). w.deaths) rest;
-  ran = ap (λ (w : Work). w.ran.items) rest;
+  ran = ap (λ (w : Work). w.ran) rest;
   retries = ap (λ (w : Work). w.retries) rest;
   round = ap (λ (w : Work). w.round) rest;
   experts = ap (λ (w : Work). w.experts) rest;
@@ -254,7 +254,7 @@ module _ {K More : Type 0} (keeper : Ghosts K More) (fs : K) where
       wants = refl;
       own = λ r e. same_row ∙ (ap (λ (a : Arena). row_at a b) h.arena ∙ e);
       there = own_dead;
-      ran = h.died.ran ∙ (h.cuts.ran ∙ h.ran);
+      ran = ap (λ (l : Vec NodeId Global). l.items) (h.died.ran ∙ (h.cuts.ran ∙ h.ran));
       roots = same_roots;
       round = h.died.round ∙ (h.cuts.places.round ∙ h.round);
       quiet = h.died.todo ∙ (ap (λ (w : Work). w.todo.items) h.cuts.rest ∙ h.quiet);
@@ -417,6 +417,7 @@ module _ {K More : Type 0} (keeper : Ghosts K More) (fs : K) where
             scopes = w.kept.scopes;
             dying = w.kept.dying;
             clock = w.kept.clock;
+            listing = w.kept.listing;
           }
 
           pub settles_root : GivesLive ready.arena.given 0 grown.arena → IsToSettle keeper fs fs' first rooted b given
@@ -487,6 +488,7 @@ module _ {K More : Type 0} (keeper : Ghosts K More) (fs : K) where
         scopes = h.lasts.scopes;
         dying = h.lasts.dying;
         clock = h.lasts.clock;
+        listing = h.lasts.listing;
       }
 
       pub settles_none : IsToSettle keeper fs fs first dead b given

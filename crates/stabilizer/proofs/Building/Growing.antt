@@ -1,6 +1,6 @@
 -- Nodes that a bind's function added, with their points, are kept as all nodes are.
 use Rattle.std.proofs.Common.{◌≡◌, inl, inr, ◌<◌, ◌≤◌, true, false, List, Option, None, Some, refl, sym, ap, subst, ◌∙◌, arith}
-use Rattle.std.specs.Prelude.{is_some, IsSome}
+use Rattle.std.specs.Prelude.{is_some, IsSome, vec_capacity}
 use Rattle.std.proofs.lemmas.Bool.{cases_lt}
 use Rattle.std.proofs.lemmas.Option.{none-some, same_Some}
 use Rattle.inc_value.specs.Choice.{Every}
@@ -12,7 +12,7 @@ use Rattle.inc_terms.specs.Local.{Scoped}
 use Rattle.inc_terms.specs.Within.{Given}
 use Rattle.link_table.specs.Links.{Links, Reads}
 use Rattle.necessary_graph.specs.Part.{Needed}
-use Rattle.node_arena.specs.Arena.{Arena, row_at, IsLive}
+use Rattle.node_arena.specs.Arena.{Arena, row_at, IsLive, live}
 use Rattle.node_arena.specs.Sound.{IsSoundArena}
 use Rattle.node_arena.specs.Typing.{FoldTakes}
 use Rattle.expert_nodes.specs.Experts.{ExpertPlace, expert_at, kids_at}
@@ -148,8 +148,8 @@ module _ (before arena : Arena) (old work : Work) (b : NodeId) (These : NodeId �
     | inr new ↦ ap is_expert (none_before n new) ∙ sym (new_plain n new)
   ])
 
-  pub grown_kept : IsKept arena work
-  grown_kept = record {
+  pub grown_kept : live arena ≤ vec_capacity work.ran → IsKept arena work
+  grown_kept room = record {
     step = adopted.step;
     rows = λ p. elim (cases_lt p.node.gen_ before.given) [
       | inl older ↦ ap is_some (adopted.older.rows p older)
@@ -251,6 +251,7 @@ module _ (before arena : Arena) (old work : Work) (b : NodeId) (These : NodeId �
             let u = unset (main n) k new is in
             subst (FitsRoom r) (sym (u.2 ∙ ap (λ (x : Row). new_row x.def) (same_Some u.0 r (sym u.1 ∙ e)))) (omega arith)
       ];
+      ran = room;
     };
   }
 

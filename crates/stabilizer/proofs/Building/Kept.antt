@@ -1,7 +1,7 @@
 -- What the parts keep, they keep where room is made, and where the change of a bind is settled that was built anew.
-use Rattle.std.proofs.Common.{◌≡◌, ◌≢◌, ◌⊎◌, inl, inr, ℕ, ◌-◌, ◌≤◌, true, false, List, Option, None, Some, refl, sym, ap, subst, ◌∙◌, arith, Vec}
+use Rattle.std.proofs.Common.{◌≡◌, ◌≢◌, ◌⊎◌, inl, inr, ℕ, ◌-◌, ◌≤◌, true, false, List, Option, None, Some, refl, sym, ap, subst, ◌∙◌, arith, Vec, Global}
 use Rattle.std.proofs.Common.{Global}
-use Rattle.std.specs.Prelude.{is_some, IsSome, option_map}
+use Rattle.std.specs.Prelude.{is_some, IsSome, option_map, vec_capacity}
 use Rattle.std.proofs.lemmas.Option.{none-some, same_Some}
 use Rattle.inc_value.specs.Choice.{Among}
 use Rattle.inc_value.specs.declared.function.FnRef.{FnRef}
@@ -19,6 +19,7 @@ use Rattle.expert_nodes.specs.Experts.{SameLinks}
 use Rattle.point_map.specs.Rows.{Rows, at, Holds, KeepsRows}
 use Rattle.link_table.specs.Links.{Links, Reads}
 use Rattle.necessary_graph.specs.Part.{IsInStep}
+use Rattle.node_arena.specs.Arena as nodes
 use Rattle.node_arena.specs.Arena.{Arena, row_at}
 use Rattle.node_arena.specs.Graph.{graph_of}
 use Rattle.node_arena.specs.Typing.{Fits}
@@ -170,7 +171,10 @@ module _ (arena : Arena) (old new : Work) (n : NodeId) (now : Outcome) (root : O
     lists = still_lists arena old new links_as kept;
     tops = kept.tops;
     frozen = λ m k e flag. kept.frozen m k (sym (main_was m) ∙ e) flag;
-    rooms = record { calls = λ m r k is e. kept.rooms.calls m r k is (sym (main_was m) ∙ e) };
+    rooms = record {
+      calls = λ m r k is e. kept.rooms.calls m r k is (sym (main_was m) ∙ e);
+      ran = subst (λ (l : Vec NodeId Global). nodes.live arena ≤ vec_capacity l) (sym run.ran) kept.rooms.ran;
+    };
   }
     where
       links_as : SameLinks old.experts new.experts
@@ -225,7 +229,7 @@ module _ (arena : Arena) (old : Work) (deaths : Deaths) (roots : Rows NodeId) (s
     lists = kept.lists;
     tops = kept.tops;
     frozen = kept.frozen;
-    rooms = record { calls = kept.rooms.calls };
+    rooms = record { calls = kept.rooms.calls; ran = kept.rooms.ran };
   }
 
   -- and they stand for the same states
@@ -248,6 +252,7 @@ module _ (old : Parts) (deaths : Deaths) (roots : Rows NodeId) (same_deaths : Ke
     scopes = kept.scopes;
     dying = same_dying ∙ kept.dying;
     clock = kept.clock;
+    listing = kept.listing;
   }
 
   -- they stand for the same states
@@ -295,6 +300,7 @@ roots_roomy dead roots same kept = record {
   scopes = kept.scopes;
   dying = kept.dying;
   clock = kept.clock;
+  listing = kept.listing;
 }
 
 -- ---- nothing was built
@@ -324,6 +330,7 @@ module _ (parts : Parts) (b : NodeId) (kept : IsKept parts.arena parts.work) whe
     heap = λ p. refl;
     todo = refl;
     round = record { roots = refl; deaths = refl; ran = refl; retries = refl; round = refl; experts = refl };
+    called = refl;
     ran = refl;
   }
 

@@ -1,5 +1,5 @@
 -- A bind's scope died and new nodes stand in it: what that is in the machine's words, and the state that the parts stand for.
-use Rattle.std.proofs.Common.{◌≡◌, ◌≢◌, ◌⊎◌, inl, inr, ℕ, ◌-◌, ◌<◌, ◌≤◌, true, false, List, [], Option, None, Some, refl, sym, ap, subst, ◌∙◌, arith, zero, suc, Bool}
+use Rattle.std.proofs.Common.{◌≡◌, ◌≢◌, ◌⊎◌, inl, inr, ℕ, ◌-◌, ◌<◌, ◌≤◌, true, false, List, [], Option, None, Some, refl, sym, ap, subst, ◌∙◌, arith, zero, suc, Bool, Vec, Global}
 use Rattle.std.specs.Prelude.{is_some, option_map, reverse, ◌==◌}
 use Rattle.std.proofs.lemmas.Bool.{cases_lt}
 use Rattle.std.proofs.lemmas.Option.{none-some, same_Some}
@@ -639,7 +639,7 @@ module _ (F : Functions) (z : Start) (t : State) (b : NodeId) (now : Outcome) (c
       todo = λ p td. absurd (let q = a.quiet p in cc);
       retries = a.stands.retries ∙ sym (a.grown.round.retries ∙ a.died.retries);
       died = λ n. refl;
-      ran = a.stands.ran ∙ ap reverse (sym (a.grown.round.ran ∙ a.died.called));
+      ran = a.stands.ran ∙ ap reverse (sym (a.grown.called ∙ ap (λ (l : Vec NodeId Global). l.items) a.died.called));
       counts = counts_as;
       given = refl;
     }

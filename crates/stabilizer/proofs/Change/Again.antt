@@ -94,6 +94,7 @@ module _ (M : Meaning) (old mid : Parts) (n : NodeId) (before after : Counts) (w
     scopes = kept.scopes;
     dying = kept.dying;
     clock = kept.clock;
+    listing = kept.listing;
   }
 
 -- ---- want of memory before anything changed
@@ -145,6 +146,7 @@ module _ (old : Parts) (work : Work) (rest : work ≡ record old.work { todo = w
     scopes = kept.scopes;
     dying = kept.dying;
     clock = kept.clock;
+    listing = kept.listing;
   }
 
 -- where the graph alone is another, the round is the same
@@ -155,7 +157,7 @@ graph_round old new rest = ap (λ (w : Work). w.round) rest
 
 -- of the parts the work is another that is kept
 pub parts_with : (parts : Parts) (work : Work) → PartsKept parts → IsKept parts.arena work → PartsKept (record parts { work = work })
-parts_with parts work kept is = record { work = is; scopes = kept.scopes; dying = kept.dying; clock = kept.clock }
+parts_with parts work kept is = record { work = is; scopes = kept.scopes; dying = kept.dying; clock = kept.clock; listing = kept.listing }
 
 two_in : (x : Option Row) → has_part x Change ≡ true → (r : Row) × (x ≡ Some r) × IsSome (subject_of r.def)
 two_in None e = absurd (cc)

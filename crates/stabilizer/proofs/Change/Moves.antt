@@ -282,7 +282,7 @@ module _ (M : Meaning) (old turned : Parts) (n : NodeId) (counts : Counts) (all 
   round_last = record {
     roots = ap (λ (w : Work). w.roots) t.rest;
     deaths = ap (λ (w : Work). w.deaths) t.rest;
-    ran = ap (λ (w : Work). w.ran.items) t.rest;
+    ran = ap (λ (w : Work). w.ran) t.rest;
     retries = ap (λ (w : Work). w.retries) t.rest;
     round = ap (λ (w : Work). w.round) t.rest;
     experts = ap (λ (w : Work). w.experts) t.rest;
@@ -302,7 +302,7 @@ module _ (M : Meaning) (old turned : Parts) (n : NodeId) (counts : Counts) (all 
         (record {
           roots = round_last.roots ∙ ap (λ (w : Work). w.roots) k.0;
           deaths = round_last.deaths ∙ ap (λ (w : Work). w.deaths) k.0;
-          ran = round_last.ran ∙ ap (λ (w : Work). w.ran.items) k.0;
+          ran = round_last.ran ∙ ap (λ (w : Work). w.ran) k.0;
           retries = round_last.retries ∙ ap (λ (w : Work). w.retries) k.0;
           round = round_last.round ∙ ap (λ (w : Work). w.round) k.0;
           experts = round_last.experts ∙ ap (λ (w : Work). w.experts) k.0;

@@ -189,7 +189,13 @@ module _ (M : Meaning) (old : Parts) (g : NecessaryPart) (p : Point) (n : NodeId
   kept = all.work
 
   popped_kept : PartsKept popped
-  popped_kept = record { work = taken_kept old.arena old.work g rest p kept c; scopes = all.scopes; dying = all.dying; clock = all.clock }
+  popped_kept = record {
+    work = taken_kept old.arena old.work g rest p kept c;
+    scopes = all.scopes;
+    dying = all.dying;
+    clock = all.clock;
+    listing = all.listing;
+  }
 
   stands_before : (s : State) → MatchesState old.arena old.work before None s → StandsBefore popped before s n
   stands_before s st = record { work = old.work; taken = takes; stands = st }

@@ -1,6 +1,6 @@
 -- A change is settled: the parts stand for the state then, and what is kept where it is turned.
 use Rattle.std.proofs.Common.{◌≡◌, ◌⊎◌, inl, inr, ℕ, ◌≤◌, true, false, List, Option, None, Some, refl, sym, ap, subst, ◌∙◌, arith, length, Vec, Global, Bool, [], ◌≢◌}
-use Rattle.std.specs.Prelude.{◌↔◌, is_some, option_map, reverse}
+use Rattle.std.specs.Prelude.{◌↔◌, is_some, option_map, reverse, vec_capacity}
 use Rattle.std.proofs.lemmas.Option.{none-some, same_Some}
 use Rattle.inc_value.specs.declared.function.FnRef.{FnRef}
 use Rattle.inc_value.specs.declared.node.NodeId.{NodeId}
@@ -18,6 +18,7 @@ use Rattle.point_map.specs.Rows.{Rows, at, Holds}
 use Rattle.link_table.specs.Links.{times, Links}
 use Rattle.necessity.specs.Need.{root_times, KeepsRoots, Roots}
 use Rattle.necessary_graph.specs.Part.{Needed}
+use Rattle.node_arena.specs.Arena as nodes
 use Rattle.node_arena.specs.Arena.{Arena, row_at}
 use Rattle.node_arena.specs.Typing.{Fits}
 use Rattle.expert_nodes.specs.Experts.{ExpertPlace, SameLinks, fresh_at, is_stale_at, kids_at}
@@ -120,7 +121,7 @@ pub record LeavesSettled (old new : Work) (n : NodeId) (given : Outcome) : Type 
   pub gone : at new.graph.heap (change n) ≡ None
   pub heap : (a : Point) → a ≢ change n → is_some (at new.graph.heap a) ≡ is_some (at old.graph.heap a)
   pub deaths : new.deaths ≡ old.deaths
-  pub ran : new.ran.items ≡ old.ran.items
+  pub ran : new.ran ≡ old.ran
   pub retries : new.retries ≡ old.retries
   pub round : new.round ≡ old.round
   pub experts : new.experts ≡ old.experts
@@ -201,7 +202,7 @@ module _ (s : State) (arena : Arena) (old new : Work) (counts : Counts) (st : Ma
     todo = listed;
     retries = st.retries ∙ sym run.retries;
     died = λ m. st.died m ∙ sym (died_same old new run.deaths m);
-    ran = st.ran ∙ ap reverse (sym run.ran);
+    ran = st.ran ∙ ap (λ (l : Vec NodeId Global). reverse l.items) (sym run.ran);
     counts = st.counts;
     given = st.given;
   }
@@ -351,6 +352,7 @@ module _ (arena : Arena) (taken mid : Work) (todo : Vec Point Global) (n : NodeI
     rooms = record {
       calls = λ m x y row e. let b = row_before taken.rows mid.rows (main n) code.Static rows_are (main m) y e in
           subst (λ (l : ℕ). length (kids x.def) ≤ l) (sym b.room) (kept.rooms.calls m x b.row row b.was);
+      ran = subst (λ (l : Vec NodeId Global). nodes.live arena ≤ vec_capacity l) (sym (ap (λ (w : Work). w.ran) loose.last ∙ ap (λ (w : Work). w.ran) loose.rest)) kept.rooms.ran;
     };
   }
 
@@ -471,7 +473,7 @@ module _ (arena : Arena) (mid : Work) (rows : Rows Progress) (n s : NodeId) (r :
     lists = kept.lists;
     tops = kept.tops;
     frozen = λ m y e flag. kept.frozen m y (sym (main_row m) ∙ e) flag;
-    rooms = record { calls = λ m x y row e. kept.rooms.calls m x y row (sym (main_row m) ∙ e) };
+    rooms = record { calls = λ m x y row e. kept.rooms.calls m x y row (sym (main_row m) ∙ e); ran = kept.rooms.ran };
   }
 
 -- ---- the whole turn

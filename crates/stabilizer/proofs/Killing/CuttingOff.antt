@@ -67,7 +67,13 @@ module _ (old : Parts) (b : NodeId) (kept : PartsKept old) (there : Holds old.wo
   first = mid old.arena old.work loose b lost kept.work need there
 
   pub begun_kept : PartsKept begun
-  begun_kept = record { work = loose_kept old.arena old.work loose b lost kept.work need there; scopes = kept.scopes; dying = kept.dying; clock = kept.clock }
+  begun_kept = record {
+    work = loose_kept old.arena old.work loose b lost kept.work need there;
+    scopes = kept.scopes;
+    dying = kept.dying;
+    clock = kept.clock;
+    listing = kept.listing;
+  }
 
   -- ---- the state that the parts stand for once the change is in the heap again
 
@@ -106,7 +112,7 @@ module _ (old : Parts) (b : NodeId) (kept : PartsKept old) (there : Holds old.wo
       round = record {
         roots = ap (λ (w : Work). w.roots) work_before;
         deaths = ap (λ (w : Work). w.deaths) work_before;
-        ran = ap (λ (w : Work). w.ran.items) work_before;
+        ran = ap (λ (w : Work). w.ran) work_before;
         retries = ap (λ (w : Work). w.retries) work_before;
         round = ap (λ (w : Work). w.round) work_before;
         experts = ap (λ (w : Work). w.experts) work_before;

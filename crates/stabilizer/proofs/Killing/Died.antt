@@ -1,7 +1,9 @@
 -- What is to die is listed, and dies.
-use Rattle.std.proofs.Common.{◌≡◌, ◌≢◌, ◌⊎◌, inl, inr, ℕ, ◌<◌, ◌≤◌, List, Option, None, Some, refl, sym, ap, subst, ◌∙◌, arith, ◌+◌, length, get_or}
-use Rattle.std.specs.Prelude.{is_some, IsSome, option_map, option_and_then, []}
-use Rattle.std.proofs.lemmas.Option.{none-some, same_Some, slice_get_read}
+use Rattle.std.proofs.Common.{◌≡◌, ◌≢◌, ◌⊎◌, inl, inr, ℕ, ◌<◌, ◌≤◌, List, ◌∷◌, ◌++◌, Option, None, Some, refl, sym, ap, subst, ◌∙◌, arith, ◌+◌, length, drop, Vec, Global, append-nil, length-append}
+use Rattle.std.specs.Prelude.{◌↔◌, is_some, IsSome, option_map, option_and_then, [], vec_capacity}
+use Rattle.std.proofs.Math.Seq.{drop-append_seam}
+use Rattle.std.proofs.lemmas.List.{append_assoc}
+use Rattle.std.proofs.lemmas.Option.{none-some, same_Some}
 use Rattle.inc_value.specs.declared.node.NodeId.{NodeId}
 use Rattle.inc_value.specs.declared.node.Part.TheVariants.{Main}
 use Rattle.inc_value.specs.declared.node.Point.{Point}
@@ -15,7 +17,8 @@ use Rattle.inc_terms.specs.Within.{Given}
 use Rattle.point_map.specs.Rows.{at, Holds, Changes}
 use Rattle.link_table.specs.Links.{Links, Reads}
 use Rattle.necessary_graph.specs.Part.{NecessaryPart, Needed, IsInStep}
-use Rattle.node_arena.specs.Arena.{Arena, row_at}
+use Rattle.node_arena.specs.Arena.{Arena, row_at, live}
+use Rattle.stabilizer.proofs.Round.Alive.{fewer_live}
 use Rattle.node_outcomes.specs.Choosing.{built_in}
 use Rattle.node_arena.specs.Typing.{FoldTakes}
 use Rattle.expert_nodes.specs.Experts.{ExpertPlace, expert_at, kids_at}
@@ -32,109 +35,173 @@ use Rattle.wiring.specs.declared.work.Work.{Work}
 use Rattle.wiring.proofs.Deciding.{need_same, decides_needed}
 use Rattle.wiring.proofs.Holding.{died_same, right_as}
 use Rattle.wiring.proofs.Linking.{some_or_none}
+use Rattle.wiring.proofs.Placing.{among_before, among_last, among_cases}
 use Rattle.wiring.proofs.Releasing.{main_apart}
 use Rattle.timed_nodes.specs.Timed.{KeepsClock}
-use Rattle.stabilizer.specs.Dying.{AreDying, AreListed, MayForget, AreForgotten, HasDied, HaveGatesAlone, StandsBut, scope_at}
+use Rattle.stabilizer.specs.Dying.{AreDying, AreListed, AreBehind, MayForget, AreForgotten, HasDied, HaveGatesAlone, StandsBut, scope_at}
 use Rattle.stabilizer.specs.Kept.{PartsKept, KeepsScopes, graph_in}
 use Rattle.stabilizer.specs.declared.parts.Parts.{Parts}
-use Rattle.stabilizer.proofs.Killing.ForgettingAll.{not_none}
+use Rattle.stabilizer.proofs.Killing.ForgettingAll.{not_none, once_apart}
+use Rattle.stabilizer.proofs.Killing.Invalidating.{no_repeats_more}
 use Rattle.stabilizer.proofs.Between.Typing.{KeepsTypes, call_still, folds_still, listed_still, typed_still, right_still}
 use Rattle.stabilizer.proofs.Step.Experts.{no_expert, scoped_plain}
-use Rattle.std.specs.List.{slice_get}
-use Rattle.std.proofs.lemmas.Bool.{cases_lt}
 use Rattle.node_lists.specs.Deaths.{Deaths}
-use Rattle.node_lists.proofs.Counting.{place_of, at_place, place_once}
 
--- the nodes before the place are listed, and there is room for the others
-pub record IsListing (arena : Arena) (old now : Work) (nodes : List NodeId) (place : ℕ) : Type 0 where
-  pub died : (i : ℕ) (n : NodeId) → i < place → slice_get nodes i ≡ Some n → died_at now n ≡ scope_at arena n
-  pub others : (n : NodeId) → ((i : ℕ) → i < place → slice_get nodes i ≡ Some n → ⊥) → died_at now n ≡ died_at old n
-  pub room : length nodes ≤ place + now.deaths.spare
+-- some of the nodes went over to the dead, and there is room for those that are left
+pub record IsListing (arena : Arena) (old now : Work) (all left : List NodeId) : Type 0 where
+  pub more : List NodeId
+  pub behind : now.deaths.nodes ≡ old.deaths.nodes ++ more
+  pub same : (n : NodeId) → (Among n left ⊎ Among n more) ↔ Among n all
+  pub apart : (n : NodeId) → Among n left → Among n more → ⊥
+  pub once_left : NoRepeats left
+  pub once : NoRepeats more
+  pub died : (n : NodeId) → Among n more → died_at now n ≡ scope_at arena n
+  pub others : (n : NodeId) → (Among n more → ⊥) → died_at now n ≡ died_at old n
+  pub room : length left ≤ now.deaths.spare
   pub rest : now ≡ record old { deaths = now.deaths }
 
-pub listing_first : (arena : Arena) (old : Work) (nodes : List NodeId) → length nodes ≤ old.deaths.spare → IsListing arena old old nodes 0
-listing_first arena old nodes room = record {
-  died = λ i n below e. absurd (omega (arith, below));
-  others = λ n none. refl;
-  room = omega (arith, room);
+pub listing_first : (arena : Arena) (old : Work) (nodes : List NodeId) → NoRepeats nodes → length nodes ≤ old.deaths.spare
+    → IsListing arena old old nodes nodes
+listing_first arena old nodes once room = record {
+  more = [];
+  behind = sym (append-nil old.deaths.nodes);
+  same = λ n. (λ h. elim h [ inl a ↦ a | inr none ↦ absurd none ], λ a. inl a);
+  apart = λ n a none. none;
+  once_left = once;
+  once = tt;
+  died = λ n none. absurd none;
+  others = λ n out. refl;
+  room = room;
   rest = refl;
 }
 
--- another node at a place up to the next is at an earlier place
-earlier : (nodes : List NodeId) (i place : ℕ) (n m : NodeId) → i < place + 1 → slice_get nodes i ≡ Some n → slice_get nodes place ≡ Some m
-    → n ≢ m → i < place
-earlier nodes i place n m below e there other = elim (cases_lt i place) [
-  | inl l ↦ l
-  | inr past ↦
-      let same : i ≡ place = omega (arith, below, past) in
-      absurd (other (same_Some n m (sym e ∙ (ap (λ (k : ℕ). slice_get nodes k) same ∙ there))))
-]
+once_before : (xs : List NodeId) (n : NodeId) → NoRepeats (xs ++ n ∷ []) → NoRepeats xs
+once_before [] n once = tt
+once_before (x ∷ xs) n once = (λ a. once.0 (among_before x n xs a), once_before xs n once.1)
 
-module _ (arena : Arena) (old now : Work) (nodes : List NodeId) (place : ℕ) (so : IsListing arena old now nodes place) (m : NodeId)
-    (there : slice_get nodes place ≡ Some m) where
-  -- the node at the place wasn't listed, and there is room for it
-  pub listing_absent : NoRepeats nodes → ((n : NodeId) → Among n nodes → died_at old n ≡ None) → died_at now m ≡ None
-  listing_absent once absent =
-      so.others m (λ i below e. let same = place_once nodes i place m once e there in absurd (omega (arith, below, same)))
-      ∙ absent m (at_place nodes place m there)
+module _ (arena : Arena) (old now : Work) (all left rest : List NodeId) (m : NodeId) (so : IsListing arena old now all left)
+    (last : left ≡ rest ++ m ∷ []) where
+  m_left : Among m left
+  m_left = subst (λ (xs : List NodeId). Among m xs) (sym last) (among_last m rest)
 
-  -- one more is listed
-  pub listing_more : (deaths : Deaths) (scope : NodeId) → scope_at arena m ≡ Some scope
-      → Changes now.deaths.scopes deaths.scopes (main m) (Some scope) → deaths.spare + 1 ≡ now.deaths.spare → IsListing arena old (record now { deaths = deaths }) nodes (place + 1)
-  listing_more deaths scope is changes spare = record {
-    died = λ i n below e. elim (node_or_other n m) [
-      | inl same ↦ subst (λ (x : NodeId). at deaths.scopes (main x) ≡ scope_at arena x) (sym same) (changes.changed ∙ sym is)
-      | inr other ↦ changes.others (main n) (λ h. other (ap (λ (x : Point). x.node) h))
-          ∙ so.died i n (earlier nodes i place n m below e there other) e
+  -- the last one didn't go over yet
+  pub listing_absent : ((n : NodeId) → Among n all → died_at old n ≡ None) → died_at now m ≡ None
+  listing_absent absent = so.others m (so.apart m m_left) ∙ absent m ((so.same m).0 (inl m_left))
+
+  -- it stands in a scope
+  pub listing_scoped : ((n : NodeId) → Among n all → IsSome (scope_at arena n)) → None ≡ scope_at arena m → ⊥
+  listing_scoped scopes none = let h = ap is_some none ∙ scopes m ((so.same m).0 (inl m_left)) in absurd (cc)
+
+  pub listing_room : 0 < now.deaths.spare
+  listing_room = let room = so.room in let l = ap length last ∙ length-append rest (m ∷ []) in omega (arith, room, l)
+
+  before : (n : NodeId) → Among n rest → Among n left
+  before n r = subst (λ (xs : List NodeId). Among n xs) (sym last) (among_before n m rest r)
+
+  fresh : Among m rest → ⊥
+  fresh r = once_apart m rest (m ∷ []) (subst (λ (xs : List NodeId). NoRepeats xs) last so.once_left) r (inl refl)
+
+  it_goes : (n : NodeId) → n ≡ m → Among n (so.more ++ m ∷ [])
+  it_goes n e = subst (λ (x : NodeId). Among x (so.more ++ m ∷ [])) (sym e) (among_last m so.more)
+
+  -- it does
+  pub listing_more : (deaths : Deaths) (scope : NodeId) → scope_at arena m ≡ Some scope → deaths.nodes ≡ now.deaths.nodes ++ m ∷ []
+      → Changes now.deaths.scopes deaths.scopes (main m) (Some scope) → deaths.spare + 1 ≡ now.deaths.spare
+      → IsListing arena old (record now { deaths = deaths }) all rest
+  listing_more deaths scope is nodes changes spare = record {
+    more = so.more ++ m ∷ [];
+    behind = nodes ∙ (ap (λ (xs : List NodeId). xs ++ m ∷ []) so.behind ∙ append_assoc old.deaths.nodes so.more (m ∷ []));
+    same = λ n. (
+      λ h. elim h [
+        | inl r ↦ (so.same n).0 (inl (before n r))
+        | inr a ↦ elim (among_cases n m so.more a) [
+          | inl x ↦ (so.same n).0 (inr x)
+          | inr e ↦ (so.same n).0 (inl (subst (λ (x : NodeId). Among x left) (sym e) m_left))
+        ]
+      ],
+      λ a. elim ((so.same n).1 a) [
+        | inl l ↦ elim (among_cases n m rest (subst (λ (xs : List NodeId). Among n xs) last l)) [
+          | inl r ↦ inl r
+          | inr e ↦ inr (it_goes n e)
+        ]
+        | inr x ↦ inr (among_before n m so.more x)
+      ],
+    );
+    apart = λ n r a. elim (among_cases n m so.more a) [
+      | inl x ↦ so.apart n (before n r) x
+      | inr e ↦ fresh (subst (λ (x : NodeId). Among x rest) e r)
     ];
-    others = λ n none. changes.others (main n)
-        (λ h. none place (omega arith) (there ∙ ap (λ (x : Point). Some x.node) (sym h)))
-        ∙ so.others n (λ i below e. none i (omega (arith, below)) e);
-    room = let room = so.room in omega (arith, room, spare);
+    once_left = once_before rest m (subst (λ (xs : List NodeId). NoRepeats xs) last so.once_left);
+    once = no_repeats_more so.more m so.once (so.apart m m_left);
+    died = λ n a. elim (node_or_other n m) [
+      | inl e ↦ subst (λ (x : NodeId). at deaths.scopes (main x) ≡ scope_at arena x) (sym e) (changes.changed ∙ sym is)
+      | inr other ↦ elim (among_cases n m so.more a) [
+        | inl x ↦ changes.others (main n) (λ h. other (ap (λ (p : Point). p.node) h)) ∙ so.died n x
+        | inr e ↦ absurd (other e)
+      ]
+    ];
+    others = λ n out. changes.others (main n) (λ h. out (it_goes n (ap (λ (p : Point). p.node) h)))
+        ∙ so.others n (λ x. out (among_before n m so.more x));
+    room = let room = so.room in let l = ap length last ∙ length-append rest (m ∷ []) in omega (arith, room, l, spare);
     rest = ap (λ (w : Work). record w { deaths = deaths }) so.rest;
   }
 
--- then all are
-pub listing_last : (arena : Arena) (old now : Work) (nodes : List NodeId) (place : ℕ) → IsListing arena old now nodes place → length nodes ≤ place
-    → AreListed arena old now nodes
-listing_last arena old now nodes place so end = record {
-  died = λ n a. let p = place_of n nodes a in let within = p.1 in so.died p.0 n (omega (arith, within, end)) p.2;
-  others = λ n out. so.others n (λ i below e. out (at_place nodes i n e));
-  rest = so.rest;
-}
+-- nothing was left to take off
+pub drained : (left rest : List NodeId) → left ≡ rest ++ [] → length rest ≡ 0 → (left ≡ []) × (rest ≡ [])
+drained left [] same none = (same, refl)
+drained left (n ∷ rest) same none = absurd (omega (arith, none))
+
+-- then all have gone over, behind those that died before
+module _ (arena : Arena) (old now : Work) (all left : List NodeId) (so : IsListing arena old now all left) (none : left ≡ []) where
+  gone_over : (n : NodeId) → Among n all → Among n so.more
+  gone_over n a = elim ((so.same n).1 a) [
+    | inl l ↦ absurd (none_of n (subst (λ (xs : List NodeId). Among n xs) none l))
+    | inr x ↦ x
+  ]
+    where
+      none_of : (n : NodeId) → Among n [] → ⊥
+      none_of n a = a
+
+  pub listing_last : AreListed arena old now all
+  listing_last = record {
+    died = λ n a. so.died n (gone_over n a);
+    others = λ n out. so.others n (λ x. out ((so.same n).0 (inr x)));
+    rest = so.rest;
+  }
+
+  pub listing_behind : AreBehind old.deaths.nodes now.deaths.nodes all
+  listing_behind = record { more = so.more; behind = so.behind; same = λ n. (λ x. (so.same n).0 (inr x), gone_over n); once = so.once }
 
 -- ---- of parts
 
 -- of the parts nothing else changed
-pub record AreBeingListed (old now : Parts) (place : ℕ) : Type 0 where
-  pub listing : IsListing old.arena old.work now.work old.dying.items place
-  pub rest : now ≡ record old { work = now.work }
+pub record AreBeingListed (old now : Parts) : Type 0 where
+  pub listing : IsListing old.arena old.work now.work old.dying.items now.dying.items
+  pub rest : now ≡ record old { work = now.work; dying = now.dying }
 
-module _ (old now : Parts) (place : ℕ) (so : AreBeingListed old now place) (m : NodeId) (within : place < length old.dying.items)
-    (read : m ≡ get_or now.dying.items place m) where
-  same_items : now.dying.items ≡ old.dying.items
-  same_items = ap (λ (p : Parts). p.dying.items) so.rest
-
-  there : slice_get old.dying.items place ≡ Some m
-  there = slice_get_read old.dying.items (length old.dying.items) place m refl within
-      (read ∙ ap (λ (xs : List NodeId). get_or xs place m) same_items)
-
+module _ (old now : Parts) (so : AreBeingListed old now) (dying : Vec NodeId Global) (m : NodeId) (last : now.dying.items ≡ dying.items ++ m ∷ []) where
   scope_was : scope_at now.arena m ≡ scope_at old.arena m
   scope_was = ap (λ (p : Parts). scope_at p.arena m) so.rest
 
-  pub parts_absent : NoRepeats old.dying.items → ((n : NodeId) → Among n old.dying.items → died_at old.work n ≡ None) → died_at now.work m ≡ None
-  parts_absent once absent = listing_absent old.arena old.work now.work old.dying.items place so.listing m there once absent
+  pub parts_absent : ((n : NodeId) → Among n old.dying.items → died_at old.work n ≡ None) → died_at now.work m ≡ None
+  parts_absent absent = listing_absent old.arena old.work now.work old.dying.items now.dying.items dying.items m so.listing last absent
 
-  pub parts_more : (deaths : Deaths) (scope : NodeId) → Some scope ≡ scope_at now.arena m
-      → Changes now.work.deaths.scopes deaths.scopes (main m) (Some scope) → deaths.spare + 1 ≡ now.work.deaths.spare → AreBeingListed old (record now { work = record now.work { deaths = deaths } }) (place + 1)
-  parts_more deaths scope is changes spare = record {
-    listing = listing_more old.arena old.work now.work old.dying.items place so.listing m there deaths scope (sym (is ∙ scope_was)) changes spare;
-    rest = ap (λ (p : Parts). record p { work = record now.work { deaths = deaths } }) so.rest;
+  pub parts_room : 0 < now.work.deaths.spare
+  parts_room = listing_room old.arena old.work now.work old.dying.items now.dying.items dying.items m so.listing last
+
+  pub parts_more : (deaths : Deaths) (scope : NodeId) → Some scope ≡ scope_at now.arena m → deaths.nodes ≡ now.work.deaths.nodes ++ m ∷ []
+      → Changes now.work.deaths.scopes deaths.scopes (main m) (Some scope) → deaths.spare + 1 ≡ now.work.deaths.spare
+      → AreBeingListed old (record now { work = record now.work { deaths = deaths }; dying = dying })
+  parts_more deaths scope is nodes changes spare = record {
+    listing = listing_more old.arena old.work now.work old.dying.items now.dying.items dying.items m so.listing last deaths scope (sym (is ∙ scope_was))
+        nodes changes spare;
+    rest = ap (λ (p : Parts). record p { work = record now.work { deaths = deaths }; dying = dying }) so.rest;
   }
 
   -- each of them has a scope
   pub parts_scoped : ((n : NodeId) → Among n old.dying.items → IsSome (scope_at old.arena n)) → None ≡ scope_at now.arena m → ⊥
-  parts_scoped scopes none = let h = ap is_some (none ∙ scope_was) ∙ scopes m (at_place old.dying.items place m there) in absurd (cc)
+  parts_scoped scopes none =
+      listing_scoped old.arena old.work now.work old.dying.items now.dying.items dying.items m so.listing last scopes (none ∙ scope_was)
 
 -- ---- a row without its outcome
 
@@ -370,7 +437,7 @@ module _ (old : Parts) (listed forgot : Work) (b : NodeId) (nodes : List NodeId)
       pairs = forgotten.pairs ∙ (ap (λ (w : Work). w.pairs.nodes) rest ∙ ap (λ (w : Work). w.pairs.nodes) list.rest);
       scoped = forgotten.scoped ∙ (ap (λ (w : Work). w.scoped.nodes) rest ∙ ap (λ (w : Work). w.scoped.nodes) list.rest);
       todo = forgotten.todo ∙ (ap (λ (w : Work). w.todo.items) rest ∙ ap (λ (w : Work). w.todo.items) list.rest);
-      called = forgotten.ran ∙ (ap (λ (w : Work). w.ran.items) rest ∙ ap (λ (w : Work). w.ran.items) list.rest);
+      called = forgotten.ran ∙ (ap (λ (w : Work). w.ran) rest ∙ ap (λ (w : Work). w.ran) list.rest);
       retries = forgotten.retries ∙ (ap (λ (w : Work). w.retries) rest ∙ ap (λ (w : Work). w.retries) list.rest);
       round = forgotten.round ∙ round_is;
       experts = forgotten.experts ∙ (ap (λ (w : Work). w.experts) rest ∙ ap (λ (w : Work). w.experts) list.rest);
@@ -493,6 +560,10 @@ module _ (old new : Parts) (b : NodeId) (kept : IsKept old.arena old.work) (d : 
           }
     ]
 
+    -- no more nodes live
+    pub no_more_live : live new.arena ≤ live old.arena
+    no_more_live = fewer_live old.arena new.arena (λ n r e. ap is_some (lived n r e).1)
+
     pub died_kept : IsInStep new.work.graph → IsKept new.arena new.work
     died_kept step = record {
       step = step;
@@ -561,7 +632,10 @@ module _ (old new : Parts) (b : NodeId) (kept : IsKept old.arena old.work) (d : 
           let no_ = row_outside (main n) (ap is_some e) in
           let h = kept.frozen n k (sym (main_now n no_) ∙ e) flag in
           record { row = h.row; is_row = stays n no_ ∙ h.is_row; is_freeze = h.is_freeze; value = h.value; last = h.last };
-      rooms = record { calls = λ n r k e is. let was = lived n r e in kept.rooms.calls n r k was.1 (sym (main_now n was.0) ∙ is) };
+      rooms = record {
+        calls = λ n r k e is. let was = lived n r e in kept.rooms.calls n r k was.1 (sym (main_now n was.0) ∙ is);
+        ran = subst (λ (l : Vec NodeId Global). live new.arena ≤ vec_capacity l) (sym d.called) (let room = kept.rooms.ran in let few = no_more_live in omega (arith, room, few));
+      };
     }
       where
         listed_as : (n : NodeId) → Every (Given old.arena.given) (kids_at new.work.experts n)
@@ -592,26 +666,63 @@ module _ (old new : Parts) (b : NodeId) (kept : IsKept old.arena old.work) (d : 
 
 -- ---- as the code does it
 
-module _ (old mid : Parts) (forgot : Work) (b : NodeId) (kept : IsKept old.arena old.work) (dying : AreDying (graph_in old) b old.dying.items)
-    (list : AreListed old.arena old.work mid.work old.dying.items) (mid_rest : mid ≡ record old { work = mid.work })
-    (root : Changes mid.work.roots forgot.roots (change b) None) (row : IsRewritten mid.work.rows forgot.rows (change b) without_outcome)
-    (rest : forgot ≡ record mid.work { rows = forgot.rows; roots = forgot.roots }) where
-  pub dying_may : MayForget mid.arena forgot mid.dying.items
-  dying_may = subst (λ (p : Parts). MayForget p.arena forgot p.dying.items) (sym mid_rest)
-      (may_forget old mid.work forgot b old.dying.items kept dying list root row rest)
+-- the same nodes are to die, and went over, in whatever order
+module _ (old : Parts) (listed : Work) (b : NodeId) (dying : AreDying (graph_in old) b old.dying.items)
+    (list : AreListed old.arena old.work listed old.dying.items) (behind : AreBehind old.work.deaths.nodes listed.deaths.nodes old.dying.items) where
+  dying_over : AreDying (graph_in old) b behind.more
+  dying_over = record {
+    all = λ n. (λ a. (dying.all n).0 ((behind.same n).0 a), λ i. (behind.same n).1 ((dying.all n).1 i));
+    once = behind.once;
+  }
 
-  module _ (new : Parts) (forgotten : AreForgotten mid.arena new.arena forgot new.work mid.dying.items)
-      (new_rest : new ≡ record mid { arena = new.arena; timed = new.timed; work = new.work; dying = new.dying }) where
+  listed_over : AreListed old.arena old.work listed behind.more
+  listed_over = record {
+    died = λ n a. list.died n ((behind.same n).0 a);
+    others = λ n out. list.others n (λ a. out ((behind.same n).1 a));
+    rest = list.rest;
+  }
+
+  over : drop (length old.work.deaths.nodes) listed.deaths.nodes ≡ behind.more
+  over = ap (λ (xs : List NodeId). drop (length old.work.deaths.nodes) xs) behind.behind ∙ drop-append_seam old.work.deaths.nodes behind.more
+
+module _ (old mid : Parts) (forgot : Work) (b : NodeId) (kept : IsKept old.arena old.work) (dying : AreDying (graph_in old) b old.dying.items)
+    (list : AreListed old.arena old.work mid.work old.dying.items) (behind : AreBehind old.work.deaths.nodes mid.work.deaths.nodes old.dying.items)
+    (mid_rest : mid ≡ record old { work = mid.work; dying = mid.dying })
+    (root : Changes mid.work.roots forgot.roots (change b) None) (row : IsRewritten mid.work.rows forgot.rows (change b) without_outcome)
+    (rest : forgot ≡ record mid.work { rows = forgot.rows; roots = forgot.roots }) (before : ℕ) (is_before : before ≡ length old.work.deaths.nodes) where
+  -- those that went over
+  abbrev went : List NodeId
+  went = behind.more
+
+  went_is : drop before forgot.deaths.nodes ≡ went
+  went_is =
+      ap (λ (k : ℕ). drop k forgot.deaths.nodes) is_before
+      ∙ (ap (λ (w : Work). drop (length old.work.deaths.nodes) w.deaths.nodes) rest ∙ over old mid.work b dying list behind)
+
+  arena_is : mid.arena ≡ old.arena
+  arena_is = ap (λ (p : Parts). p.arena) mid_rest
+
+  pub dying_may : MayForget mid.arena forgot (drop before forgot.deaths.nodes)
+  dying_may = subst (λ (a : Arena). MayForget a forgot (drop before forgot.deaths.nodes)) (sym arena_is)
+      (subst (λ (xs : List NodeId). MayForget old.arena forgot xs) (sym went_is)
+      (may_forget old mid.work forgot b went kept (dying_over old mid.work b dying list behind) (listed_over old mid.work b dying list behind) root row rest))
+
+  module _ (new : Parts) (forgotten : AreForgotten mid.arena new.arena forgot new.work (drop before forgot.deaths.nodes))
+      (new_rest : new ≡ record mid { arena = new.arena; timed = new.timed; work = new.work }) where
     pub died_all : HasDied old new b
-    died_all = all_died old mid.work forgot b old.dying.items kept dying list root row rest new
-        (subst (λ (p : Parts). AreForgotten p.arena new.arena forgot new.work p.dying.items) mid_rest forgotten)
+    died_all = all_died old mid.work forgot b went kept (dying_over old mid.work b dying list behind) (listed_over old mid.work b dying list behind)
+        root row rest new
+        (subst (λ (a : Arena). AreForgotten a new.arena forgot new.work went) arena_is
+        (subst (λ (xs : List NodeId). AreForgotten mid.arena new.arena forgot new.work xs) went_is forgotten))
         (ap (λ (p : Parts). p.ran) new_rest ∙ ap (λ (p : Parts). p.ran) mid_rest)
 
-    pub kept_all : HaveGatesAlone old b → StandsBut old b → IsInStep new.work.graph → new.dying.items ≡ []
-        → KeepsClock new.arena new.timed → PartsKept new
-    kept_all gates but step none clock = record {
+    pub kept_all : HaveGatesAlone old b → StandsBut old b → IsInStep new.work.graph → mid.dying.items ≡ []
+        → KeepsClock new.arena new.timed → live old.arena ≤ vec_capacity old.ran → PartsKept new
+    kept_all gates but step none clock listing = record {
       work = died_kept old new b kept died_all gates step;
       scopes = died_scopes old new b kept died_all but (ap (λ (p : Parts). p.scopes) new_rest ∙ ap (λ (p : Parts). p.scopes) mid_rest);
-      dying = none;
+      dying = ap (λ (p : Parts). p.dying.items) new_rest ∙ none;
       clock = clock;
+      listing = subst (λ (l : Vec NodeId Global). live new.arena ≤ vec_capacity l) (sym died_all.ran)
+          (let room = listing in let few = no_more_live old new b kept died_all gates in omega (arith, room, few));
     }

@@ -1,7 +1,9 @@
 -- The nodes that are to die are forgotten and dropped one after the other.
-use Rattle.std.proofs.Common.{◌≡◌, ◌≢◌, ◌⊎◌, inl, inr, ℕ, true, List, [], ◌∷◌, ◌++◌, Option, None, refl, sym, ap, subst, ◌∙◌}
+use Rattle.std.proofs.Common.{◌≡◌, ◌≢◌, ◌⊎◌, inl, inr, ℕ, suc, ◌≤◌, ◌<◌, ◌-◌, true, List, [], ◌∷◌, ◌++◌, Option, None, Some, refl, sym, ap, subst, ◌∙◌, length, take, drop, slice_get, append-nil, arith}
 use Rattle.std.specs.Prelude.{is_some, IsSome}
-use Rattle.std.proofs.lemmas.List.{append_assoc}
+use Rattle.std.proofs.Math.Seq.{take-length, take-suc}
+use Rattle.std.proofs.lemmas.List.{append_assoc, drop-append-le, length-take-le}
+use Rattle.std.proofs.lemmas.Option.{get_or_from_slice_get, slice_get_within}
 use Rattle.inc_value.specs.declared.node.NodeId.{NodeId}
 use Rattle.inc_value.specs.declared.node.Point.{Point}
 use Rattle.inc_value.specs.Choice.{Among, NoRepeats}
@@ -32,8 +34,70 @@ pub record IsForgetting (before : Arena) (old : Work) (all : List NodeId) (arena
   pub forgotten : AreForgotten before arena old now done
   pub step : IsInStep now.graph
 
+-- none was yet
+pub forgetting_first : (arena : Arena) (work : Work) (all left : List NodeId) → left ≡ all → MayForget arena work all
+    → IsForgetting arena work all arena work left
+forgetting_first arena work all left is may = record {
+  done = [];
+  parts = sym (append-nil left ∙ is);
+  forgotten = record {
+    given = refl;
+    time = refl;
+    sound = may.sound;
+    dead = λ n a. absurd a;
+    others = λ n out. refl;
+    rows = λ p out. refl;
+    gone = λ p a. absurd a;
+    roots = λ p out. refl;
+    fewer = λ p none. none;
+    rootless = λ n a h. absurd a;
+    links = refl;
+    graph_roots = refl;
+    heights = λ p x. refl;
+    dropped = λ p a h none. absurd a;
+    absent = λ p none. none;
+    out = λ p a h. absurd a;
+    heap = λ p out h. h;
+    told = λ p n a reads. absurd a;
+    only = λ p h. inl h;
+    deaths = refl;
+    pairs = refl;
+    scoped = refl;
+    todo = refl;
+    ran = refl;
+    retries = refl;
+    round = refl;
+    experts = refl;
+  };
+  step = may.step;
+}
+
+-- ---- those behind so many others, up to a place
+
+abbrev pub upto : ℕ → ℕ → List NodeId → List NodeId
+upto before place nodes = drop before (take place nodes)
+
+pub upto_all : (before : ℕ) (nodes : List NodeId) → upto before (length nodes) nodes ≡ drop before nodes
+upto_all before nodes = ap (λ (xs : List NodeId). drop before xs) (take-length nodes)
+
+pub upto_more : (before place : ℕ) (nodes : List NodeId) (n : NodeId) → slice_get nodes place ≡ Some n → before ≤ place
+    → upto before (suc place) nodes ≡ upto before place nodes ++ n ∷ []
+upto_more before place nodes n there low =
+    let within = slice_get_within nodes place n there in
+    let long = length-take-le place nodes (omega (arith, within)) in
+    ap (λ (xs : List NodeId). drop before xs)
+    (take-suc nodes place n within ∙ ap (λ (x : NodeId). take place nodes ++ x ∷ []) (get_or_from_slice_get nodes place n n there))
+    ∙ drop-append-le before (take place nodes) (n ∷ []) (omega (arith, low, long))
+
+-- the last one, where there is one
+pub upto_last : (before place : ℕ) (nodes : List NodeId) (n : NodeId) → before < place → slice_get nodes (place - 1) ≡ Some n
+    → upto before place nodes ≡ upto before (place - 1) nodes ++ n ∷ []
+upto_last before place nodes n past there =
+    let is : place ≡ suc (place - 1) = omega (arith, past) in
+    ap (λ (k : ℕ). upto before k nodes) is ∙ upto_more before (place - 1) nodes n there (omega (arith, past))
+
 -- what stands in the first list doesn't in the second
-once_apart : (n : NodeId) (xs ys : List NodeId) → NoRepeats (xs ++ ys) → Among n xs → Among n ys → ⊥
+pub once_apart : (n : NodeId) (xs ys : List NodeId) → NoRepeats (xs ++ ys) → Among n xs → Among n ys → ⊥
 once_apart n [] ys once a b = absurd a
 once_apart n (x ∷ xs) ys once (inl e) b = absurd (once.0 (among_right x xs ys (subst (λ (z : NodeId). Among z ys) e b)))
 once_apart n (x ∷ xs) ys once (inr a) b = once_apart n xs ys once.1 a b
@@ -193,7 +257,7 @@ module _ (before mid : Arena) (old now : Work) (all left rest : List NodeId) (n 
       pairs = b.pairs ∙ so.forgotten.pairs;
       scoped = b.scoped ∙ so.forgotten.scoped;
       todo = rw b.todo so.forgotten.todo;
-      ran = rw b.ran so.forgotten.ran;
+      ran = b.ran ∙ so.forgotten.ran;
       retries = b.retries ∙ so.forgotten.retries;
       round = b.round ∙ so.forgotten.round;
       experts = b.experts ∙ so.forgotten.experts;

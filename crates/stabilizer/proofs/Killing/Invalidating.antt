@@ -123,7 +123,7 @@ invalidating_first old b scopes kept room dying empties count = record {
     nobody : (n : NodeId) → Among n old.dying.items → ⊥
     nobody n a = none_of n (subst (λ (xs : List NodeId). Among n xs) kept.dying a)
 
-no_repeats_more : (xs : List NodeId) (g : NodeId) → NoRepeats xs → (Among g xs → ⊥) → NoRepeats (xs ++ g ∷ [])
+pub no_repeats_more : (xs : List NodeId) (g : NodeId) → NoRepeats xs → (Among g xs → ⊥) → NoRepeats (xs ++ g ∷ [])
 no_repeats_more [] g once out = (λ a. a, tt)
 no_repeats_more (x ∷ xs) g once out = (
   λ a. elim (among_cases x g xs a) [ inl h ↦ once.0 h | inr e ↦ out (inl (sym e)) ],

@@ -1,6 +1,6 @@
 -- The points of a node that is to die keep the links to their gate alone.
-use Rattle.std.proofs.Common.{◌≡◌, ◌⊎◌, inl, inr, ℕ, zero, suc, ◌<◌, ◌≤◌, true, false, not, Option, None, Some, refl, sym, ap, subst, ◌∙◌, arith}
-use Rattle.std.specs.Prelude.{is_some, option_and_then}
+use Rattle.std.proofs.Common.{◌≡◌, ◌⊎◌, inl, inr, ℕ, zero, suc, ◌<◌, ◌≤◌, true, false, not, Option, None, Some, refl, sym, ap, subst, ◌∙◌, arith, Vec, Global}
+use Rattle.std.specs.Prelude.{is_some, option_and_then, vec_capacity}
 use Rattle.std.proofs.lemmas.Option.{none-some}
 use Rattle.inc_value.specs.declared.node.NodeId.{NodeId}
 use Rattle.inc_value.specs.declared.node.Point.{Point}
@@ -15,7 +15,7 @@ use Rattle.height_order.specs.Levels.{or_zero}
 use Rattle.necessary_graph.specs.Part.{Needed, IsInStep}
 use Rattle.necessary_graph.specs.Sweep.{IsReduced, DropsLeaves}
 use Rattle.necessary_graph.proofs.Reaching.{needed_more}
-use Rattle.node_arena.specs.Arena.{Arena, row_at}
+use Rattle.node_arena.specs.Arena.{Arena, row_at, live}
 use Rattle.stabilize_round.specs.Invariant.{Invariant}
 use Rattle.stabilize_round.specs.State as machine
 use Rattle.stabilize_round.specs.State.{State, Start, count, planned, plan_at, live_plan}
@@ -141,7 +141,10 @@ module _ (old new : Work) (t : IsThinned old new) where
       lists = still_lists arena old new same_links kept;
       tops = kept.tops;
       frozen = λ n k e flag. kept.frozen n k (sym (row_as (main n)) ∙ e) flag;
-      rooms = record { calls = λ n r k row e. kept.rooms.calls n r k row (sym (row_as (main n)) ∙ e) };
+      rooms = record {
+        calls = λ n r k row e. kept.rooms.calls n r k row (sym (row_as (main n)) ∙ e);
+        ran = subst (λ (l : Vec NodeId Global). live arena ≤ vec_capacity l) (sym (ap (λ (w : Work). w.ran) t.rest)) kept.rooms.ran;
+      };
     }
 
 -- ---- a point keeps the links to its gate
@@ -233,7 +236,7 @@ module _ (old new : Work) (p gate : Point) (step : IsInStep old.graph) (rest : n
       round = record {
         roots = ap (λ (w : Work). w.roots) rest;
         deaths = ap (λ (w : Work). w.deaths) rest;
-        ran = ap (λ (w : Work). w.ran.items) rest;
+        ran = ap (λ (w : Work). w.ran) rest;
         retries = ap (λ (w : Work). w.retries) rest;
         round = ap (λ (w : Work). w.round) rest;
         experts = ap (λ (w : Work). w.experts) rest;

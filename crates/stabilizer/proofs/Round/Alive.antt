@@ -1,5 +1,5 @@
 -- The ids of live nodes, each listed once.
-use Rattle.std.proofs.Common.{◌≡◌, ◌⊎◌, inl, inr, ℕ, zero, suc, ◌+◌, ◌==◌, Bool, true, false, cond, List, [], ◌∷◌, length, Option, None, Some, is_some, count_by, slice_index_or, if◌then◌else◌, refl, sym, ap, ◌∙◌, arith}
+use Rattle.std.proofs.Common.{◌≡◌, ◌⊎◌, inl, inr, ℕ, zero, suc, ◌+◌, ◌≤◌, ◌==◌, Bool, true, false, cond, List, [], ◌∷◌, length, Option, None, Some, is_some, count_by, slice_index_or, if◌then◌else◌, refl, sym, ap, subst, ◌∙◌, arith}
 use Rattle.std.specs.Bool.{Decides}
 use Rattle.std.proofs.lemmas.Bool.Decides.{Decides-eqb}
 use Rattle.std.proofs.lemmas.List.Sums.{sum_by-cons}
@@ -8,7 +8,7 @@ use Rattle.inc_value.specs.Choice.{Among, NoRepeats, and_then}
 use Rattle.inc_value.specs.declared.node.NodeId.{NodeId}
 use Rattle.inc_terms.specs.Graph.{Row}
 use Rattle.node_arena.specs.declared.arena.Entry.{Entry}
-use Rattle.node_arena.specs.Arena.{Arena, row_at, row_of, live}
+use Rattle.node_arena.specs.Arena.{Arena, IsLive, row_at, row_of, live}
 use Rattle.stabilizer.proofs.Building.EveryPoint.{same_id}
 
 -- the row of the generation in a slot
@@ -110,3 +110,48 @@ among_alive a n r row = by (slice_index_or a.slots n.slot None) refl
     by None e = absurd (none-some r (sym (ap (λ (o : Option Entry). row_in o n.gen_) e) ∙ row))
     by (Some d) e = listed 0 a.slots n n.slot d e (omega arith)
         (generation_of d n.gen_ r (sym (ap (λ (o : Option Entry). row_in o n.gen_) e) ∙ row))
+
+-- ---- as many as are live at most
+
+-- a list without a place of an element
+abbrev without : {A : Type 0} (n : A) (ns : List A) → Among n ns → List A
+without n [] h = absurd h
+without n (m ∷ ns) (inl same) = ns
+without n (m ∷ ns) (inr h) = m ∷ without n ns h
+
+one_fewer : {A : Type 0} (n : A) (ns : List A) (h : Among n ns) → length (without n ns h) + 1 ≡ length ns
+one_fewer n [] h = absurd h
+one_fewer n (m ∷ ns) (inl same) = omega arith
+one_fewer n (m ∷ ns) (inr h) = let rest = one_fewer n ns h in omega (arith, rest)
+
+still_among : {A : Type 0} (m n : A) (ns : List A) (h : Among n ns) → (m ≡ n → ⊥) → Among m ns → Among m (without n ns h)
+still_among m n [] h other among = absurd h
+still_among m n (k ∷ ns) (inl same) other (inl is) = absurd (other (is ∙ sym same))
+still_among m n (k ∷ ns) (inl same) other (inr rest) = rest
+still_among m n (k ∷ ns) (inr h) other (inl is) = inl is
+still_among m n (k ∷ ns) (inr h) other (inr rest) = inr (still_among m n ns h other rest)
+
+-- what is listed once and all of another list isn't more than that
+pub at_most : {A : Type 0} (ms ns : List A) → NoRepeats ms → ((m : A) → Among m ms → Among m ns) → length ms ≤ length ns
+at_most [] ns once all = omega arith
+at_most (m ∷ ms) ns once all =
+    let h = all m (inl refl) in
+    let fewer = one_fewer m ns h in
+    let rest = at_most ms (without m ns h) once.1 (λ k a. still_among k m ns h
+    (λ same. once.0 (subst (λ x. Among x ms) same a)) (all k (inr a))) in
+    omega (arith, fewer, rest)
+
+some_row : (x : Option Row) → is_some x ≡ true → (r : Row) × (x ≡ Some r)
+some_row None h = absurd (cc)
+some_row (Some r) h = (r, refl)
+
+-- where each live node lived before, as many lived at least
+pub fewer_live : (old new : Arena) → ((n : NodeId) (r : Row) → row_at new n ≡ Some r → IsLive old n) → live new ≤ live old
+fewer_live old new lived =
+    let few = at_most (alive new) (alive old) (alive_once new) (λ n a.
+    let r = alive_row new n a in
+    let was = some_row (row_at old n) (lived n r.0 r.1) in
+    among_alive old n was.0 was.1) in
+    let now = alive_count new in
+    let before = alive_count old in
+    omega (arith, few, now, before)

@@ -1,5 +1,7 @@
 -- What a round says when it ends, by one record where it was accepted, and by one where it was refused.
-use Rattle.std.proofs.Common.{◌≡◌, inl, inr, ◌+◌, ◌<◌, ◌++◌, ℕ, List, [], map, None, sym, ap, subst, ◌∙◌, arith}
+use Rattle.std.proofs.Common.{◌≡◌, inl, inr, ◌+◌, ◌<◌, ◌++◌, ℕ, List, [], map, None, sym, ap, subst, ◌∙◌, arith, ◌≤◌}
+use Rattle.std.specs.Prelude.{vec_capacity}
+use Rattle.node_arena.specs.Arena.{live}
 use Rattle.std.proofs.lemmas.Bool.{cases_lt}
 use Rattle.std.proofs.lemmas.List.{map-append}
 use Rattle.inc_value.specs.Choice.{Among}
@@ -81,7 +83,7 @@ module _ {K More : Type 0} (keeper : Ghosts K More) (fs fs' : K) (old new : Part
   over : (P : Graph → Type 0) → P (graph_in new) → P (left_by old new)
   over P h = subst P (paused_same M old new (counts_by keeper fs) (counts_by keeper fs') e p) h
 
-  pub paused_stops : (roots : List NodeId) → OnlyRoots old.work.graph.roots new.work.graph.roots (map main roots) → new.ran ≡ old.ran
+  pub paused_stops : (roots : List NodeId) → OnlyRoots old.work.graph.roots new.work.graph.roots (map main roots) → new.ran.items ≡ old.ran.items
       → GivesFew (keeper.right fs') old.arena.given new.arena
       → StopsFull (keeper.right fs') new.arena (counts_by keeper fs) (counts_by keeper fs') e → RoundStops keeper fs fs' old new roots e
   paused_stops roots only ran spends full =
@@ -130,8 +132,9 @@ module _ {K More : Type 0} (keeper : Ghosts K More) (fs fs' : K) (old : Parts) (
   result = record settled { work = end.work; ran = end.ran }
 
   pub round_ends : MayBegin old roots → GivesLive old.arena.given 0 settled.arena → end.ran.items ≡ settled.work.ran.items
-      → end.work.round ≡ old.work.round + 1 → RoundEnds keeper fs fs' old result roots
-  round_ends may gives ran round =
+      → end.work.round ≡ old.work.round + 1 → live settled.arena ≤ vec_capacity end.work.ran → live settled.arena ≤ vec_capacity end.ran
+      → RoundEnds keeper fs fs' old result roots
+  round_ends may gives ran round called listed =
       let M = meaning_of keeper fs in
       let before = counts_by keeper fs in
       let after = counts_by keeper fs' in
@@ -143,7 +146,8 @@ module _ {K More : Type 0} (keeper : Ghosts K More) (fs fs' : K) (old : Parts) (
             roots stays.roots more end g ended since nodes freezes observed at ran;
         calls = round_calls M old wired rooted before ready wires put settled after steps stays.kept idle empty roots stays.roots more end g ended ran;
         ready = subst (λ (L : Meaning). IsReady L result) (sym same)
-            (round_readies M old wired rooted before ready wires put settled after steps stays.kept idle empty roots stays.roots more end g ended may fit);
+            (round_readies M old wired rooted before ready wires put settled after steps stays.kept idle empty roots stays.roots more end g ended may fit
+            called listed);
         gives = gives;
         round = round;
         builds = round_few M old wired rooted before ready wires put settled after steps stays.kept idle empty roots stays.roots more end g ended;

@@ -1,6 +1,6 @@
 -- A round ends: what is needed is up to date, and another round may begin.
 use Rattle.std.proofs.Common.{◌≡◌, ◌-◌, ◌⊎◌, inl, inr, ℕ, Bool, ◌<◌, ◌≤◌, ◌+◌, ◌++◌, true, false, cond, List, [], ◌∷◌, map, Option, None, Some, refl, sym, ap, subst, ◌∙◌, arith}
-use Rattle.std.specs.Prelude.{is_some, ◌↔◌, ◌==◌, reverse}
+use Rattle.std.specs.Prelude.{is_some, ◌↔◌, ◌==◌, reverse, vec_capacity}
 use Rattle.std.proofs.lemmas.Grind.{common_steps}
 use Rattle.std.proofs.lemmas.List.{reverse-append}
 use Rattle.std.proofs.lemmas.List.Sums.{sum_by-cons, sum_by_push}
@@ -37,7 +37,7 @@ use Rattle.necessity.specs.Need.{root_times}
 use Rattle.necessary_graph.specs.Part as part
 use Rattle.necessary_graph.specs.Part.{IsInStep, NecessaryPart}
 use Rattle.recompute_heap.specs.Agree.{IsEmpty}
-use Rattle.node_arena.specs.Arena.{Arena, row_at}
+use Rattle.node_arena.specs.Arena.{Arena, row_at, live}
 use Rattle.node_arena.specs.Graph.{AllCallFit}
 use Rattle.node_outcomes.specs.Choosing.{built_by, built_in}
 use Rattle.node_outcomes.specs.Computing.{seen, seen_of, has_part}
@@ -445,13 +445,14 @@ module _ (M : Meaning) (old mid : Parts) (before after : Counts) (first : PartsK
       ended_again = subst (λ (x : State). Ended F (next_start z last needed') x observed) shut_is again.1
 
       pub ready_next : FunctionLaws M.functions M.known M.ids → AllCallFit M.known M.ids arena → ScopesRooted (graph_in next_parts)
-          → IsReady M next_parts
-      ready_next laws fit inside = record {
+          → live arena ≤ vec_capacity end.work.ran → live arena ≤ vec_capacity end.ran → IsReady M next_parts
+      ready_next laws fit inside called listed = record {
         kept = record {
-          work = kept_next F z last inv_last quiet_last arena work rows' g new after kept.work stands_last keep r in_step round;
+          work = kept_next F z last inv_last quiet_last arena work rows' g new after kept.work stands_last keep r in_step round called;
           scopes = kept.scopes;
           dying = kept.dying;
           clock = kept.clock;
+          listing = listed;
         };
         laws = laws;
         fit = fit;
@@ -666,6 +667,7 @@ module _ (M : Meaning) (old mid : Parts) (before after : Counts) (first : PartsK
           is (subst (λ (xs : List NodeId). IsUpToDateIn F G D N (look_between old) after_look observed xs) (sym ran_is) up_next))
 
       pub ready_end : next ≡ end.work → FunctionLaws M.functions M.known M.ids → AllCallFit M.known M.ids arena
-          → ScopesRooted (graph_at arena end.work) → IsReady M (record mid { work = end.work; ran = end.ran })
-      ready_end is laws fit inside = subst (λ (w : Work). IsReady M (record mid { work = w; ran = end.ran })) is
-          (ready_next laws fit (subst (λ (w : Work). ScopesRooted (graph_at arena w)) (sym is) inside))
+          → ScopesRooted (graph_at arena end.work) → live arena ≤ vec_capacity end.work.ran → live arena ≤ vec_capacity end.ran
+          → IsReady M (record mid { work = end.work; ran = end.ran })
+      ready_end is laws fit inside called listed = subst (λ (w : Work). IsReady M (record mid { work = w; ran = end.ran })) is
+          (ready_next laws fit (subst (λ (w : Work). ScopesRooted (graph_at arena w)) (sym is) inside) called listed)

@@ -1,5 +1,5 @@
 -- Freezes keep their values one after another, and what they let go is one sweep.
-use Rattle.std.proofs.Common.{◌≡◌, ◌≢◌, inl, inr, ℕ, ◌-◌, ◌+◌, ◌<◌, ◌≤◌, true, Bool, List, [], ◌∷◌, length, drop, get_or, Option, None, Some, refl, sym, ap, subst, ◌∙◌, arith}
+use Rattle.std.proofs.Common.{◌≡◌, ◌≢◌, inl, inr, ℕ, ◌-◌, ◌+◌, ◌<◌, ◌≤◌, Bool, List, [], ◌∷◌, length, drop, get_or, Option, None, Some, refl, sym, ap, subst, ◌∙◌, arith}
 use Rattle.std.specs.Prelude.{is_some, not, option_map}
 use Rattle.std.proofs.Math.Path.{fun_ext}
 use Rattle.std.proofs.lemmas.List.{drop_all, drop_more}
@@ -8,10 +8,9 @@ use Rattle.inc_value.specs.Choice.{Among}
 use Rattle.inc_value.specs.declared.function.FnRef.{FnRef}
 use Rattle.inc_value.specs.declared.node.NodeId.{NodeId}
 use Rattle.inc_value.specs.declared.node.Point.{Point}
-use Rattle.inc_value.specs.declared.value.Value.{Value}
 use Rattle.inc_terms.specs.Depend.{main}
 use Rattle.inc_terms.specs.Graph.{Row, Def, Freeze}
-use Rattle.point_map.specs.Rows.{Rows, at, Holds}
+use Rattle.point_map.specs.Rows.{Rows, at}
 use Rattle.point_map.proofs.Places.{point_cases}
 use Rattle.link_table.specs.Links.{Links, link, times, Reads}
 use Rattle.necessity.specs.Need.{IsRoot, Roots, root_times}
@@ -36,11 +35,6 @@ use Rattle.stabilizer.proofs.Round.Sweeps.{IsOneLess, IsRootLess, IsSweptTo, swe
 frozen_rests : (x : Option Progress) → fires_in (option_map with_frozen x) ≡ None
 frozen_rests None = refl
 frozen_rests (Some k) = refl
-
--- what is to keep a value has a row
-firing_there : (x : Option Progress) (v : Value) → fires_in x ≡ Some v → is_some x ≡ true
-firing_there None v e = absurd (none-some v e)
-firing_there (Some k) v e = refl
 
 kept_there : (x : Option Progress) → is_some (option_map with_frozen x) ≡ is_some x
 kept_there None = refl
@@ -174,9 +168,6 @@ module _ (arena : Arena) (rows rows' : Rows Progress) (old now : NecessaryPart) 
 
     pub to_freeze : HasToFreeze arena rows node kid
     to_freeze = still_to_freeze arena rows' rows node kid (sym was.row) h
-
-    pub has_row : Holds rows' (main node)
-    has_row = firing_there (at rows' (main node)) h.value h.fires
 
     old_root : IsRoot (web old) (main node)
     old_root = (can node kid to_freeze).root

@@ -298,5 +298,5 @@ module _ (arena : Arena) (work : Work) (rows' : Rows Progress) (g : NecessaryPar
       lists = kept.lists;
       tops = kept.tops;
       frozen = fired;
-      rooms = record { calls = λ n r k row e. has (FitsRoom r) (λ x h. h) (main n) (λ x is. kept.rooms.calls n r x row is) k e };
+      rooms = record { calls = λ n r k row e. has (FitsRoom r) (λ x h. h) (main n) (λ x is. kept.rooms.calls n r x row is) k e; ran = kept.rooms.ran };
     }

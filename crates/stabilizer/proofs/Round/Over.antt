@@ -1,6 +1,6 @@
 -- A round is over: what its steps settled, freezes that keep their values, and the dead that let go.
-use Rattle.std.proofs.Common.{◌≡◌, ℕ, ◌+◌, ◌<◌, ◌++◌, List, [], map, Option, None, refl, sym, ap, subst, ◌∙◌, arith}
-use Rattle.std.specs.Prelude.{is_some}
+use Rattle.std.proofs.Common.{◌≡◌, ℕ, ◌+◌, ◌<◌, ◌++◌, List, [], map, Option, None, refl, sym, ap, subst, ◌∙◌, arith, ◌≤◌}
+use Rattle.std.specs.Prelude.{is_some, vec_capacity}
 use Rattle.std.proofs.lemmas.List.{map-append}
 use Rattle.inc_value.specs.declared.node.NodeId.{NodeId}
 use Rattle.inc_value.specs.declared.outcome.Outcome.{Outcome}
@@ -11,7 +11,7 @@ use Rattle.std.proofs.Math.Path.{fun_ext}
 use Rattle.necessary_graph.specs.Part.{IsInStep, NecessaryPart}
 use Rattle.necessity.specs.Need.{KeepsRoots}
 use Rattle.recompute_heap.specs.Agree.{IsEmpty}
-use Rattle.node_arena.specs.Arena.{Arena}
+use Rattle.node_arena.specs.Arena.{Arena, live}
 use Rattle.node_arena.specs.Graph.{AllCallFit}
 use Rattle.node_outcomes.specs.Computing.{seen, seen_of}
 use Rattle.node_outcomes.specs.Meaning.{Meaning}
@@ -149,9 +149,11 @@ module _ (M : Meaning) (old : Parts) (wired rooted : Work) (before : Counts) (re
           left_by_parts F old result before after first.state t.0 first.stands.graph first.stands.given first.stands.counts
           (t.2.graph ∙ left_is) t.2.given t.2.counts (λ n x row. ready.kept.work.sound.given n (ap is_some row)) left_over
 
-      pub round_readies : MayBegin old roots → AllCallFit M.known M.ids settled.arena → IsReady M result
-      round_readies m fit = ready_end M old settled before after ready.kept begins kept last.0 last.1 last.2 idle empty end end.work.rows g x.keep
+      pub round_readies : MayBegin old roots → AllCallFit M.known M.ids settled.arena → live settled.arena ≤ vec_capacity end.work.ran
+          → live settled.arena ≤ vec_capacity end.ran → IsReady M result
+      round_readies m fit called listed = ready_end M old settled before after ready.kept begins kept last.0 last.1 last.2 idle empty end end.work.rows g x.keep
           x.released x.step x.ran x.retries x.round (m.1 ++ m.3) (all_rooted m.0 m.1 m.2 m.3 m.4) is ready.laws fit (round_left.inside ready.inside)
+          called listed
 
       -- each bind could be built, and the count of builds rose by at most one for each of some that were
       pub round_few : BuiltFew F old result None before after

@@ -65,7 +65,7 @@ module _ (M : Meaning) (old : Parts) (before : Counts) (ready : IsReady M old) w
       record {
         first = ready.kept;
         begins = begins;
-        kept = record { work = kept; scopes = ready.kept.scopes; dying = ready.kept.dying; clock = ready.kept.clock };
+        kept = record { work = kept; scopes = ready.kept.scopes; dying = ready.kept.dying; clock = ready.kept.clock; listing = ready.kept.listing };
         pauses = record {
           before = k.0;
           state = k.0;
@@ -101,7 +101,7 @@ module _ (M : Meaning) (old : Parts) (before : Counts) (ready : IsReady M old) w
         record {
           first = ready.kept;
           begins = begins;
-          kept = record { work = kept; scopes = ready.kept.scopes; dying = ready.kept.dying; clock = ready.kept.clock };
+          kept = record { work = kept; scopes = ready.kept.scopes; dying = ready.kept.dying; clock = ready.kept.clock; listing = ready.kept.listing };
           pauses = record {
             before = k.0;
             state = k.0;

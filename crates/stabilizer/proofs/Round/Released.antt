@@ -1,6 +1,6 @@
 -- A round ends: freezes keep their values, the links of those that died in it are gone, and what is no longer reached lost all.
 use Rattle.std.proofs.Common.{◌≡◌, ◌⊎◌, inl, inr, ℕ, ◌<◌, ◌≤◌, ◌+◌, ◌-◌, Bool, true, false, List, map, Option, None, Some, refl, sym, ap, subst, ◌∙◌, arith}
-use Rattle.std.specs.Prelude.{is_some, not, ◌↔◌}
+use Rattle.std.specs.Prelude.{is_some, not, ◌↔◌, vec_capacity}
 use Rattle.std.proofs.Math.Path.{fun_ext}
 use Rattle.std.proofs.lemmas.Bool.{cases_lt}
 use Rattle.std.proofs.lemmas.Option.{none-some, same_Some}
@@ -21,6 +21,7 @@ use Rattle.necessity.specs.Need.{root_times}
 use Rattle.necessary_graph.specs.Part.{NecessaryPart, Needed, IsInStep}
 use Rattle.necessary_graph.specs.Sweep.{DropsLeaves, Sweep}
 use Rattle.necessary_graph.proofs.Reaching.{root_needed, read_needed, needed_more}
+use Rattle.node_arena.specs.Arena as nodes
 use Rattle.node_arena.specs.Arena.{Arena, row_at}
 use Rattle.node_lists.specs.Deaths.{Deaths}
 use Rattle.node_outcomes.specs.Computing.{has_part}
@@ -38,7 +39,7 @@ use Rattle.stabilize_round.proofs.Low.{links_are}
 use Rattle.stabilize_round.proofs.Points.{count_among, one_same, one_other, same_or_other}
 use Rattle.wiring.specs.Deciding.{is_needed}
 use Rattle.wiring.specs.Graph.{died_at, graph_at, rowless}
-use Rattle.wiring.specs.Kept.{IsKept, IsGhostLink, IsDead, IsTop}
+use Rattle.wiring.specs.Kept.{HasRooms, IsKept, IsGhostLink, IsDead, IsTop}
 use Rattle.wiring.specs.Scoped.{IsReleased}
 use Rattle.wiring.specs.Stands.{MatchesState, Counts}
 use Rattle.wiring.specs.declared.work.Work.{Work}
@@ -254,10 +255,11 @@ module _ (F : Functions) (z : Start) (t : State) (inv : Invariant F z t) (quiet 
   dead : (n b : NodeId) → died_at next n ≡ Some b → IsDead arena n b
   dead n b e = absurd (none-some b (sym (r.deaths n) ∙ e))
 
-  pub kept_next : new.round ≡ mid.round + 1 → IsKept arena next
-  kept_next round =
+  pub kept_next : new.round ≡ mid.round + 1 → nodes.live arena ≤ vec_capacity new.ran → IsKept arena next
+  kept_next round room =
+      let rooms : HasRooms arena next = record { calls = kept_frozen.rooms.calls; ran = room } in
       let rounds : (p : Point) (k : Progress) → at rows' p ≡ Some k → k.settled ≤ new.round = (λ p k e. omega (arith, kept_frozen.rounds p k e, round)) in
-      assumption (step, leaves, there, given, links, heap_row, dead, rounds, kept_frozen)
+      assumption (step, leaves, there, given, links, heap_row, dead, rounds, rooms, kept_frozen)
 
   -- ---- as the machine closes a round
 

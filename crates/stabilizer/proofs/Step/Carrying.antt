@@ -1,6 +1,6 @@
 -- What the parts keep stays so while a point is taken from the heap, settled, or put back.
 use Rattle.std.proofs.Common.{◌≡◌, ◌≢◌, ◌⊎◌, inl, inr, ℕ, ◌≤◌, true, Option, None, Some, refl, sym, ap, subst, ◌∙◌, arith}
-use Rattle.std.specs.Prelude.{is_some}
+use Rattle.std.specs.Prelude.{is_some, vec_capacity}
 use Rattle.inc_value.specs.declared.node.NodeId.{NodeId}
 use Rattle.inc_value.specs.declared.node.Point.{Point}
 use Rattle.inc_value.specs.declared.outcome.Outcome.{Outcome}
@@ -51,7 +51,8 @@ module _ (arena : Arena) (old new : Work) (kept : IsKept arena old) (rows : (p :
     (flags : (n : NodeId) → kept_in (at new.rows (main n)) ≡ kept_in (at old.rows (main n)))
     (frozen : (n : NodeId) (k : Progress) → at new.rows (main n) ≡ Some k → k.frozen ≡ true → HasFired arena n k)
     (links : SameLinks old.experts new.experts)
-    (rooms : (n : NodeId) (r : Row) (k : Progress) → row_at arena n ≡ Some r → at new.rows (main n) ≡ Some k → FitsRoom r k) where
+    (rooms : (n : NodeId) (r : Row) (k : Progress) → row_at arena n ≡ Some r → at new.rows (main n) ≡ Some k → FitsRoom r k)
+    (more : vec_capacity old.ran ≤ vec_capacity new.ran) where
   before : (p : Point) → Holds new.rows p → Holds old.rows p
   before p h = sym (rows p) ∙ h
 
@@ -92,20 +93,20 @@ module _ (arena : Arena) (old new : Work) (kept : IsKept arena old) (rows : (p :
     lists = still_lists arena old new links kept;
     tops = kept.tops;
     frozen = frozen;
-    rooms = record { calls = rooms };
+    rooms = record { calls = rooms; ran = let room = kept.rooms.ran in omega (arith, room, more) };
   }
 
 -- all rows stay, and the roots of binds
 pub kept_same : (arena : Arena) (old new : Work) → IsKept arena old → KeepsRows old.rows new.rows → KeepsGraph old.graph new.graph → IsInStep new.graph
     → ((p : Point) → Holds new.graph.heap p → Holds old.rows p) → new.round ≡ old.round → new.roots ≡ old.roots → new.deaths ≡ old.deaths
-    → KeepsLists old new → SameLinks old.experts new.experts → IsKept arena new
-kept_same arena old new kept rows same step heap round roots deaths lists links = kept_with arena old new kept (λ p. ap is_some (rows p)) same step heap
+    → KeepsLists old new → SameLinks old.experts new.experts → vec_capacity old.ran ≤ vec_capacity new.ran → IsKept arena new
+kept_same arena old new kept rows same step heap round roots deaths lists links more = kept_with arena old new kept (λ p. ap is_some (rows p)) same step heap
     (λ n r k v live is o. kept.outcomes n r k v live (sym (rows (main n)) ∙ is) o)
     (λ n. rows (change n)) roots deaths
     (λ n r k c live is l. kept.calls n r k c live (sym (rows (main n)) ∙ is) l)
     (λ p k is. subst (λ (m : ℕ). k.settled ≤ m) (sym round) (kept.rounds p k (sym (rows p) ∙ is)))
     lists (λ n. ap kept_in (rows (main n))) (λ n k is flag. kept.frozen n k (sym (rows (main n)) ∙ is) flag) links
-    (λ n r k live is. kept.rooms.calls n r k live (sym (rows (main n)) ∙ is))
+    (λ n r k live is. kept.rooms.calls n r k live (sym (rows (main n)) ∙ is)) more
 
 -- ---- a point leaves the heap, and comes back
 
@@ -120,7 +121,7 @@ module _ (arena : Arena) (old : Work) (g : NecessaryPart) (rest : g ≡ record o
   heap_kept : IsKept arena old → IsInStep (record old.graph { heap = g.heap }) → ((p : Point) → Holds g.heap p → Holds old.rows p)
       → IsKept arena (record old { graph = g })
   heap_kept kept step heap = kept_same arena old (record old { graph = g }) kept (λ p. refl) heap_graph (subst IsInStep (sym rest) step) heap refl refl refl
-      (record { pairs = refl; scoped = refl }) (linked_alike old.experts)
+      (record { pairs = refl; scoped = refl }) (linked_alike old.experts) (omega arith)
 
   pub taken_kept : (p : Point) → IsKept arena old → Changes old.graph.heap g.heap p None → IsKept arena (record old { graph = g })
   taken_kept p kept c = heap_kept kept (taken_in_step old.graph kept.step g.heap p c)
@@ -155,7 +156,8 @@ module _ (arena : Arena) (old new : Work) (n : NodeId) (o : Outcome) (last : Opt
     (kept : IsKept arena old) (w : IsSettled old new n o last made) (step : IsInStep new.graph) (lists : KeepsLists old new)
     (links : SameLinks old.experts new.experts) (rests : w.row.frozen ≡ true → last ≡ w.row.last)
     (typed : (r : Row) (v : Value) → row_at arena n ≡ Some r → o ≡ Val v → IsOfType arena v r.ty)
-    (answer_typed : (r : Row) (c : Call) → row_at arena n ≡ Some r → last ≡ Some c → CallFits arena r.def r.ty c) where
+    (answer_typed : (r : Row) (c : Call) → row_at arena n ≡ Some r → last ≡ Some c → CallFits arena r.def r.ty c)
+    (more : vec_capacity old.ran ≤ vec_capacity new.ran) where
   abbrev fresh : Progress
   fresh = record { stage = w.row.stage; settled = old.round; outcome = Some o; last = last; cutoff = w.row.cutoff; frozen = w.row.frozen; room = w.row.room }
 
@@ -232,3 +234,4 @@ module _ (arena : Arena) (old new : Work) (n : NodeId) (o : Outcome) (last : Opt
             (kept.rooms.calls n r w.row (subst (λ (x : NodeId). row_at arena x ≡ Some r) same live) w.was)
         | inr ne ↦ kept.rooms.calls m r k live (sym (w.others (main m) ne) ∙ is)
       ])
+      more

@@ -258,7 +258,7 @@ module _ (F : Functions) (arena : Arena) (old mid new : Work) (n : NodeId) (p : 
     stops = λ stopped p ne h. before_in p (told.stops (with_last c.last c.computed.kept, between, stopped) p h);
     roots = round.roots ∙ rest.roots;
     deaths = round.deaths ∙ rest.deaths;
-    ran = round.ran ∙ c.ran;
+    ran = ap (λ (l : Vec NodeId Global). l.items) round.ran ∙ c.ran;
     todo = rw todo rest.todo;
     retries = round.retries ∙ rest.retries;
     round = round.round ∙ round_is;
@@ -286,13 +286,14 @@ module _ (F : Functions) (arena : Arena) (old mid new : Work) (n : NodeId) (p : 
     rest = more;
   }
 
-  pub main_kept : IsInStep new.graph → new ≡ record mid { graph = new.graph; rows = new.rows } → IsKept arena new
+  pub main_kept : vec_capacity old.ran ≤ vec_capacity new.ran → IsInStep new.graph → new ≡ record mid { graph = new.graph; rows = new.rows }
+      → IsKept arena new
   unfolding is_settled
-  main_kept step only = settled_kept arena old new n o c.last (calls_of c.called (cost_at (graph_at arena old) n)) kept is_settled step
+  main_kept room step only = settled_kept arena old new n o c.last (calls_of c.called (cost_at (graph_at arena old) n)) kept is_settled step
       (record { pairs = ap (λ (w : Work). w.pairs) only ∙ rest.lists.pairs; scoped = ap (λ (w : Work). w.scoped) only ∙ rest.lists.scoped })
       marks_now.links
       (frozen_rests F arena old kept (is_stale_at old.experts) n c.computed.row c.computed.kept c.last c.called c.computed.is_row c.computed.is_kept
-      c.computed.calls) c.typed c.answer_typed
+      c.computed.calls) c.typed c.answer_typed room
 
 -- so it is where only those are others
 pub only_noted : (work : Work) (places : Rows Progress) (experts : List ExpertPlace) (ran : Vec NodeId Global)
@@ -308,22 +309,23 @@ one_tally a b x y same = record { builds = ap (λ (t : Tally). min t.builds last
 -- ---- what stays where a main is left
 
 pub left_kept : (arena : Arena) (old new : Work) → IsKept arena old → KeepsRows old.rows new.rows → new.graph ≡ old.graph → new.round ≡ old.round
-    → new.roots ≡ old.roots → new.deaths ≡ old.deaths → KeepsLists old new → SameLinks old.experts new.experts → IsKept arena new
-left_kept arena old new kept rows graph round roots deaths lists links = kept_same arena old new kept rows
+    → new.roots ≡ old.roots → new.deaths ≡ old.deaths → KeepsLists old new → SameLinks old.experts new.experts → vec_capacity old.ran ≤ vec_capacity new.ran
+    → IsKept arena new
+left_kept arena old new kept rows graph round roots deaths lists links more = kept_same arena old new kept rows
     (record {
       links = ap (λ (g : NecessaryPart). g.links) graph;
       roots = ap (λ (g : NecessaryPart). g.roots) graph;
       heights = ap (λ (g : NecessaryPart). g.heights) graph;
     })
     (subst IsInStep (sym graph) kept.step)
-    (λ p h. kept.heap p (subst (λ (g : NecessaryPart). Holds g.heap p) graph h)) round roots deaths lists links
+    (λ p h. kept.heap p (subst (λ (g : NecessaryPart). Holds g.heap p) graph h)) round roots deaths lists links more
 
 pub uncomputed_kept : (arena : Arena) (old mid : Work) (n : NodeId) (before after : ℕ) → IsKept arena old → KeepsRest old mid
     → SameExperts old.experts mid.experts
     → NotComputed (graph_at arena old) (is_stale_at old.experts) old.round (noted old.rows old.ran.items before) (noted mid.rows mid.ran.items after) n
-    → IsKept arena mid
-uncomputed_kept arena old mid n before after kept rest same c =
-    left_kept arena old mid kept c.rows rest.graph rest.round rest.roots rest.deaths rest.lists same.links
+    → vec_capacity old.ran ≤ vec_capacity mid.ran → IsKept arena mid
+uncomputed_kept arena old mid n before after kept rest same c more =
+    left_kept arena old mid kept c.rows rest.graph rest.round rest.roots rest.deaths rest.lists same.links more
 
 -- the main is left as it was
 pub main_left : (arena : Arena) (old mid : Work) (n : NodeId) (before after : Counts) → KeepsRest old mid

@@ -30,7 +30,7 @@ module _ {K More : Type 0} (keeper : Ghosts K More) (fs : K) where
   pub taken_may : (old : Parts) (g : NecessaryPart) (p : Point) → MayStep keeper fs old → g ≡ record old.work.graph { heap = g.heap }
       → Changes old.work.graph.heap g.heap p None → MayStep keeper fs (record old { work = record old.work { graph = g } })
   taken_may old g p may rest removed = record {
-    kept = record { work = taken_kept old.arena old.work g rest p may.kept.work removed; scopes = may.kept.scopes; dying = may.kept.dying; clock = may.kept.clock };
+    kept = record { work = taken_kept old.arena old.work g rest p may.kept.work removed; scopes = may.kept.scopes; dying = may.kept.dying; clock = may.kept.clock; listing = may.kept.listing };
     quiet = may.quiet;
     sound = may.sound;
     fit = may.fit;

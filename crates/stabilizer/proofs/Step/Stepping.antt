@@ -1,5 +1,5 @@
 -- A step of the stabilizer is a step of the machine.
-use Rattle.std.proofs.Common.{◌≡◌, ◌≢◌, ◌⊎◌, inl, inr, ℕ, ◌<◌, ◌≤◌, true, false, List, [], Option, None, Some, refl, sym, ap, subst, ◌∙◌, arith}
+use Rattle.std.proofs.Common.{◌≡◌, ◌≢◌, ◌⊎◌, inl, inr, ℕ, ◌<◌, ◌≤◌, true, false, List, Option, None, Some, refl, sym, ap, subst, ◌∙◌, arith}
 use Rattle.std.specs.Prelude.{is_some, reverse}
 use Rattle.inc_value.specs.declared.node.NodeId.{NodeId}
 use Rattle.inc_value.specs.declared.node.Point.{Point}
@@ -110,9 +110,6 @@ module _ (s : State) (arena : Arena) (old : Work) (counts : Counts) (kept : IsKe
         let there : Holds old.graph.heap q = sym (st.heap q) ∙ h in
         let l = above q (at old.graph.heap q) refl there in let a = level_is p was in let b = level_is q there in omega (arith, l, a, b);
   }
-
-none_among : (p : Point) (xs : List Point) → xs ≡ [] → Among p xs → ⊥
-none_among p xs e a = subst (λ (ys : List Point). Among p ys) e a
 
 -- ---- a main is settled
 

@@ -1,8 +1,7 @@
 use Rattle.std.proofs.Common.{◌≡◌, inl, inr, false, Some, None, List, refl, subst, sym}
 use Rattle.inc_value.specs.declared.value.Value.{Value}
 use Rattle.inc_terms.specs.Depend.{main}
-use Rattle.point_map.specs.Lends.{IsWritten}
-use Rattle.point_map.specs.Rows.{at}
+use Rattle.point_map.specs.Rows.{at, Changes}
 use Rattle.node_outcomes.specs.Computing.{Calls, IsKnown, noted}
 use Rattle.node_outcomes.specs.Looking.{IsKnownOn}
 use Rattle.node_outcomes.specs.Meaning.{functions_of}
@@ -25,7 +24,7 @@ returns-in-Ok-Some-clause-computed g c =
     let same : c.unwrap-row.result.now ≡ k = let view = c.row.view_is in cc in
     let there : at rows (main c.args.node) ≡ Some k = cc (was, same) in
     let new = c.get_mut.follows.lender c.unwrap-row.result.now in
-    let written : IsWritten rows new (main c.args.node) k = subst (λ (x : Progress). IsWritten rows new (main c.args.node) x) same
+    let written : Changes rows new (main c.args.node) (Some k) = subst (λ (x : Progress). Changes rows new (main c.args.node) (Some x)) same
     (rw (c.unwrap-row.ensures, c.main.ensures) at (c.get_mut.follows.holds c.unwrap-row.result.now)) in
     let on : IsKnownOn c.args.forced k.last values (Some c.in-Ok-Some.outcome) = subst (λ x. IsKnownOn c.args.forced k.last values x) c.in-Ok-Some.field-0-is
     (subst (λ (vs : List Value). IsKnownOn c.args.forced k.last vs c.in-Ok-Some.field-0) c.as_slice.ensures c.in-Ok-Some.ensures.known) in
@@ -42,7 +41,7 @@ returns-in-Err-clause-computed g c =
     let same : c.unwrap-row.result.now ≡ k = let view = c.row.view_is in cc in
     let there : at rows (main c.args.node) ≡ Some k = cc (was, same) in
     let new = c.get_mut.follows.lender c.unwrap-row.result.now in
-    let written : IsWritten rows new (main c.args.node) k = subst (λ (x : Progress). IsWritten rows new (main c.args.node) x) same
+    let written : Changes rows new (main c.args.node) (Some k) = subst (λ (x : Progress). Changes rows new (main c.args.node) (Some x)) same
     (rw (c.unwrap-row.ensures, c.main.ensures) at (c.get_mut.follows.holds c.unwrap-row.result.now)) in
     record { rows = rows_stay rows new c.args.node k there written; ran = refl; count = inl refl }
 

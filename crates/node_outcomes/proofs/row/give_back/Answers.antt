@@ -1,6 +1,5 @@
 use Rattle.std.proofs.Common.{◌≡◌, Some, subst}
-use Rattle.point_map.specs.Lends.{IsWritten}
-use Rattle.point_map.specs.Rows.{at}
+use Rattle.point_map.specs.Rows.{at, Changes}
 use Rattle.node_outcomes.specs.LastCall.{Last}
 use Rattle.node_outcomes.specs.Row.{with_lent}
 use Rattle.node_outcomes.specs.contracts.row.Progress.{the_view}
@@ -21,11 +20,11 @@ returns c =
       frozen = c.row.inside.frozen;
     })) in
     let written = rw c.unwrap-row.ensures at (c.get_mut.follows.holds (the_view (record { stage = c.row.inside.stage; settled = c.row.inside.settled; outcome = c.row.inside.outcome; last = c.replace.new.dest; cutoff = c.row.inside.cutoff; frozen = c.row.inside.frozen }))) in
-    rewritten _ _ c.args.p (with_lent c.args.last) (the_view c.row.inside) there (subst (λ (l : Last). IsWritten c.args.rows.now new c.args.p (the_view (record {
+    rewritten _ _ c.args.p (with_lent c.args.last) (the_view c.row.inside) there (subst (λ (l : Last). Changes c.args.rows.now new c.args.p (Some (the_view (record {
       stage = c.row.inside.stage;
       settled = c.row.inside.settled;
       outcome = c.row.inside.outcome;
       last = l;
       cutoff = c.row.inside.cutoff;
       frozen = c.row.inside.frozen;
-    }))) c.replace.ensures.after written)
+    })))) c.replace.ensures.after written)

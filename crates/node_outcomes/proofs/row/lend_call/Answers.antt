@@ -1,6 +1,5 @@
 use Rattle.std.proofs.Common.{◌≡◌, ◌∙◌, Some, subst}
-use Rattle.point_map.specs.Lends.{IsWritten}
-use Rattle.point_map.specs.Rows.{at}
+use Rattle.point_map.specs.Rows.{at, Changes}
 use Rattle.node_outcomes.specs.LastCall.{Last}
 use Rattle.node_outcomes.specs.Row.{with_none}
 use Rattle.node_outcomes.specs.contracts.row.Progress.{the_view}
@@ -22,11 +21,11 @@ returns-clause-row c =
     })) in
     let written = rw c.unwrap-row.ensures at (c.get_mut.follows.holds (the_view (record { stage = c.row.inside.stage; settled = c.row.inside.settled; outcome = c.row.inside.outcome; last = c.replace.new.dest; cutoff = c.row.inside.cutoff; frozen = c.row.inside.frozen }))) in
     let none = c.replace.ensures.after ∙ c.none.ensures in
-    rewritten _ _ c.args.p with_none (the_view c.row.inside) there (subst (λ (l : Last). IsWritten c.args.rows.now new c.args.p (the_view (record {
+    rewritten _ _ c.args.p with_none (the_view c.row.inside) there (subst (λ (l : Last). Changes c.args.rows.now new c.args.p (Some (the_view (record {
       stage = c.row.inside.stage;
       settled = c.row.inside.settled;
       outcome = c.row.inside.outcome;
       last = l;
       cutoff = c.row.inside.cutoff;
       frozen = c.row.inside.frozen;
-    }))) none written)
+    })))) none written)

@@ -35,10 +35,11 @@ returns-in-Err g c =
       rest = refl;
       kept = record {
         work = uncomputed_kept c.args.parts.now.arena old mid c.args.node (K.calls c.args.functions.now) (K.calls c.compute-computed.new.functions)
-            c.requires.may.kept.work noted c.in-Err.ensures.experts c.in-Err.ensures.computed;
+            c.requires.may.kept.work noted c.in-Err.ensures.experts c.in-Err.ensures.computed c.compute-computed.ensures.room;
         scopes = c.requires.may.kept.scopes;
         dying = c.requires.may.kept.dying;
         clock = c.requires.may.kept.clock;
+        listing = c.requires.may.kept.listing;
       };
       functions = meaning_kept K c.args.functions.now c.compute-computed.new.functions c.compute-computed.ensures.functions;
       wants = elim c.in-Err.ensures.wants [ inl same ↦ inl same.0 | inr rose ↦ inr (refl, rose) ];
@@ -58,20 +59,23 @@ returns-in-Ok g c =
     let computed = c.in-Ok.ensures.computed in
     let tally = one_tally _ _ _ _ c.compute-computed.ensures.functions.tally in
     let s = c.settle.ensures in
+    let room = subst (λ (v : Vec NodeId Global). vec_capacity old.ran ≤ vec_capacity v) (sym (ap (λ (w : Work). w.ran) s.rest)) c.compute-computed.ensures.room in
     record {
       settled = main_settled (functions_of K c.args.functions.now) c.args.parts.now.arena old mid c.settle.new.self c.args.node c.main.result c.main.ensures
           c.in-Ok.outcome before after c.requires.may.kept.work c.requires.taken noted marks computed tally s.row s.graph s.told s.round s.todo
-          (subst (λ (v : Vec NodeId Global). vec_capacity old.ran ≤ vec_capacity v) (sym (ap (λ (w : Work). w.ran) s.rest)) c.compute-computed.ensures.room);
+          room;
       refused = tt;
       memory = tt;
       lacks = tt;
       rest = refl;
       kept = record {
         work = main_kept (functions_of K c.args.functions.now) c.args.parts.now.arena old mid c.settle.new.self c.args.node c.main.result c.main.ensures
-            c.in-Ok.outcome before after c.requires.may.kept.work c.requires.taken noted marks computed tally s.row s.graph s.told s.round s.todo s.step s.rest;
+            c.in-Ok.outcome before after c.requires.may.kept.work c.requires.taken noted marks computed tally s.row s.graph s.told s.round s.todo room s.step
+            s.rest;
         scopes = c.requires.may.kept.scopes;
         dying = c.requires.may.kept.dying;
         clock = c.requires.may.kept.clock;
+        listing = c.requires.may.kept.listing;
       };
       functions = meaning_kept K c.args.functions.now c.compute-computed.new.functions c.compute-computed.ensures.functions;
       wants = c.in-Ok.ensures.wants;

@@ -32,14 +32,17 @@ adopt_since-requires g c = record { ready = can_adopt (made g (goal.at.adopt_sin
 pub returns-in-Ok-adopt_since-clause-built : goal.returns-in-Ok-adopt_since-clause-built
 returns-in-Ok-adopt_since-clause-built g c =
     all_built (made g (goal.at.returns-in-Ok-adopt_since-clause-built g c).After-build-built) c.adopt_since.new.self c.in-Ok-adopt_since.ensures.all
+    c.in-Ok-adopt_since.ensures.called c.in-Ok-adopt_since.ensures.listed
 
 pub returns-in-Ok-adopt_since-clause-gives : goal.returns-in-Ok-adopt_since-clause-gives
 returns-in-Ok-adopt_since-clause-gives g c =
     all_gives (made g (goal.at.returns-in-Ok-adopt_since-clause-gives g c).After-build-built) c.adopt_since.new.self c.in-Ok-adopt_since.ensures.all
+    c.in-Ok-adopt_since.ensures.called c.in-Ok-adopt_since.ensures.listed
 
 pub returns-in-Ok-adopt_since-clause-spends : goal.returns-in-Ok-adopt_since-clause-spends
 returns-in-Ok-adopt_since-clause-spends g c =
     all_spends (made g (goal.at.returns-in-Ok-adopt_since-clause-spends g c).After-build-built) c.adopt_since.new.self c.in-Ok-adopt_since.ensures.all
+    c.in-Ok-adopt_since.ensures.called c.in-Ok-adopt_since.ensures.listed
 
 -- ---- there was no memory for the points of one
 

@@ -36,8 +36,8 @@ returns c =
     let d = c.drop_node-2.ensures in
     let right_sides = rights c in
     let kept = dropped_parts (old c) (new c) c.args.id c.requires.kept c.requires.unneeded c.requires.unscoped a.dropped a.given d.rows d.dropped
-    (rights c) d.stays.links d.stays.roots d.heap d.stays.step a.sound d.expert (rest c) refl refl (clock c) in
+    (rights c) d.stays.links d.stays.roots d.heap d.stays.step a.sound d.expert (rest c) refl refl (clock c) refl in
     let ready = dropped_ready (old c) (new c) c.args.id c.requires.kept c.requires.unneeded c.requires.unscoped a.dropped a.given d.rows d.dropped
-    (rights c) d.stays.links d.stays.roots d.heap d.stays.step a.sound d.expert (rest c) refl refl (clock c) in
+    (rights c) d.stays.links d.stays.roots d.heap d.stays.step a.sound d.expert (rest c) refl refl (clock c) refl in
     let experts = d.expert.others in
     assumption (right_sides, experts, kept, ready, a, d)

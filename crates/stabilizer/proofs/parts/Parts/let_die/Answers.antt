@@ -22,24 +22,26 @@ forget_built-requires c = record {
   row = ap (λ (w : Work). is_some (at w.rows (change c.args.bind))) c.list_dying.ensures.listed.rest ∙ c.requires.row;
 }
 
-pub forget_dying-requires : goal.forget_dying-requires
-forget_dying-requires c =
+pub forget_dead-requires : goal.forget_dead-requires
+forget_dead-requires c =
     let list = c.list_dying.ensures in
     let forgot = c.forget_built.ensures in record {
-      forget = dying_may c.args.self.now c.list_dying.new.self c.forget_built.new.self c.args.bind c.requires.kept c.requires.dying list.listed list.rest
-          forgot.root forgot.row forgot.rest;
+      forget = dying_may c.args.self.now c.list_dying.new.self c.forget_built.new.self c.args.bind c.requires.kept c.requires.dying list.listed list.behind
+          list.rest forgot.root forgot.row forgot.rest _ c.len-before.ensures.len;
     }
 
 pub returns-clause-died : goal.returns-clause-died
 returns-clause-died c =
+    let list = c.list_dying.ensures in
     let forgot = c.forget_built.ensures in
-    died_all c.args.self.now c.list_dying.new.self c.forget_built.new.self c.args.bind c.requires.kept c.requires.dying c.list_dying.ensures.listed
-    c.list_dying.ensures.rest forgot.root forgot.row forgot.rest c.forget_dying.new.self c.forget_dying.ensures.forgotten c.forget_dying.ensures.rest
+    died_all c.args.self.now c.list_dying.new.self c.forget_built.new.self c.args.bind c.requires.kept c.requires.dying list.listed list.behind list.rest
+    forgot.root forgot.row forgot.rest _ c.len-before.ensures.len c.forget_dead.new.self c.forget_dead.ensures.forgotten c.forget_dead.ensures.rest
 
 pub returns-clause-kept : goal.returns-clause-kept
 returns-clause-kept c =
+    let list = c.list_dying.ensures in
     let forgot = c.forget_built.ensures in
-    kept_all c.args.self.now c.list_dying.new.self c.forget_built.new.self c.args.bind c.requires.kept c.requires.dying c.list_dying.ensures.listed
-    c.list_dying.ensures.rest forgot.root forgot.row forgot.rest c.forget_dying.new.self c.forget_dying.ensures.forgotten c.forget_dying.ensures.rest
-    c.requires.gates c.requires.scopes c.forget_dying.ensures.step c.forget_dying.ensures.none
-    (c.forget_dying.ensures.clock (subst (λ (p : Parts). KeepsClock p.arena p.timed) (sym c.list_dying.ensures.rest) c.requires.clock))
+    kept_all c.args.self.now c.list_dying.new.self c.forget_built.new.self c.args.bind c.requires.kept c.requires.dying list.listed list.behind list.rest
+    forgot.root forgot.row forgot.rest _ c.len-before.ensures.len c.forget_dead.new.self c.forget_dead.ensures.forgotten c.forget_dead.ensures.rest
+    c.requires.gates c.requires.scopes c.forget_dead.ensures.step list.none
+    (c.forget_dead.ensures.clock (subst (λ (p : Parts). KeepsClock p.arena p.timed) (sym list.rest) c.requires.clock)) c.requires.listing

@@ -18,7 +18,8 @@ parts c = record {
 
 kept : (c : goal.After-new-6) → PartsKept (parts c)
 kept c = let w = c.new-4.ensures in let t = c.new-2.ensures in record {
-  work = empty_kept c.new.result c.new-4.result c.new.ensures.sound w.step c.new.ensures.empty w.rows w.heights w.links w.heap w.right_sides w.experts w.died;
+  work = empty_kept c.new.result c.new-4.result c.new.ensures.sound w.step c.new.ensures.empty w.rows w.heights w.links w.heap w.right_sides w.experts w.died
+      c.new.ensures.live;
   scopes = empty_scopes c.new.result c.new-3.result c.new.ensures.empty c.new-3.ensures.standing c.new-3.ensures.killed;
   dying = c.new-5.ensures.items;
   clock = record {
@@ -28,9 +29,10 @@ kept c = let w = c.new-4.ensures in let t = c.new-2.ensures in record {
     alone = λ n def is. absurd (none-some def (sym (t.none n) ∙ is));
     stale = t.stale;
   };
+  listing = let none = c.new.ensures.live in omega (arith, none);
 }
 
 pub returns-clause-ready : goal.returns-clause-ready
 returns-clause-ready c M laws = let w = c.new-4.ensures in empty_ready M (parts c) (kept c) laws c.new.ensures.empty
     (empty_between c.new.result c.new-4.result c.new.ensures.sound w.step c.new.ensures.empty w.rows w.heights w.links w.heap w.right_sides w.experts w.died
-    w.ran w.retries w.round M.functions)
+    c.new.ensures.live w.ran w.retries w.round M.functions)

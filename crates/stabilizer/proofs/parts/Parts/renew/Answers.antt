@@ -1,6 +1,8 @@
-use Rattle.std.proofs.Common.{refl, sym, subst}
+use Rattle.std.proofs.Common.{refl, sym, ap, subst, arith, Vec, Global}
+use Rattle.std.specs.Prelude.{vec_capacity}
 use Rattle.std.proofs.lemmas.Result.{on_ok_weaker, IfErr-weaker}
-use Rattle.node_arena.specs.Arena.{Arena}
+use Rattle.inc_value.specs.declared.node.NodeId.{NodeId}
+use Rattle.node_arena.specs.Arena.{Arena, live}
 use Rattle.node_outcomes.specs.Meaning.{meaning_of}
 use Rattle.wiring.specs.declared.refused.Refused.TheVariants.{Memory}
 use Rattle.wiring.proofs.Raising.{if_refusal}
@@ -60,6 +62,14 @@ let_die-requires-clause-clock g c =
     let cut = c.cut_off.ensures.cut in
     subst (λ (t : Timed). KeepsClock c.cut_off.new.self.arena t) (sym cut.timed)
     (subst (λ (a : Arena). KeepsClock a c.args.self.now.timed) (sym cut.arena) c.requires.may.kept.clock)
+
+pub let_die-requires-clause-listing : goal.let_die-requires-clause-listing
+let_die-requires-clause-listing g c =
+    let cut = c.cut_off.ensures.cut in
+    let room = c.requires.may.kept.listing in
+    let few = ap (λ (a : Arena). live a) cut.arena in
+    let same = ap (λ (l : Vec NodeId Global). vec_capacity l) cut.ran in
+    omega (arith, room, few, same)
 
 died : (g : Over) (c : After-let_die g) → AreCut g.F.Functions c.args.functions.now c.args.self.now
     (roomy c.args.self.now c.make_room.new.deaths c.args.self.now.work.roots c.make_room.ensures.deaths (λ p. refl) c.make_room.new.dying

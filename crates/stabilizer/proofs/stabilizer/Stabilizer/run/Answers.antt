@@ -1,9 +1,11 @@
-use Rattle.std.proofs.Common.{inl, inr, refl, arith, ◌≡◌, ◌+◌, ◌<◌, ℕ, List, Option, Some, sym, ap, subst, ◌∙◌, Vec, Global}
+use Rattle.std.proofs.Common.{inl, inr, refl, arith, ◌≡◌, ◌+◌, ◌<◌, ◌≤◌, ℕ, List, Option, Some, sym, ap, subst, ◌∙◌, Vec, Global}
 use Rattle.std.specs.Option.{SomeIff}
+use Rattle.std.specs.Prelude.{vec_capacity}
 use Rattle.inc_value.specs.declared.node.NodeId.{NodeId}
 use Rattle.inc_value.specs.declared.node.Point.{Point}
 use Rattle.inc_value.specs.declared.outcome.Outcome.{Outcome}
 use Rattle.necessity.specs.Need.{KeepsRoots, Roots}
+use Rattle.node_arena.specs.Arena.{live}
 use Rattle.node_outcomes.specs.Meaning.{meaning_of}
 use Rattle.wiring.specs.declared.refused.Refused.TheVariants.{Memory}
 use Rattle.stabilizer.specs.Ended.{RoundEnds, RoundLeaves, RoundStops}
@@ -40,7 +42,13 @@ put_roots-requires-clause-quiet g c = c.in_ok-wire.ensures.empty
 
 pub settle_and_tell-requires-clause-may : goal.settle_and_tell-requires-clause-may
 settle_and_tell-requires-clause-may g c = record {
-  kept = record { work = c.put_roots.ensures.kept; scopes = c.requires.ready.kept.scopes; dying = c.requires.ready.kept.dying; clock = c.requires.ready.kept.clock };
+  kept = record {
+    work = c.put_roots.ensures.kept;
+    scopes = c.requires.ready.kept.scopes;
+    dying = c.requires.ready.kept.dying;
+    clock = c.requires.ready.kept.clock;
+    listing = c.requires.ready.kept.listing;
+  };
   quiet = c.in_ok-put_roots.ensures.quiet;
   sound = c.requires.sound;
   fit = c.requires.fit;
@@ -289,6 +297,20 @@ module _ (g : Over) (c : After-end_round g) where
         todo = e.todo ∙ beside (λ (p : Parts). p.work.todo);
       }
 
+  -- there is room in both lists: they were swapped
+  called : live settled.arena ≤ vec_capacity c.end_round.new.self.ran
+  called =
+      let room = c.settle_and_tell.ensures.stays.kept.listing in
+      let same : vec_capacity c.end_round.new.self.ran ≡ vec_capacity settled.ran
+      = c.end_round.ensures.room ∙ (beside (λ (p : Parts). vec_capacity p.work.ran) ∙ ap (λ (l : Vec NodeId Global). vec_capacity l) c.swap.ensures.y_after) in
+      omega (arith, room, same)
+
+  listed : live settled.arena ≤ vec_capacity c.swap.new.x
+  listed =
+      let room = c.settle_and_tell.ensures.stays.kept.work.rooms.ran in
+      let same : vec_capacity c.swap.new.x ≡ vec_capacity settled.work.ran = ap (λ (l : Vec NodeId Global). vec_capacity l) c.swap.ensures.x_after in
+      omega (arith, room, same)
+
   abbrev last : Parts
   last = record settled { work = c.end_round.new.self; ran = c.swap.new.x }
 
@@ -313,7 +335,7 @@ returns g c =
       ended = subst (λ (x : Parts). RoundEnds K fs fs' old x c.args.roots.now) (sym (is_last g c))
           (round_ends K fs fs' old wired rooted c.requires.ready c.in_ok-wire.ensures.wired p.wired (settled g c) s.settled s.stays s.quiet s.empty
           c.args.roots.now more (last g c) (frozen g c).work.graph (ended g c) c.requires.begins s.gives (ap (λ v. v.items) c.swap.ensures.x_after)
-          (next_round g c));
+          (next_round g c) (called g c) (listed g c));
       refused = tt;
       leaves = subst (λ (x : Parts). RoundLeaves K fs fs' old x) (sym (is_last g c))
           (round_leaves K fs fs' old wired rooted c.requires.ready c.in_ok-wire.ensures.wired p.wired (settled g c) s.settled s.stays s.quiet s.empty

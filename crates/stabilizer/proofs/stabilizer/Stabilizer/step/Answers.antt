@@ -225,7 +225,7 @@ returns-in-Ok-clause-stays g c =
       roots = same_roots c.args.parts.now.work.graph c.pop_least.new.self c.step_main.new.parts.work.graph c.pop_least.ensures.rest
           c.in-Ok.ensures.settled.settled.graph.roots;
       round = c.in-Ok.ensures.settled.settled.round;
-      ran = ap (λ (x : Parts). x.ran) m.rest;
+      ran = ap (λ (x : Parts). x.ran.items) m.rest;
     }
 
 pub returns-in-Err-clause-stays : goal.returns-in-Err-clause-stays
@@ -241,6 +241,7 @@ returns-in-Err-clause-stays g c =
         scopes = m.kept.scopes;
         dying = m.kept.dying;
         clock = m.kept.clock;
+        listing = m.kept.listing;
       };
       fit = main_fits g (goal.at.returns-in-Err-clause-stays g c).After-step_main;
       functions = m.functions;
@@ -248,7 +249,7 @@ returns-in-Err-clause-stays g c =
       roots = same_roots c.args.parts.now.work.graph c.pop_least.new.self c.insert.new.self c.pop_least.ensures.rest
           (ap (λ (x : NecessaryPart). x.roots) c.insert.ensures.rest ∙ ap (λ (x : NecessaryPart). x.roots) c.in-Err.ensures.refused.graph);
       round = c.in-Err.ensures.refused.round;
-      ran = ap (λ (x : Parts). x.ran) m.rest;
+      ran = ap (λ (x : Parts). x.ran.items) m.rest;
     }
 
 pub returns-in-Err-clause-lacks : goal.returns-in-Err-clause-lacks
