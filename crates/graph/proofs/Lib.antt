@@ -12,6 +12,7 @@ pub mod Unobserving
 pub mod TakingBack
 pub mod Cutting
 pub mod Dead
+mod Anew
 mod Certain
 pub mod Owning
 pub mod Fitting

@@ -134,7 +134,7 @@ module _ {F : Type 0} (functions : F) (old new : Parts) (observers : ObserversVi
 
     -- where arena, rows, right sides and calls stay
     module _ (arena : new.arena ≡ old.arena) (rows : new.work.rows ≡ old.work.rows) (right_sides : new.work.roots ≡ old.work.roots)
-        (ran : new.ran ≡ old.ran) where
+        (ran : new.ran.items ≡ old.ran.items) where
       built_same : (n : NodeId) → (graph_in new).built n ≡ (graph_in old).built n
       built_same n = built_still old new n (ap (λ (a : Arena). row_at a n) arena) (ap (λ (m : Rows Progress). outcome_in (at m (change n))) rows)
           (ap (λ (m : Rows NodeId). at m (change n)) right_sides)
@@ -145,7 +145,7 @@ module _ {F : Type 0} (functions : F) (old new : Parts) (observers : ObserversVi
       relists kids is mark links roots = record {
         listed = list_of kids is;
         others = other_lists;
-        top = record { functions = refl; rooted = refl; since = refl; refused = refl; ran = ap (λ v. v.items) ran; notices = refl };
+        top = record { functions = refl; rooted = refl; since = refl; refused = refl; ran = ran; notices = refl };
         nodes = arena;
         observers = refl;
         shown = λ n. ap (λ (m : Rows Progress). seen m (main n)) rows;
@@ -166,7 +166,7 @@ module _ {F : Type 0} (functions : F) (old new : Parts) (observers : ObserversVi
         marked = ap (λ (x : Option Expert). (expert_in x).stale) changes.changed ∙ mark;
         others = λ n other. ap (λ (x : Option Expert). (expert_in x).stale) (changes.others n other);
         lists = same_lists kids;
-        top = record { functions = refl; rooted = refl; since = refl; refused = refl; ran = ap (λ v. v.items) ran; notices = refl };
+        top = record { functions = refl; rooted = refl; since = refl; refused = refl; ran = ran; notices = refl };
         nodes = arena;
         observers = refl;
         need = record { links = links; roots = roots };
@@ -255,7 +255,7 @@ module _ {F : Type 0} (functions : F) (old new : Parts) (observers : ObserversVi
   gains_link g = (
     relists functions old new observers rooted since refused expert (with_link kid (expert_of old.work.experts expert)) g.experts
         (ap (λ (p : Parts). p.arena) g.rest) (ap (λ (p : Parts). p.work.rows) g.rest) (ap (λ (p : Parts). p.work.roots) g.rest)
-        (ap (λ (p : Parts). p.ran) g.rest) (kids_at old.work.experts expert ++ kid ∷ []) (linked_kids kid (expert_of old.work.experts expert)) refl
+        (ap (λ (p : Parts). p.ran.items) g.rest) (kids_at old.work.experts expert ++ kid ∷ []) (linked_kids kid (expert_of old.work.experts expert)) refl
         (λ p q. (let l = marked_links old.work.graph new.work.graph (main expert) g.marked p q in omega (arith, l)))
         (marked_roots old.work.graph new.work.graph (main expert) g.marked),
     record {
@@ -267,19 +267,19 @@ module _ {F : Type 0} (functions : F) (old new : Parts) (observers : ObserversVi
   pub loses_link : LosesLink old new expert kid → Relists s t expert (without_first kid (listed_by s expert))
   loses_link g = relists functions old new observers rooted since refused expert (without_link kid g.taken (expert_of old.work.experts expert)) g.experts
       (ap (λ (p : Parts). p.arena) g.rest) (ap (λ (p : Parts). p.work.rows) g.rest) (ap (λ (p : Parts). p.work.roots) g.rest)
-      (ap (λ (p : Parts). p.ran) g.rest) (without_first kid (kids_at old.work.experts expert))
+      (ap (λ (p : Parts). p.ran.items) g.rest) (without_first kid (kids_at old.work.experts expert))
       (unlinked_kids kid g.taken (expert_of old.work.experts expert) g.was_taken.0 g.was_taken.1)
       (unlinked_mark kid g.taken (expert_of old.work.experts expert)) (unlinked_links old new expert kid g) (unlinked_roots old new expert kid g)
 
   pub is_made_stale : IsMadeStale old new expert → MakesStale s t expert
   is_made_stale g = makes_stale functions old new observers rooted since refused expert (marked_so true (expert_of old.work.experts expert)) g.experts
       (ap (λ (p : Parts). p.arena) g.rest) (ap (λ (p : Parts). p.work.rows) g.rest) (ap (λ (p : Parts). p.work.roots) g.rest)
-      (ap (λ (p : Parts). p.ran) g.rest) refl refl (marked_links old.work.graph new.work.graph (main expert) g.marked)
+      (ap (λ (p : Parts). p.ran.items) g.rest) refl refl (marked_links old.work.graph new.work.graph (main expert) g.marked)
       (marked_roots old.work.graph new.work.graph (main expert) g.marked)
 
   pub gains_nothing : GainsNothing old new → KeepsAll s t
   gains_nothing g = record {
-    beside = beside_as functions old new observers rooted since refused (Given old.arena.given) (ap (λ (p : Parts). p.ran) g.rest)
+    beside = beside_as functions old new observers rooted since refused (Given old.arena.given) (ap (λ (p : Parts). p.ran.items) g.rest)
         (ap (λ (p : Parts). p.work.graph.links) g.rest) (ap (λ (p : Parts). p.work.graph.roots) g.rest)
         (λ p given. ap (λ (q : Parts). at q.work.rows p) g.rest) (λ n given. ap (λ (q : Parts). (graph_in q).built n) g.rest)
         (λ n given. g.experts n) (λ n. inl (ap (λ (q : Parts). cutoff_in (at q.work.rows (main n))) g.rest));

@@ -70,7 +70,7 @@ module _ {F : Type 0} (functions : F) (old new : Parts) (observers : ObserversVi
   moves : (to : ℤ) → StaysButHeap old new → IsMovedTo old.arena new.arena to
       → MovesTo (seen_as functions old observers rooted since refused) (seen_as functions new observers rooted since refused) to
   moves to stays moved = record {
-    beside = beside_as functions old new observers rooted since refused (Given old.arena.given) stays.ran stays.links stays.roots
+    beside = beside_as functions old new observers rooted since refused (Given old.arena.given) (ap (λ v. v.items) stays.ran) stays.links stays.roots
         (λ p given. ap (λ (m : Rows Progress). at m p) stays.rows)
         (λ n given. built_still old new n (moved.rows n) (ap (λ (m : Rows Progress). outcome_in (at m (change n))) stays.rows)
         (ap (λ (roots : Rows NodeId). at roots (change n)) stays.right_sides))

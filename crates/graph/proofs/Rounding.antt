@@ -7,21 +7,30 @@ use Rattle.inc_terms.specs.Depend.{main}
 use Rattle.inc_terms.specs.Graph.{Row}
 use Rattle.inc_terms.specs.Term.{Functions}
 use Rattle.inc_terms.specs.Within.{Given}
+use Rattle.inc_terms.proofs.Within.{functions_within}
 use Rattle.node_arena.specs.Arena.{row_at}
+use Rattle.node_arena.proofs.Graph.{names_are_given}
+use Rattle.node_outcomes.specs.Meaning.{Meaning}
+use Rattle.stabilize_round.specs.Invariant.{ScopesRooted}
 use Rattle.stabilize_round.specs.Laws.{GraphStays}
+use Rattle.stabilize_round.specs.Runs.{BuildsFew}
 use Rattle.stabilizer.specs.Kept.{graph_in}
-use Rattle.stabilizer.specs.Left.{BuildsRightIn, IsUpToDateIn, HasCalledMetIn, IsLawfulIn, LeavesTried}
+use Rattle.stabilizer.specs.Left.{BuildsRightIn, IsUpToDateIn, HasCalledMetIn, IsLawfulIn, LeavesNodes, LeavesTried}
 use Rattle.stabilizer.specs.Look.{Look, look_between, look_refused, cutoff_at}
 use Rattle.stabilizer.specs.Round as round
 use Rattle.stabilizer.specs.declared.parts.Parts.{Parts}
+use Rattle.stabilizer.proofs.Step.Experts.{held_given}
+use Rattle.wiring.specs.Graph.{held_at}
+use Rattle.wiring.specs.Stands.{Counts}
 use Rattle.wiring.specs.declared.refused.Refused.{Refused}
 use Rattle.graph.specs.Fault.{kept_of}
-use Rattle.graph.specs.Stabilizes.{Stabilizes, IsRefusedFor, HasCalledMet}
+use Rattle.graph.specs.Stabilizes.{Stabilizes, BuildsAnew, IsRefusedFor, HasCalledMet}
 use Rattle.graph.specs.Standing.{look}
 use Rattle.observers.specs.Observers.{ObserversView, in_use, looked_at, notices_of, told_by}
 use Rattle.stabilizer.specs.Telling.{shows_of}
 use Rattle.graph.specs.declared.fault.Kept.{Kept}
 use Rattle.observers.specs.declared.observer.Observer.{Observer}
+use Rattle.graph.proofs.Anew.{anew}
 use Rattle.graph.proofs.Observing.{looked_among}
 use Rattle.graph.proofs.Seeing.{seen_as}
 use Rattle.graph.proofs.Telling.{looked_told}
@@ -71,7 +80,7 @@ module _ {F : Type 0} (M : Functions) (functions functions' : F) (old new : Part
         (in_use observers.made) calls after) h
 
     pub refused_in : (cause : Kept) → kept_of met ≡ cause → GraphStays old.arena.given new.arena.given (graph_in old) (round.left_by old new)
-        → new.ran ≡ old.ran → ((n : NodeId) → (graph_in new).frozen n ≡ (graph_in old).frozen n)
+        → new.ran.items ≡ old.ran.items → ((n : NodeId) → (graph_in new).frozen n ≡ (graph_in old).frozen n)
         → ((n : NodeId) → (look_refused new).settled (main n) ≡ false → (look_refused new).marked n ≡ (look_between old).marked n)
         → ((n : NodeId) (r : Row) → row_at new.arena n ≡ Some r → cutoff_at new.work n ≡ cutoff_at old.work n)
         → ((n : NodeId) → Given old.arena.given n → round.ShowsStill M old new n)
@@ -87,7 +96,7 @@ module _ {F : Type 0} (M : Functions) (functions functions' : F) (old new : Part
       frozen = frozen;
       marks = marks;
       notices = refl;
-      ran = ap (λ v. v.items) ran;
+      ran = ran;
       cutoff = cutoffs;
       shows = shows;
       met = met;
@@ -99,4 +108,27 @@ module _ {F : Type 0} (M : Functions) (functions functions' : F) (old new : Part
       builds = before_is (λ (b : Look). BuildsRightIn M (round.left_by old new) (round.died_by old new) b (in_use observers.made) builds.0) builds.1;
       build = builds.2;
       full = lawful.1;
+    }
+
+-- the binds that an accepted round built are met, and none is built for what it was
+pub builds_anew : {F : Type 0} (M : Meaning) (functions functions' : F) (old new : Parts) (observers : ObserversView) (rooted since : ℕ)
+    (refused : Option Refused) → refused ≡ None → (after : ObserversView) (all count : ℕ) → round.IsReady M old → ScopesRooted (graph_in old)
+    → GraphStays old.arena.given new.arena.given (graph_in old) (round.left_by old new) → (before then : Counts)
+    → LeavesNodes M.functions old.arena.given new.arena.given (graph_in old) (round.left_by old new) before then
+    → round.BuildsAll M.functions old new (in_use observers.made) → (x y : ℕ)
+    → BuildsFew M.functions old.arena.given (graph_in old) (round.left_by old new) None x y
+    → BuildsAnew M.functions (seen_as functions old observers rooted since refused) (seen_as functions' new after all count refused) x y
+builds_anew M functions functions' old new observers rooted since refused still after all count ready inside rest before then left builds x y few =
+    let names = (names_are_given old.arena (held_at old.arena old.work) M.known M.ids ready.kept.work.sound
+    (held_given old.arena old.work ready.kept.work) ready.fit).1 in
+    let are = before_is M.functions functions functions' old new observers rooted since refused still
+    (λ (b : Look). BuildsRightIn M.functions (round.left_by old new) (round.died_by old new) b (in_use observers.made) None) builds in
+    let by = anew M.functions M.known M.ids old.arena.given new.arena.given (graph_in old) (round.left_by old new)
+    (functions_within M.functions M.known M.ids (Given old.arena.given) ready.laws) names ready.kept.work.scopes inside rest before then left
+    (round.died_by old new) (look (seen_as functions old observers rooted since refused)) (in_use observers.made) refl refl are x y few in
+    record {
+      binds = few.binds;
+      once = few.once;
+      anew = λ b among. let h = by b among in record { was = few.built b among; met = h.0; rooted = h.1; other = h.2 };
+      count = few.count;
     }

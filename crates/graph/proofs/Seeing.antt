@@ -94,14 +94,14 @@ module _ (old new : Parts) (id : NodeId) (v : Value) (set : IsSet old.arena new.
 -- ---- what stays beside nodes
 
 module _ {F : Type 0} (functions : F) (old new : Parts) (observers : ObserversView) (rooted since : ℕ) (refused : Option Refused) where
-  pub beside_as : (Of : NodeId → Type 0) → new.ran ≡ old.ran → new.work.graph.links ≡ old.work.graph.links
+  pub beside_as : (Of : NodeId → Type 0) → new.ran.items ≡ old.ran.items → new.work.graph.links ≡ old.work.graph.links
       → new.work.graph.roots ≡ old.work.graph.roots → ((p : Point) → Of p.node → at new.work.rows p ≡ at old.work.rows p)
       → ((n : NodeId) → Of n → (graph_in new).built n ≡ (graph_in old).built n)
       → ((n : NodeId) → Of n → expert_at new.work.experts n ≡ expert_at old.work.experts n)
       → ((n : NodeId) → (cutoff_at new.work n ≡ cutoff_at old.work n) ⊎ (cutoff_at new.work n ≡ Equal))
       → KeepsBeside Of (seen_as functions old observers rooted since refused) (seen_as functions new observers rooted since refused)
   beside_as Of ran links roots rows built experts fewer = record {
-    top = record { functions = refl; rooted = refl; since = refl; refused = refl; ran = ap (λ v. v.items) ran; notices = refl };
+    top = record { functions = refl; rooted = refl; since = refl; refused = refl; ran = ran; notices = refl };
     observers = refl;
     need = record { links = λ p q. ap (λ (l : Links). times l p q) links; roots = λ p. ap (λ (r : Roots). root_times r p) roots };
     of_nodes = record {

@@ -64,9 +64,6 @@ module _ {F : Type 0} (M : Meaning) (functions : F) (old : Parts) (observers : O
   need_is : (p : Point) → Needed old.work.graph p → IsNeeded (seen_as functions old observers rooted since refused) p
   need_is p need = record { root = need.root; is_root = need.is_root; leads = need.leads }
 
-  need_of : (p : Point) → IsNeeded (seen_as functions old observers rooted since refused) p → Needed old.work.graph p
-  need_of p need = record { root = need.root; is_root = need.is_root; leads = need.leads }
-
   -- observers in use look at roots
   all_rooted : (n : NodeId) → Among n (in_use observers.made) → Needed old.work.graph (main n)
   all_rooted n among =
@@ -91,7 +88,6 @@ module _ {F : Type 0} (M : Meaning) (functions : F) (old : Parts) (observers : O
     observed = all_rooted;
     told = steady.told;
     few = λ n need. steady.few n (need_is (main n) need);
-    roomy = steady.roomy;
   }
 
 -- ---- a refusal

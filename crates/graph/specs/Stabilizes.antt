@@ -1,5 +1,6 @@
 -- What a stabilize does.
-use Rattle.std.specs.Prelude.{◌≡◌, ◌⊎◌, ℕ, false, length, Option, None, Some, Result, Ok, Err}
+use Rattle.std.specs.Prelude.{◌≡◌, ◌⊎◌, ℕ, false, List, length, Option, None, Some, IsSome, Result, Ok, Err}
+use Rattle.inc_value.specs.Choice.{Among, NoRepeats}
 use Rattle.inc_value.specs.Counts.{raised}
 use Rattle.inc_value.specs.declared.node.NodeId.{NodeId}
 use Rattle.inc_value.specs.declared.node.ObsId.{ObsId}
@@ -11,9 +12,11 @@ use Rattle.inc_terms.specs.Need.{left_by_call}
 use Rattle.inc_terms.specs.Term.{Functions}
 use Rattle.inc_terms.specs.Within.{Given}
 use Rattle.observers.specs.Observers.{in_use, node_at, notices_of, told_by}
+use Rattle.stabilize_round.specs.Counts.{RoseAtMost}
 use Rattle.stabilize_round.specs.Laws.{GraphStays}
+use Rattle.stabilize_round.specs.Runs.{WasBuilt}
 use Rattle.stabilizer.specs.Left as left
-use Rattle.stabilizer.specs.Left.{BuildsRightIn, IsUpToDateIn, IsLawfulIn, ShowsStillIn, HasCalledMetIn, RefusesBuild, LeavesTried}
+use Rattle.stabilizer.specs.Left.{BuildsRightIn, IsBuiltMetIn, IsUpToDateIn, IsLawfulIn, ShowsStillIn, HasCalledMetIn, RefusesBuild, LeavesTried}
 use Rattle.stabilizer.specs.Round.{IsFullBy}
 use Rattle.wiring.specs.Stands.{Counts}
 use Rattle.wiring.specs.declared.refused.Refused.{Refused}
@@ -56,6 +59,21 @@ module _ {F : Type 0} where
       pub shows : (o : ObsId) (n : NodeId) → node_at new.observers o ≡ Some n → (x : Outcome) × (shown_of new n ≡ Some x) × NodeGives M G n x
       pub right : IsUpToDateIn M G died after (look old) (look new) (in_use old.observers) new.ran
 
+    -- a bind was built anew: its left gave another outcome than it was built for; it lives, with a root for what its left gives, and its change is met. What
+    -- one that was given before is built for isn't what it was
+    pub record IsBuiltAnewIn (old : GraphView F) (b : NodeId) : Type 0 where
+      pub was : WasBuilt M old.nodes.given (graph old) G None b
+      pub met : IsBuiltMetIn M G died (look old) (in_use old.observers) b
+      pub rooted : IsSome met.right.built.root
+      pub other : Given old.nodes.given b → G.built b ≡ (graph old).built b → ⊥
+
+    -- a count rose by at most one for each of some binds, none twice, that were built anew
+    pub record BuildsAnewIn (old : GraphView F) (before after : ℕ) : Type 0 where
+      pub binds : List NodeId
+      pub once : NoRepeats binds
+      pub anew : (b : NodeId) → Among b binds → IsBuiltAnewIn old b
+      pub count : RoseAtMost before (length binds) after
+
     -- a refused stabilize: the graph is broken, with what was met, which is so in the graph, and was tried on what was confirmed; where it met that the
     -- nodes are full, a build in it found no room for a further node. Freezes keep what they kept, and none a value more; what wasn't settled is stale if it
     -- was. Observers stay, also what they show and what was told of them last, and cutoffs of nodes that live, and of nodes what a round leaves; what is shown
@@ -87,6 +105,9 @@ module _ {F : Type 0} where
   module _ (M : Functions) (old new : GraphView F) where
     abbrev pub Stabilizes : Type 0
     Stabilizes = StabilizesIn M (left_by old new) (died_by old new) (graph new) old new
+
+    abbrev pub BuildsAnew : ℕ → ℕ → Type 0
+    BuildsAnew before after = BuildsAnewIn M (left_by old new) (died_by old new) old before after
 
     abbrev pub IsRefusedFor : Kept → Type 0
     IsRefusedFor cause = IsRefusedIn M (left_by old new) (died_by old new) old new cause

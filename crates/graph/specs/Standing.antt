@@ -1,5 +1,5 @@
 -- What a contract sees of a graph.
-use Rattle.std.specs.Prelude.{◌≡◌, ◌⊎◌, ◌-◌, ℕ, Bool, List, take, Option, None, Some, vec_capacity}
+use Rattle.std.specs.Prelude.{◌≡◌, ◌⊎◌, ◌-◌, ℕ, Bool, List, take, Option, None, Some}
 use Rattle.inc_value.specs.declared.node.NodeId.{NodeId}
 use Rattle.inc_value.specs.declared.node.Point.{Point}
 use Rattle.inc_value.specs.declared.outcome.Outcome.{Outcome}
@@ -158,7 +158,3 @@ module _ {F : Type 0} where
   -- the mains of experts that are to be given links by it: of those to which a node was linked since the last one, while they had their links
   abbrev pub newly_linked : GraphView F → List Point
   newly_linked s = s.work.todo.items
-
-  -- how many nodes it may list without memory as those whose functions it called
-  abbrev pub room_to_list : GraphView F → ℕ
-  room_to_list s = vec_capacity s.work.ran

@@ -10,12 +10,12 @@ use Rattle.inc_terms.specs.Depend.{main, change, subject_of}
 use Rattle.inc_terms.specs.Evaluate.{NodeGives}
 use Rattle.inc_terms.specs.Graph.{Row}
 use Rattle.inc_terms.specs.Term.{Functions}
-use Rattle.node_arena.specs.Arena.{live, row_at}
+use Rattle.node_arena.specs.Arena.{row_at}
 use Rattle.observers.specs.Observers.{IsToldNoText}
 use Rattle.observers.specs.declared.observer.Observer.{Observer}
 use Rattle.stabilize_round.specs.Counts.{last_count}
 use Rattle.stabilize_round.specs.State.{Call}
-use Rattle.graph.specs.Standing.{GraphView, IsNeeded, IsUnbroken, called_last, chosen_by, graph, listed_by, newly_linked, next_number, room_to_list, shown_of}
+use Rattle.graph.specs.Standing.{GraphView, IsNeeded, IsUnbroken, called_last, chosen_by, graph, listed_by, newly_linked, next_number, shown_of}
 use Rattle.graph.specs.declared.fault.Kept.TheVariants as kept
 use Rattle.graph.specs.declared.fault.StabilizeFault.{StabilizeFault}
 use Rattle.graph.specs.declared.fault.StabilizeFault.TheVariants as fault
@@ -35,8 +35,7 @@ module _ {F : Type 0} (M : Functions) (s : GraphView F) where
 
   -- a graph whose next stabilize takes no memory of its own: it isn't broken; the number of that stabilize isn't the last; since the last accepted one
   -- no observer and no node was made, and none linked to an expert; of what is needed no left, test or child of a join changes, nothing is a text by its
-  -- type, no function gave a text last, and no expert lists more than two nodes; no observer in use was told of a text last; and there is room to list all
-  -- live nodes as those whose functions were called
+  -- type, no function gave a text last, and no expert lists more than two nodes; and no observer in use was told of a text last
   pub record IsSteady : Type 0 where
     pub unbroken : IsUnbroken s
     pub numbered : next_number s < last_count
@@ -49,4 +48,3 @@ module _ {F : Type 0} (M : Functions) (s : GraphView F) where
     pub recalled : (n : NodeId) (c : Call) → IsNeeded s (main n) → called_last s n ≡ Some c → type_of c.result ≢ Text
     pub told : (o : Observer) → Among o s.observers → o.in_use ≡ true → IsToldNoText o.watch
     pub few : (n : NodeId) → IsNeeded s (main n) → length (listed_by s n) ≤ 2
-    pub roomy : live s.nodes ≤ room_to_list s

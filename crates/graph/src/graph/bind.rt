@@ -21,6 +21,8 @@ impl<F: Functions> Graph<F> {
     /// value and the captured nodes, whose outcome it shows. The right side is built anew exactly where the left gives
     /// another outcome than the one that it was built for; the nodes of the old one then die. Where the left is Invalid it
     /// shows Invalid, and nothing is built.
+    /// Refused as `Unknown` where a node was never given, `WrongType` where left or captures aren't what it takes,
+    /// and `Full`.
     pub fn bind(
         &mut self,
         left: NodeId,
@@ -90,6 +92,7 @@ impl<F: Functions> Graph<F> {
     }
 
     /// The root of what a bind is built for. None where the node is no live bind, or isn't built for a value.
+    /// Refused only where the graph is broken.
     pub fn right_side(&self, node: NodeId) -> Result<Option<NodeId>, GraphFault>
         ensures broken { (cause : ACause) → IsErrOf result (GraphFault.Broken cause) ↔ IsBroken self.now cause }
         ensures root { IfOk result (λ root. root ≡ root_in ((graph self.now).built node)) }

@@ -39,6 +39,8 @@ impl<F: Functions> Graph<F> {
     }
 
     /// A node that always has the value.
+    /// Refused as `Unknown` where the value names a node that was never given, `WrongType` where that isn't of its
+    /// type, and `Full`.
     pub fn constant(&mut self, value: Value) -> Result<NodeId, GraphFault>
         ensures { AnswersAdd self.old self.new (Const value) (type_of value) result }
     {
@@ -47,6 +49,8 @@ impl<F: Functions> Graph<F> {
     }
 
     /// A variable with its first value.
+    /// Refused as `Unknown` where the value names a node that was never given, `WrongType` where that isn't of its
+    /// type, and `Full`.
     pub fn var(&mut self, value: Value) -> Result<NodeId, GraphFault>
         ensures { AnswersAdd self.old self.new (Var value) (type_of value) result }
     {
@@ -55,6 +59,8 @@ impl<F: Functions> Graph<F> {
     }
 
     /// A node that applies a function, which is known, to the values of one to nine nodes.
+    /// Refused as `Unknown` where a node was never given, `WrongType` where the nodes aren't what it takes, and
+    /// `Full`.
     pub fn map(&mut self, f: FnRef, kids: &[NodeId]) -> Result<NodeId, GraphFault>
         requires known { IsTrue (F.known self.old.functions f) }
         ensures { AnswersListed self.old self.new (Map f kids.now) f.sig.gives result }
@@ -66,6 +72,8 @@ impl<F: Functions> Graph<F> {
     /// A node that folds the values of nodes by a function of two arguments, which is known: from the initial value
     /// on it calls the function for each node in order, on what it gave last and the node's value. Of no nodes it
     /// gives the initial value.
+    /// Refused as `Unknown` where a node was never given, `WrongType` where nodes or value aren't what it takes, and
+    /// `Full`.
     pub fn fold(&mut self, f: FnRef, initial: Value, kids: &[NodeId]) -> Result<NodeId, GraphFault>
         requires known { IsTrue (F.known self.old.functions f) }
         ensures { AnswersListed self.old self.new (Fold f initial kids.now) f.sig.gives result }
@@ -76,6 +84,8 @@ impl<F: Functions> Graph<F> {
 
     /// A node that reads a test, and the first of two nodes where the test gives true, the second where it gives false,
     /// whose outcome it shows. Both are of its type. Where the test is Invalid it shows Invalid, and reads neither.
+    /// Refused as `Unknown` where a node was never given, `WrongType` where the test or a side has another type, and
+    /// `Full`.
     pub fn if_(
         &mut self,
         ty: Ty,
@@ -90,6 +100,8 @@ impl<F: Functions> Graph<F> {
 
     /// A node that reads a node whose values are references, and the node that its value names, whose outcome it shows:
     /// one of its type. Where the child is Invalid it shows Invalid, and reads no other.
+    /// Refused as `Unknown` where the node was never given, `WrongType` where it has no references to the type, and
+    /// `Full`.
     pub fn join(&mut self, ty: Ty, kid: NodeId) -> Result<NodeId, GraphFault>
         ensures { AnswersAdd self.old self.new (Join kid) ty result }
     {
@@ -99,6 +111,8 @@ impl<F: Functions> Graph<F> {
     /// A node that shows what its child shows, up to the first stabilize in which that is a value on which a predicate, which is
     /// known, is true: that value it keeps for good, and reads nothing more. Until then it is kept up to date as if it were
     /// observed.
+    /// Refused as `Unknown` where the node was never given, `WrongType` where the function is no predicate on its
+    /// type, and `Full`.
     pub fn freeze(&mut self, kid: NodeId, f: FnRef) -> Result<NodeId, GraphFault>
         requires known { IsTrue (F.known self.old.functions f) }
         ensures { AnswersAdd self.old self.new (Freeze kid f) (taken_first f) result }
@@ -109,6 +123,8 @@ impl<F: Functions> Graph<F> {
 
     /// A node that folds the values of a list of nodes by a function of two arguments, which is known, from the initial value
     /// on. The list is empty at first; `link` and `unlink` change it.
+    /// Refused as `Unknown` where the value names a node that was never given, `WrongType` where function and value
+    /// don't fit, and `Full`.
     pub fn expert(&mut self, f: FnRef, initial: Value) -> Result<NodeId, GraphFault>
         requires known { IsTrue (F.known self.old.functions f) }
         ensures { AnswersAdd self.old self.new (Expert f initial []) f.sig.gives result }

@@ -16,6 +16,7 @@ use node_arena::Functions;
 
 impl<F: Functions> Graph<F> {
     /// Gives a variable another value. What observes it shows it after the next stabilize. This takes no memory.
+    /// Refused as `Unknown` where an id was never given, `NotVar` where it is no live variable, and `WrongType`.
     pub fn set_var(&mut self, node: NodeId, value: Value) -> Result<(), GraphFault>
         ensures broken { (cause : ACause) → IsErrOf result (GraphFault.Broken cause) ↔ IsBroken self.old cause }
         ensures set { OnOk result (Sets self.old self.new node value) }
@@ -60,6 +61,7 @@ impl<F: Functions> Graph<F> {
 
     /// Sets a node's cutoff, which is Equal at first: whether its readers are told of an outcome that is the one before.
     /// A dead node has none, and nothing changes. Last calls stay. This takes no memory.
+    /// Refused as `Unknown` where the id was never given.
     pub fn set_cutoff(&mut self, node: NodeId, cutoff: Cutoff) -> Result<(), GraphFault>
         ensures broken { (cause : ACause) → IsErrOf result (GraphFault.Broken cause) ↔ IsBroken self.old cause }
         ensures set { OnOk result (SetsCutoff self.old self.new node cutoff) }
@@ -76,6 +78,7 @@ impl<F: Functions> Graph<F> {
     }
 
     /// Whether the node is live.
+    /// Refused only where the graph is broken.
     pub fn is_live(&self, node: NodeId) -> Result<bool, GraphFault>
         ensures broken { (cause : ACause) → IsErrOf result (GraphFault.Broken cause) ↔ IsBroken self.now cause }
         ensures live { IfOk result (λ live. IsTrue live ↔ IsLive self.now.nodes node) }

@@ -21,6 +21,8 @@ use std::alloc::AllocError;
 impl<F: Functions> Graph<F> {
     /// Puts a node behind the list of an expert. What observes the expert shows it after the next stabilize. A node may be
     /// listed more than once, and also one that is dead or was made later than the expert.
+    /// Refused as `Unknown`, `NotExpert`, `WrongType` where the function takes other elements, and `LinksFull` at
+    /// 4,096 nodes.
     pub fn link(&mut self, expert: NodeId, node: NodeId) -> Result<(), GraphFault>
         ensures { AnswersLink self.old self.new expert node result }
     {
@@ -40,6 +42,7 @@ impl<F: Functions> Graph<F> {
 
     /// Takes the first occurrence of a node off the list of an expert. What observes the expert shows it after the next
     /// stabilize. This takes no memory.
+    /// Refused as `Unknown`, `NotExpert`, and `NotLinked` where the node isn't in the list.
     pub fn unlink(&mut self, expert: NodeId, node: NodeId) -> Result<(), GraphFault>
         ensures { AnswersUnlink self.old self.new expert node result }
     {
@@ -56,6 +59,7 @@ impl<F: Functions> Graph<F> {
 
     /// Has an expert's function called anew by the next stabilize in which the expert is needed, though its list shows what it
     /// did. This takes no memory.
+    /// Refused as `Unknown` and `NotExpert`.
     pub fn make_stale(&mut self, expert: NodeId) -> Result<(), GraphFault>
         ensures marked { OnOk result (MakesStale self.old self.new expert) }
         ensures broken { (cause : ACause) → IsErrOf result (GraphFault.Broken cause) ↔ IsBroken self.old cause }

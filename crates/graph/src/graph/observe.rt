@@ -15,6 +15,7 @@ use observers::{ObserveFault, UseFault, ValueFault};
 
 impl<F: Functions> Graph<F> {
     /// Observes a node: from the next stabilize on it is kept up to date.
+    /// Refused as `Unknown` where the id was never given, and `TooMany` where there are 4,294,967,295 observers.
     pub fn observe(&mut self, node: NodeId) -> Result<ObsId, GraphFault>
         ensures broken { (cause : ACause) → IsErrOf result (GraphFault.Broken cause) ↔ IsBroken self.old cause }
         ensures observed { IfOk result (λ o. Observes self.old self.new o node) }
@@ -36,6 +37,7 @@ impl<F: Functions> Graph<F> {
     }
 
     /// Ends an observer. What is then observed by none isn't kept up to date any more. This takes no memory.
+    /// Refused as `Unknown` where there is no such observer, or it is ended.
     pub fn unobserve(&mut self, observer: ObsId) -> Result<(), GraphFault>
         ensures broken { (cause : ACause) → IsErrOf result (GraphFault.Broken cause) ↔ IsBroken self.old cause }
         ensures ended { OnOk result (Ends self.old self.new observer) }
@@ -57,6 +59,7 @@ impl<F: Functions> Graph<F> {
 
     /// Watches an observer: the next accepted stabilize tells what it shows then, and each one after it what changed. One
     /// that is watched stays as it is. This takes no memory.
+    /// Refused as `Unknown` where there is no such observer, or it is ended.
     pub fn watch(&mut self, observer: ObsId) -> Result<(), GraphFault>
         ensures broken { (cause : ACause) → IsErrOf result (GraphFault.Broken cause) ↔ IsBroken self.old cause }
         ensures watched { OnOk result (Watches self.old self.new observer) }
@@ -99,6 +102,7 @@ impl<F: Functions> Graph<F> {
     }
 
     /// What an observer shows: the outcome that its node had when a stabilize was last accepted.
+    /// Refused as `Unknown` where there is no such observer, and `NotStabilized` where it shows nothing yet.
     pub fn value(&self, observer: ObsId) -> Result<&Outcome, GraphFault>
         ensures broken { (cause : ACause) → IsErrOf result (GraphFault.Broken cause) ↔ IsBroken self.now cause }
         ensures value { IfOk result (λ outcome. shown_at self.now.observers observer ≡ Some outcome.now) }

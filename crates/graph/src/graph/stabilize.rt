@@ -4,7 +4,6 @@ ghost use Rattle.inc_value.specs.declared.node.NodeId.{NodeId};
 ghost use Rattle.node_arena.specs.Arena.{live};
 ghost use Rattle.stabilize_round.specs.Calling.{costs_of};
 ghost use Rattle.stabilize_round.specs.Counts.{RoseBy};
-ghost use Rattle.stabilize_round.specs.Runs.{BuildsFew};
 ghost use Rattle.stabilizer.specs.Giving.{HasBuilt};
 ghost use Rattle.node_outcomes.specs.Meaning.{functions_of};
 ghost use Rattle.stabilizer.specs.Kept.{HasNoBinds, KeepsMeaning, counts_by};
@@ -12,7 +11,7 @@ ghost use Rattle.graph.specs.Few.{IdsAreFew, IsFilled};
 ghost use Rattle.graph.specs.Inside.{AreNewRoots};
 ghost use Rattle.graph.specs.Standing.{IsBroken, IsUnbroken, graph, newly_linked};
 ghost use Rattle.graph.specs.Steady.{FindsMemory, IsSteady};
-ghost use Rattle.graph.specs.Stabilizes.{Stabilizes, IsRefusedFor, HasCalledMet, LeavesNodes, WantsTell, left_by};
+ghost use Rattle.graph.specs.Stabilizes.{Stabilizes, BuildsAnew, IsRefusedFor, HasCalledMet, LeavesNodes, WantsTell, left_by};
 ghost use Rattle.graph.specs.declared.fault.Kept.{Kept as ACause};
 ghost use Rattle.graph.specs.declared.fault.Kept.TheVariants as kept;
 
@@ -51,9 +50,8 @@ impl<F: Functions> Graph<F> {
             (F.calls self.old.functions) (F.calls self.new.functions) }
         ensures left { IsUnbroken self.old → LeavesNodes (functions_of F.Functions self.old.functions) self.old self.new
             (counts_by F.Functions self.old.functions) (counts_by F.Functions self.new.functions) }
-        ensures builds { OnOk result (BuildsFew (functions_of F.Functions self.old.functions) self.old.nodes.given (graph self.old)
-            (left_by self.old self.new) None (counts_by F.Functions self.old.functions).builds
-            (counts_by F.Functions self.new.functions).builds) }
+        ensures builds { OnOk result (BuildsAnew (functions_of F.Functions self.old.functions) self.old self.new
+            (counts_by F.Functions self.old.functions).builds (counts_by F.Functions self.new.functions).builds) }
         ensures ids { IdsAreFew (F.right self.new.functions) self.old.nodes.given self.new.nodes }
         ensures full { IsErrOf result (StabilizeFault.Refused kept.Full) → IsFilled (F.right self.new.functions) self.new.nodes
             × HasBuilt (counts_by F.Functions self.old.functions) (counts_by F.Functions self.new.functions) }

@@ -23,6 +23,7 @@ impl<F: Functions> Graph<F> {
     }
 
     /// A node that shows whether the clock has come to a time, in nanoseconds.
+    /// Refused as `Full`.
     pub fn at(&mut self, time: i64) -> Result<NodeId, GraphFault>
         ensures { AnswersAdd self.old self.new (At time) ty.Bool result }
     {
@@ -30,6 +31,7 @@ impl<F: Functions> Graph<F> {
     }
 
     /// A node that shows the clock, in nanoseconds.
+    /// Refused as `Full`.
     pub fn now(&mut self) -> Result<NodeId, GraphFault>
         ensures { AnswersAdd self.old self.new Now ty.Int result }
     {

@@ -19,6 +19,7 @@ pub struct Mark {
 
 impl<F: Functions> Graph<F> {
     /// A mark to which `back_to` leads.
+    /// Refused only where the graph is broken.
     pub fn mark(&self) -> Result<Mark, GraphFault>
         ensures broken { (cause : ACause) → IsErrOf result (GraphFault.Broken cause) ↔ IsBroken self.now cause }
         ensures mark { IfOk result (λ mark. mark.given ≡ self.now.nodes.given) }
@@ -51,6 +52,7 @@ impl<F: Functions> Graph<F> {
 
     /// Drops the nodes that were added since the mark. None of them is needed, and none stands in a scope: `mark` says so
     /// of the nodes then, and only a stabilize makes more be needed, and nodes that stand in scopes. This takes no memory.
+    /// Refused only where the graph is broken.
     pub fn back_to(&mut self, mark: Mark) -> Result<(), GraphFault>
         requires unneeded { IsUnbroken self.old → (p : Point) → IsNeeded self.old p → p.node.gen_ < mark.given }
         requires unscoped { IsUnbroken self.old → NoneScopedSince self.old.nodes mark.given }

@@ -37,7 +37,7 @@ returns-clause-taken g c =
     let b = c.back_to.ensures in
     rw (← c.self.view_is) (record {
       beside = beside_as c.self.inside.functions c.self.inside.parts c.back_to.new.self c.self.inside.observers c.self.inside.rooted c.self.inside.since
-          c.self.inside.refused (λ n. n.gen_ < c.args.mark.given) b.ran b.links b.roots b.rows
+          c.self.inside.refused (λ n. n.gen_ < c.args.mark.given) (ap (λ v. v.items) b.ran) b.links b.roots b.rows
           (λ n low. built_still c.self.inside.parts c.back_to.new.self n (b.older n low) (ap outcome_in (b.rows (change n) low))
           (b.right_sides n low)) b.experts b.other_cutoffs;
       older = b.older;

@@ -58,7 +58,7 @@ returns-clause-set g c =
     let beside = λ (set : IsSet c.self.inside.parts.arena c.set_var.new.self.arena c.args.node c.args.value)
     (variable : (IsVariable c.self.inside.parts.arena c.args.node → ⊥) → ⊥). beside_as c.self.inside.functions
     c.self.inside.parts c.set_var.new.self c.self.inside.observers c.self.inside.rooted c.self.inside.since c.self.inside.refused (Given c.self.inside.parts.arena.given)
-    a.stays.ran a.stays.links a.stays.roots (λ p given. ap (λ (m : Rows Progress). at m p) a.stays.rows)
+    (ap (λ v. v.items) a.stays.ran) a.stays.links a.stays.roots (λ p given. ap (λ (m : Rows Progress). at m p) a.stays.rows)
     (λ n given. built_set c.self.inside.parts c.set_var.new.self c.args.node c.args.value set variable a.stays.rows
     (λ m. ap (λ (roots : Rows NodeId). at roots (change m)) a.stays.right_sides) n)
     (λ n given. ap (λ (e : List ExpertPlace). expert_at e n) a.stays.experts)

@@ -14,7 +14,7 @@ use Rattle.stabilizer.proofs.Step.MeaningKept.{means_still, nothing_meant}
 use Rattle.wiring.specs.declared.refused.Refused.TheVariants.{Memory}
 use Rattle.graph.proofs.Observing.{all_of}
 use Rattle.graph.proofs.Grouping.{ids_few, filled_by}
-use Rattle.graph.proofs.Rounding.{accepted, refused_in, few_in}
+use Rattle.graph.proofs.Rounding.{accepted, builds_anew, refused_in, few_in}
 use Rattle.graph.proofs.Stabilizing.{begins_at, roots_given, all_right, all_lawful, all_few, all_built, all_built_but, sound_again}
 use Rattle.graph.specs.Stabilizes.{left_by}
 use Rattle.graph.proofs.Seeing.{seen_as}
@@ -100,7 +100,21 @@ pub returns-in-Ok-ended-clause-left : goal.returns-in-Ok-ended-clause-left
 returns-in-Ok-ended-clause-left g c unbroken = rw (← c.self.view_is) c.run-ended.ensures.leaves.left.nodes
 
 pub returns-in-Ok-ended-clause-builds : goal.returns-in-Ok-ended-clause-builds
-returns-in-Ok-ended-clause-builds g c = rw (← c.self.view_is) c.in-Ok-ended.ensures.ended.builds
+returns-in-Ok-ended-clause-builds g c =
+    let M = meaning_of g.F.Functions c.self.inside.functions in
+    let old = c.self.inside.parts in let new = c.run-ended.new.parts in let os = c.self.inside.observers.made in let rooted = c.self.inside.rooted in
+    let since = c.self.inside.since in let still = rw (← c.self.view_is) at c.in_default.ensures.none in
+    let can = c.self.invariant.0.unbroken still in let within = c.self.invariant.0.earlier in
+    let new_roots : AreNewRoots old.arena old.work os rooted since c.deref.result.now
+    = rw (← c.self.view_is, ← c.deref.ensures.value) at c.in-Ok.ensures.roots in
+    let begins = begins_at M old new os rooted since can within c.deref.result.now new_roots in
+    rw (← c.self.view_is) (builds_anew M c.self.inside.functions c.run-ended.new.functions old new c.self.inside.observers rooted since c.self.inside.refused still
+    c.run-ended.new.observers (length c.made.result.now) c.given-self-inside.result can.ready c.self.invariant.0.inside
+    c.run-ended.ensures.leaves.left.rest (counts_by g.F.Functions c.self.inside.functions) (counts_by g.F.Functions c.run-ended.new.functions)
+    c.run-ended.ensures.leaves.left.nodes
+    (all_built M old new os rooted since can within (c.in-Ok-ended.ensures.ended.built since _ new_roots.freezes _ begins))
+    (counts_by g.F.Functions c.self.inside.functions).builds (counts_by g.F.Functions c.run-ended.new.functions).builds
+    c.in-Ok-ended.ensures.ended.builds)
 
 pub returns-in-Ok-ended-clause-ids : goal.returns-in-Ok-ended-clause-ids
 returns-in-Ok-ended-clause-ids g c =
