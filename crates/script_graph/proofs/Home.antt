@@ -9,7 +9,7 @@ use Rattle.inc_terms.specs.Graph.{Graph, Row}
 use Rattle.inc_terms.specs.Rebuild.{Inside as StandsInside, direct, nested}
 use Rattle.inc_terms.specs.Term as term
 use Rattle.graph.specs.Standing.{GraphView, IsOwner, graph}
-use Rattle.script_model.specs.Blocked.{IsPrintedFor, own, of_bind}
+use Rattle.script_model.specs.Blocked.{IsNoName, IsPrintedFor, own, of_bind}
 use Rattle.script_model.specs.Formula.{State, Body, Formula, body_at, meanings_of, formula_of_body, Name, Bound, Bind, Variable, Computed, Freeze, After, Every, Expert, Grab}
 use Rattle.script_model.specs.Need.{Edge, Argument, Test, Then, Else, Child, Left, Inside, Item, Named, Place, part_at, part_of, formula_at}
 use Rattle.script_model.specs.Values.{Value}
@@ -188,7 +188,7 @@ module _ (named : List ℕ → Option FnRef) (value : FnRef → List GraphValue 
       → TellsOf (Named m) n
   named_tells m (Variable v) n is form h node =
       of_live m (body_low m (Variable v) is)
-      (subst (HasHome m) node (top_home m (node_in k.nodes m) h.0 h.1 h.2 (aged_name (meanings_of named value) s k c.held m (Variable v) is tt))) (own refl)
+      (subst (HasHome m) node (top_home m (node_in k.nodes m) h.0 h.1 h.2 (aged_name (meanings_of named value) s k c.held m (Variable v) is tt))) (own refl tt)
   named_tells m (Computed f kept) n is form h node = by_form f (form_of f form) is h
     where
       form_of : (f : Formula) → IsOwn (Some (Computed f kept)) → IsForm f
@@ -202,7 +202,7 @@ module _ (named : List ℕ → Option FnRef) (value : FnRef → List GraphValue 
             let row = other_row y None [] (node_in k.nodes m) f other h in
             of_live m (body_low m (Computed f kept) is)
             (subst (HasHome m) node (top_home m (node_in k.nodes m) row.0 row.2 row.3
-            (aged_name (meanings_of named value) s k c.held m (Computed f kept) is own_form))) (own refl)
+            (aged_name (meanings_of named value) s k c.held m (Computed f kept) is own_form))) (own refl tt)
       ]
   named_tells m (Grab b v true) n is form (inl live) node =
       let f = live_facts y (fits_then named value s k g c) m b v is live in
@@ -217,22 +217,27 @@ module _ (named : List ℕ → Option FnRef) (value : FnRef → List GraphValue 
   named_tells m (Grab b v false) n is form h node = of_dead m (Grab b v false) (ap G'.row (sym node) ∙ h.0) is form node refl
   named_tells m (After time) n is form h node =
       of_live m (body_low m (After time) is)
-      (subst (HasHome m) node (top_home m (node_in k.nodes m) h.0 h.1 h.2 (aged_name (meanings_of named value) s k c.held m (After time) is tt))) (own refl)
+      (subst (HasHome m) node (top_home m (node_in k.nodes m) h.0 h.1 h.2 (aged_name (meanings_of named value) s k c.held m (After time) is tt))) (own refl tt)
   named_tells m (Every base span) n is form (h, alike) node =
       of_live m (body_low m (Every base span) is)
       (subst (HasHome m) node (top_home m (node_in k.nodes m) h.0 h.1 h.2 (aged_name (meanings_of named value) s k c.held m (Every base span) is tt)))
-      (own refl)
+      (own refl tt)
   named_tells m (Freeze child predicate frozen) n is form (kid, h, shows, keeps) node =
       of_live m (body_low m (Freeze child predicate frozen) is)
       (subst (HasHome m) node (top_home m (node_in k.nodes m) h.0 h.1 h.2
-      (aged_name (meanings_of named value) s k c.held m (Freeze child predicate frozen) is tt))) (own refl)
+      (aged_name (meanings_of named value) s k c.held m (Freeze child predicate frozen) is tt))) (own refl tt)
   named_tells m (Expert f first links stale) n is form (kids, h, lists) node =
       of_live m (body_low m (Expert f first links stale) is)
       (subst (HasHome m) node (top_home m (node_in k.nodes m) h.0 h.1 h.2
-      (aged_name (meanings_of named value) s k c.held m (Expert f first links stale) is tt))) (own refl)
+      (aged_name (meanings_of named value) s k c.held m (Expert f first links stale) is tt))) (own refl tt)
 
   -- what an item tells of its node
   pub tells : (j : Item) (n : NodeId) → IsResolved s j → node_of y j ≡ Some n → TellsOf j n
   tells (Named m) n (b, is, form) at =
       named_tells m b n is form (rw is at ((fits_then named value s k g c).declared m)) (let e : Some (node_in k.nodes m) ≡ Some n = at in cc)
-  tells (Place owner path) n (f, is, form) at = of_live owner (formula_low owner path f is) (place_home owner path f n is form at) (own refl)
+  tells (Place owner path) n (f, is, form) at =
+      of_live owner (formula_low owner path f is) (place_home owner path f n is form at) (own refl (no_name f form is))
+    where
+      no_name : (f : Formula) → IsForm f → formula_at s owner path ≡ Some f → IsNoName s (Place owner path)
+      no_name (Name t) form is u name = absurd form
+      no_name f form is t name = let clash : Some f ≡ Some (Name t) = sym is ∙ name in cc

@@ -97,7 +97,7 @@ module _ (named : List ℕ → Option FnRef) (value : FnRef → List GraphValue 
       go : (j : IsTooDeepAt y m.settled n) → TellsOf named value s k g c j.item n → Tells n
       go j (of_live home low has printed) = live j.item j.met j.deep home low has printed
       go j (of_dead d b row is mine node e) =
-          dead j.item j.met j.deep d b row is (own_target d b mine) node (subst (IsPrintedFor s d) (sym e) (own refl))
+          dead j.item j.met j.deep d b row is (own_target d b mine) node (subst (IsPrintedFor s d) (sym e) (own refl tt))
 
   -- so does what a point in the scope of the node tells of
   by_scope : (b n : NodeId) (r : Row) → G'.row n ≡ Some r → r.scope ≡ Some b → Tells b → Tells n

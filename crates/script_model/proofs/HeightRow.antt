@@ -80,4 +80,4 @@ unfolding digits
 prints neg = refl
 
 pub chain_is_too_deep : ChainIsTooDeep
-chain_is_too_deep F neg = record { deep = is_too_deep F neg; met = from_root (Named 129, inl refl, here); named = own refl; refusal = prints neg }
+chain_is_too_deep F neg = record { deep = is_too_deep F neg; met = from_root (Named 129, inl refl, here); named = own refl tt; refusal = prints neg }

@@ -1,4 +1,5 @@
 pub mod Commands
+mod Courses
 pub mod Effects
 pub mod Evaluation
 pub mod Falls

@@ -204,7 +204,7 @@ all_become_alike F before s after before' t after' same n (x ∷ xs) (y ∷ ys) 
     let later = all_become_alike F before s after before' t after' same (suc n) xs ys xs' ys' none.1 none'.1 rests h.1 k.1 in
     rw (h.0.1, k.0.1, entry_bodies x x' h.0.0 k.0.0 firsts turned, later) refl
 
-all_show_alike : (F : Meanings) (s t : State) → forget s ≡ forget t → (xs ys ys' : List Observer) (notices notices' : List Notice)
+pub all_show_alike : (F : Meanings) (s t : State) → forget s ≡ forget t → (xs ys ys' : List Observer) (notices notices' : List Notice)
     → ShowAll F s xs ys notices → ShowAll F t xs ys' notices' → (ys ≡ ys') × (notices ≡ notices')
 all_show_alike F s t same [] [] [] notices notices' h k = (refl, h ∙ sym k)
 all_show_alike F s t same [] (y ∷ ys) ys' notices notices' h k = absurd h

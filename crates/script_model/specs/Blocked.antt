@@ -1,8 +1,8 @@
 -- What stands in the way of a stabilize: names on a cycle, and items that are too deep.
 use Rattle.std.specs.Prelude.{◌≡◌, ℕ, List, [], ◌∷◌, Some}
 use Rattle.inc_value.specs.Choice.{NoRepeats, Reaches}
-use Rattle.script_model.specs.Formula.{State, Meanings, Grab, body_at}
-use Rattle.script_model.specs.Need.{Edge, Item, Named, Place, Reads}
+use Rattle.script_model.specs.Formula.{State, Meanings, Name, Grab, body_at}
+use Rattle.script_model.specs.Need.{Edge, Item, Named, Place, Reads, formula_at}
 use Rattle.script_model.specs.Depth.{TooDeep}
 
 -- a walk of reads from an item to a name, with no name between
@@ -44,7 +44,12 @@ abbrev pub Holds : ℕ → Item → Type 0
 Holds n (Named m) = n ≡ m
 Holds n (Place owner path) = n ≡ owner
 
--- the name whose depth is printed of an item: the name that is it or holds it, or the bind of which it is a grab
+-- no bare name stands at the item: what a name gives is computed where the name is declared
+abbrev pub IsNoName : State → Item → Type 0
+IsNoName s (Named m) = Unit {0}
+IsNoName s (Place owner path) = (n : ℕ) → formula_at s owner path ≡ Some (Name n) → ⊥
+
+-- the name whose depth is printed of an item: the name that is it, or that holds it, where no bare name stands at it; or the bind of which it is a grab
 pub data IsPrintedFor (s : State) (name : ℕ) (i : Item) : Type 0 where
-  own : Holds name i → IsPrintedFor s name i
+  own : Holds name i → IsNoName s i → IsPrintedFor s name i
   of_bind : (grab : ℕ) → (is_live : _) → (v : _) → i ≡ Named grab → body_at s grab ≡ Some (Grab name v is_live) → IsPrintedFor s name i

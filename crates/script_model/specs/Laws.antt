@@ -8,7 +8,7 @@ use Rattle.script_model.specs.Formula.{Formula, Body, Computed, nothing_kept, En
 use Rattle.script_model.specs.Check.{Command, Names, binds_of_command, command_of}
 use Rattle.script_model.specs.Evaluate.{value_at, Gives, NameGives}
 use Rattle.script_model.specs.Grammar.{Line, IsLine, Stabilize, Grab}
-use Rattle.script_model.specs.Need.{Item, Named, Needed, ItemGives, WithinWork, Met, Visit, IsVisit, Edge, Inside, Place, Reads}
+use Rattle.script_model.specs.Need.{Edge, Inside, IsVisit, Item, ItemGives, Left, Met, Named, Needed, Place, Reads, Visit, WithinWork}
 use Rattle.script_model.specs.Blocked.{OnCycle, Holds, InTheWay}
 use Rattle.script_model.specs.Valid.{HasType, BoundsFit, OutcomeHasType, Valid, KeepToTypes, LibraryKeepsToTypes}
 use Rattle.script_model.specs.Request.{Request, Asks, IsRequest}
@@ -231,6 +231,19 @@ OneEnd =
     (F : Meanings) (lines : List (List ℕ)) (ts us : List Turn) (run : IsRun F lines ts) (other : IsRun F lines us) → broken_after ts ≡ broken_after us
     → Every GrabsNothing ts
     → forget_moment run.end ≡ forget_moment other.end
+
+-- the left of each declared bind that the turn may meet is needed: so it isn't free what the bind is built for
+abbrev pub NeedsWhatItMeets : Meanings → Turn → Type 0
+NeedsWhatItMeets F t =
+    (n : ℕ) → Met F t.before.settled t.before.present (Place n (Left ∷ [])) → Needed F t.before.present (Place n (Left ∷ []))
+
+-- then binds may be grabbed: where the same stabilizes are refused, with the same numbers, the same lines print the same bytes, but for the names that
+-- a refused one tells, and lead to the very same
+abbrev pub OneCourse : Type 0
+OneCourse =
+    (F : Meanings) (lines : List (List ℕ)) (ts us : List Turn) (run : IsRun F lines ts) (other : IsRun F lines us) → broken_after ts ≡ broken_after us
+    → Every (NeedsWhatItMeets F) ts
+    → PrintAlike ts us × (run.end ≡ other.end)
 
 -- a stabilize is accepted where nothing that it meets stands in the way
 abbrev pub UnblockedIsAccepted : Type 0
