@@ -11,6 +11,6 @@ mod slot;
 mod told;
 
 pub use crate::by_number::{close_at, line_at, notice_at, open_at, rest_at};
-pub use crate::laws::hands_out_transcripts;
+pub use crate::laws::{hands_out_past_wants, hands_out_transcripts};
 pub use crate::slot::Slot;
 pub use crate::told::Told;
