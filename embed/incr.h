@@ -26,8 +26,8 @@
 #include <stdint.h>
 
 /* The version of this header; `incr_version()` is that of the library that is linked. */
-#define INCR_VERSION 100 /* 10,000 * major + 100 * minor + patch */
-#define INCR_VERSION_TEXT "0.1.0"
+#define INCR_VERSION 200 /* 10,000 * major + 100 * minor + patch */
+#define INCR_VERSION_TEXT "0.2.0"
 
 /* The most bytes of a line, without its newline, and the most lines of a session. */
 #define INCR_MAX_LINE 4096
@@ -143,6 +143,37 @@ int32_t incr_rest(incr_slot *slot, uint8_t *out, size_t room, size_t *count);
    Reading changes nothing: the notices can be read until the next accepted stabilize, in any order and again, also where it found no
    memory for its lines. `told->round` tells then whether it was carried out. */
 int32_t incr_notice(incr_slot *slot, size_t notice, uint8_t *out, size_t room, incr_told *told);
+
+/* ---- Text in place
+
+   These calls put what they read where nobody has to guess its length: into a text of the caller's, which begins as zeros and grows as it has to. What is
+   in it stands there until the next call that is given this text; incr_text_free lets go of it. One text may serve any sessions of one thread.
+
+   They are C over the calls above (embed/c/texts.c), and aren't proved. */
+typedef struct incr_text {
+    const char *at; /* the bytes, and a 0 behind them; null where there was no memory for any */
+    size_t length;  /* how many bytes they are */
+    size_t waiting; /* how many bytes wait in the session, as there was no memory for them here; then `length` is 0 */
+    size_t room;    /* the library's */
+} incr_text;
+
+#ifdef __cplusplus
+#define INCR_NO_TEXT {}
+#else
+#define INCR_NO_TEXT {0, 0, 0, 0}
+#endif
+
+/* incr_line, and all that is to be read is read into the text. The answer tells how the line was taken. */
+int32_t incr_ask(incr_slot *slot, const char *line, size_t length, incr_text *text);
+
+/* incr_rest, into the text: INCR_DONE, INCR_NO_SESSION, or INCR_NO_MEMORY, and then all of it waits still. */
+int32_t incr_fetch(incr_slot *slot, incr_text *text);
+
+/* incr_notice, its parts into the text, one directly behind the other. At INCR_NO_MEMORY there is none for them, and the lengths in `*told` are 0. */
+int32_t incr_notice_text(incr_slot *slot, size_t notice, incr_text *text, incr_told *told);
+
+/* Lets go of the text's memory: it is zeros again. */
+void incr_text_free(incr_text *text);
 
 /* Ends the session and lets go of all its memory, with what was still to be read: INCR_DONE, or INCR_NO_SESSION. The slot may be
    opened again. */

@@ -246,6 +246,7 @@ if [ $status -eq 0 ] && makes out/libincr.a; then
         if makes c; then
             screens embed/out/screen_c
             edges embed/out/edges
+            edges embed/out/texts
             faults embed/faults.out embed/out/faults_c
         fi
         headers

@@ -21,6 +21,7 @@ judge() {
 
 judge make -s -C embed libraries c checked
 judge embed/out/edges_checked
+judge embed/out/texts_checked
 for program in faults_checked faults_cpp_checked; do
     judge embed/out/$program embed/faults.incr
     cp "$room/said" "$room/runs"
@@ -31,7 +32,7 @@ for script in examples/*.incr; do
     judge embed/out/screen_checked "$script"
 done
 if command -v valgrind >/dev/null; then
-    for words in embed/out/edges embed/out/screen_c "embed/out/screen_c examples/refusals.incr" "embed/out/screen_c examples/change.incr" \
+    for words in embed/out/edges embed/out/texts embed/out/screen_c "embed/out/screen_c examples/refusals.incr" "embed/out/screen_c examples/change.incr" \
         "embed/out/faults_c embed/faults.incr"; do
         # (the words of a command, none of which has a space)
         judge valgrind -q --leak-check=full --errors-for-leak-kinds=all --error-exitcode=9 $words

@@ -18,94 +18,53 @@ static const struct { const char *name; int price; } TICKS[] = {
     {"acme_ask", 103}, {"acme_ask", 103}, {"cash_ask", 50},
 };
 
-/* The room for what is printed, which grows. */
-static uint8_t *room;
-static size_t room_length = 16;
+/* What is printed, and the parts of notices. */
+static incr_text text = INCR_NO_TEXT;
 
-/* Makes the room as long as this. Whether there was memory for it. */
-static int make_room(size_t length) {
-    if (length <= room_length) return 1;
-    uint8_t *more = realloc(room, length);
-    if (!more) return 0;
-    room = more;
-    room_length = length;
-    return 1;
-}
+/* Prints what was handed out. Whether it was written, and all of it. */
+static int print_text(void) { return fwrite(text.at, 1, text.length, stdout) == text.length && text.waiting == 0; }
 
-/* Fetches what was handed out, `count` bytes, where they don't stand in the room already: how many stand there then. Without memory
-   none does, and they wait. */
-static size_t fetch(incr_slot *session, size_t count) {
-    if (count <= room_length) return count;
-    if (!make_room(count)) return 0;
-    incr_rest(session, room, room_length, &count);
-    return count;
-}
-
-/* Gives the session a line, and fetches what is handed out, `*count` bytes, whatever the answer. */
-static int32_t ask(incr_slot *session, const char *text, size_t length, size_t *count) {
-    int32_t how = incr_line(session, text, length, room, room_length, count);
-    *count = fetch(session, *count);
+/* Gives the session a line of a script, and prints what is handed out, whatever the answer. Whether the session goes on. */
+static int take(incr_slot *session, const char *line, size_t length) {
+    int32_t how = incr_ask(session, line, length, &text);
     if (how < 0) fprintf(stderr, "screen: %s\n", incr_errstr(how));
-    return how;
-}
-
-/* Gives the session a line of a script, and prints what is handed out. Whether the session goes on. */
-static int take(incr_slot *session, const char *text, size_t length) {
-    size_t count;
-    int32_t how = ask(session, text, length, &count);
-    return fwrite(room, 1, count, stdout) == count && how >= 0;
+    return fwrite(text.at, 1, text.length, stdout) == text.length && how >= 0;
 }
 
 /* Prints what still waits. Whether nothing does then. */
 static int finish(incr_slot *session) {
-    size_t count;
-    incr_rest(session, 0, 0, &count);
-    count = fetch(session, count);
-    int well = fwrite(room, 1, count, stdout) == count;
-    incr_rest(session, 0, 0, &count);
-    return well && count == 0;
-}
-
-/* Reads a notice into the room. */
-static int32_t read_notice(incr_slot *session, size_t number, incr_told *told) {
-    int32_t kind = incr_notice(session, number, room, room_length, told);
-    size_t length = told->name + told->before + told->now;
-    if (length <= room_length) return kind;
-    return make_room(length) ? incr_notice(session, number, room, room_length, told) : INCR_NO_MEMORY;
+    if (incr_fetch(session, &text) == INCR_NO_SESSION) return 0;
+    return print_text();
 }
 
 /* Prints what the last stabilize told. Whether there was memory for all of it. */
 static int print_changes(incr_slot *session) {
     incr_told told;
     int32_t kind;
-    for (size_t number = 0; (kind = read_notice(session, number, &told)) > 0; number++) {
-        const char *name = (const char *)room, *before = name + told.name, *now = before + told.before;
+    for (size_t number = 0; (kind = incr_notice_text(session, number, &text, &told)) > 0; number++) {
+        const char *name = text.at, *before = name + told.name, *now = before + told.before;
         printf("%.*s: ", (int)told.name, name);
         if (kind == INCR_CHANGE) printf("%.*s -> ", (int)told.before, before);
-        printf("%.*s\n", (int)told.now, now);
+        printf("%s\n", now);
     }
     return kind == INCR_NO_NOTICE;
 }
 
-/* Gives the session a line whose answer tells enough: what it prints is let go of. */
-static int32_t tell(incr_slot *session, const char *text) {
-    size_t count;
-    return ask(session, text, strlen(text), &count);
-}
-
 /* Brings the screen up to date. */
-static int refresh(incr_slot *session) { return tell(session, "stabilize") == INCR_ACCEPTED && print_changes(session); }
+static int refresh(incr_slot *session) {
+    return incr_ask(session, "stabilize", strlen("stabilize"), &text) == INCR_ACCEPTED && print_changes(session);
+}
 
 static int show_prices(incr_slot *session) {
     for (size_t i = 0; i < sizeof DECLARATIONS / sizeof *DECLARATIONS; i++) {
-        int32_t how = tell(session, DECLARATIONS[i]);
+        int32_t how = incr_ask(session, DECLARATIONS[i], strlen(DECLARATIONS[i]), &text);
         if (how != INCR_ACCEPTED && how != INCR_BLANK) return 0;
     }
     int well = refresh(session);
     for (size_t i = 0; well && i < sizeof TICKS / sizeof *TICKS; i++) {
-        char text[64];
-        snprintf(text, sizeof text, "set %s %d", TICKS[i].name, TICKS[i].price);
-        int32_t how = tell(session, text);
+        char line[64];
+        int length = snprintf(line, sizeof line, "set %s %d", TICKS[i].name, TICKS[i].price);
+        int32_t how = incr_ask(session, line, (size_t)length, &text);
         if (INCR_IS_REFUSED(how)) printf("%s is no price: %s\n", TICKS[i].name, incr_errstr(how));
         well = how >= 0 && refresh(session);
     }
@@ -139,11 +98,10 @@ static int run_script(incr_slot *session, const char *name) {
 
 int main(int argc, char **argv) {
     incr_slot session = INCR_EMPTY;
-    room = malloc(room_length);
-    int well = room && incr_open(&session) == INCR_DONE;
+    int well = incr_open(&session) == INCR_DONE;
     if (well) well = argc > 1 ? run_script(&session, argv[1]) : show_prices(&session);
     if (!finish(&session)) well = 0;
     incr_close(&session);
-    free(room);
+    incr_text_free(&text);
     return well && fflush(stdout) == 0 ? 0 : 1;
 }

@@ -28,7 +28,7 @@ import typing
 
 from ._words import ACCEPTED, BLANK, DONE, IS_OPEN, NO_MEMORY, NO_NOTICE, NO_SESSION, NO_SLOT, REFUSED, TOO_MANY, words
 
-__version__ = "0.1.0"
+__version__ = "0.2.0"
 __all__ = [
     "Session", "Notice", "Kind", "IncrError", "Refused", "Closed", "NoMemory", "TooManyLines", "WrongThread", "words",
     "BLANK", "ACCEPTED", "DONE", "REFUSED", "NO_NOTICE", "NO_SESSION", "NO_MEMORY", "TOO_MANY", "NO_SLOT", "IS_OPEN",
