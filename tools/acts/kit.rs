@@ -152,6 +152,10 @@ impl<T> Vec<T> {
         self.0.capacity()
     }
 
+    pub fn allocator(&self) -> &Global {
+        &Global
+    }
+
     pub fn push(&mut self, value: T) -> Result<(), AllocError> {
         self.reserve(1)?;
         self.0.push(value);
@@ -495,6 +499,15 @@ impl<T, const N: usize> SmallVec<T, N> {
         Ok(all)
     }
 
+    pub fn reserve(&mut self, more: usize) -> Result<(), AllocError> {
+        let room = self.values.len() + more;
+        if room > self.room {
+            take_memory()?;
+            self.room = room.next_power_of_two();
+        }
+        Ok(())
+    }
+
     pub fn reserve_exact(&mut self, more: usize) -> Result<(), AllocError> {
         let room = self.values.len() + more;
         if room > self.room {
@@ -514,6 +527,17 @@ impl<T, const N: usize> SmallVec<T, N> {
 
     pub fn truncate(&mut self, count: usize) {
         self.values.truncate(count);
+    }
+
+    pub fn clear(&mut self) {
+        self.values.clear();
+    }
+
+    /// Moves all values of another behind these.
+    pub fn append(&mut self, other: &mut SmallVec<T, N>) -> Result<(), AllocError> {
+        self.reserve(other.values.len())?;
+        self.values.append(&mut other.values);
+        Ok(())
     }
 
     pub fn push(&mut self, value: T) -> Result<(), AllocError> {
